@@ -1,0 +1,7 @@
+pub mod Order
+pub mod Bools
+pub mod Bounded
+pub mod Sums
+pub mod Lists
+pub mod Scan
+pub mod Fill

@@ -1,0 +1,19 @@
+-- `floor::column_of` meets its contract. Assumes nothing.
+use native.Mathlib.Numerals.{add-one}
+use mathlib.Core.Path.{refl}
+use Rattle.floor.proofs.Numbers.{column-le}
+use borrow.Author.Needs.{needs}
+use Rattle.floor.proofs.column_of.Statement.{statement}
+use Rattle.floor.proofs.column_of.Tie as tie
+
+add-result : tie.Need-add-result
+add-result c = search needs
+
+rem-result : tie.Need-rem-result
+rem-result c = search needs
+
+returns : tie.Need-returns
+returns c = rw add-one (refl, column-le _ _)
+
+pub column-of-spec : {M : Type 1} → statement M
+column-of-spec = tie.close (tie.spec add-result rem-result returns)

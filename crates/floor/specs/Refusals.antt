@@ -1,0 +1,60 @@
+-- Document 01, "Answers by number": each refusal's number, and the refusals over the shape of a floor and of an end.
+--
+--   refusalNumber r    == the number of refusal r
+--   floorShape w h l   == refusals 1 to 3 of a floor, in order
+--   endShape w h v     == refusal 5 of one end
+--   andThen s t        == the shape s, and t where s is good: the first refusal that applies
+use Prim.Native.Nat.{ℕ, _*_}
+use mathlib.Core.Bool.{Bool, true, false, _&&_}
+use mathlib.Core.List.{List}
+use lib.Dec.{leb, ltb, eqb}
+use lib.ListN.{length, getD}
+use Rattle.basics.specs.Bounded.{pick, every}
+use Rattle.floor.specs.Floor.{vertices}
+use Rattle.floor.specs.declared.Refusal.{Refusal}
+use Rattle.floor.specs.declared.Refusal.the-variants.{
+  Size,
+  MapLength,
+  MapByte,
+  Neighbourhood,
+  End,
+  SliceLength,
+  NoRoute,
+  TooMany,
+  FalseSheet,
+  NotJoined,
+}
+use Rattle.floor.specs.declared.Shape.{Shape}
+use Rattle.floor.specs.declared.Shape.the-variants.{Good, Refused}
+
+abbrev pub refusalNumber : Refusal → ℕ
+refusalNumber Size = 1
+refusalNumber MapLength = 2
+refusalNumber MapByte = 3
+refusalNumber Neighbourhood = 4
+refusalNumber End = 5
+refusalNumber SliceLength = 6
+refusalNumber NoRoute = 7
+refusalNumber TooMany = 8
+refusalNumber FalseSheet = 9
+refusalNumber NotJoined = 10
+
+abbrev pub andThen : Shape → Shape → Shape
+andThen Good t = t
+andThen (Refused r) t = Refused r
+
+-- A side is 1 to 127.
+abbrev pub side : ℕ → Bool
+side n = leb 1 n && leb n 127
+
+-- A map byte is 0 or 1.
+abbrev pub mapByte : List ℕ → ℕ → Bool
+mapByte l k = leb (getD l k 0) 1
+
+unfoldable pub floorShape : ℕ → ℕ → List ℕ → Shape
+floorShape w h l =
+    pick (side w && side h)
+    (pick (eqb (length l) (w * h)) (pick (every (length l) (mapByte l)) Good (Refused MapByte)) (Refused MapLength)) (Refused Size)
+
+unfoldable pub endShape : ℕ → ℕ → ℕ → Shape
+endShape w h v = pick (ltb v (vertices w h)) Good (Refused End)

@@ -1,0 +1,172 @@
+// The floor: cells and vertices, what a cell reads as, and the refusals over the shape of a floor and of an end.
+ghost use mathlib.Core.Path.{_≡_};
+ghost use Prim.Native.Nat.{suc, _+_, _-_, _*_, _<_, _≤_};
+ghost use lib.ListN.{length, getD};
+ghost use lib.Dec.{eqb};
+ghost use mathlib.Core.Bool.{not};
+ghost use Rattle.basics.specs.Bounded.{every};
+ghost use Rattle.floor.specs.Floor.{Sized, floorOf, blocked, vertices, number, column, row};
+ghost use Rattle.floor.specs.Refusals.{refusalNumber, floorShape, endShape, mapByte};
+
+// The number of a cell: column + row * W.
+pub struct Cell(pub usize);
+
+// The number of a vertex, a cell corner: column + row * (W + 1).
+pub struct Vertex(pub usize);
+
+// Every refusal of document 01, in the order of its numbers.
+pub enum Refusal {
+    Size,
+    MapLength,
+    MapByte,
+    Neighbourhood,
+    End,
+    SliceLength,
+    NoRoute,
+    TooMany,
+    FalseSheet,
+    NotJoined,
+}
+
+// What a test of an input's shape finds.
+pub enum Shape {
+    Good,
+    Refused(Refusal),
+}
+
+// Document 01's number of a refusal.
+pub fn refusal_number(r: Refusal) -> u8
+    ensures { λ n. ⌜ n ≡ refusalNumber r ⌝ }
+{
+    match r {
+        Refusal::Size => 1,
+        Refusal::MapLength => 2,
+        Refusal::MapByte => 3,
+        Refusal::Neighbourhood => 4,
+        Refusal::End => 5,
+        Refusal::SliceLength => 6,
+        Refusal::NoRoute => 7,
+        Refusal::TooMany => 8,
+        Refusal::FalseSheet => 9,
+        Refusal::NotJoined => 10,
+    }
+}
+
+// The cell that has the vertex (x, y) as its lower right corner.
+fn cell_before(w: usize, h: usize, map: &[u8], x: usize, y: usize) -> Cell
+    requires { ⌜ Sized w h (now map) × (1 ≤ x) × (x ≤ w) × (1 ≤ y) × (y ≤ h) ⌝ }
+    ensures { λ c. ⌜ (c .0 ≡ (y - 1) * w + (x - 1)) × (c .0 < length (now (map .entry))) ⌝ }
+{
+    Cell((y - 1) * w + (x - 1))
+}
+
+// Whether a cell of the map is blocked: the one place that knows how a map is stored.
+fn is_blocked(map: &[u8], c: Cell) -> bool
+    requires { ⌜ c .0 < length (now map) ⌝ }
+    ensures { λ r. ⌜ r ≡ not (eqb (getD (now (map .entry)) (c .0) 0) 0) ⌝ }
+{
+    let at = c.0;
+    map[at] != 0
+}
+
+// Whether the cell that has the vertex (x, y) as its lower right corner is blocked; outside the map it is.
+pub fn blocked_at(w: usize, h: usize, map: &[u8], x: usize, y: usize) -> bool
+    requires { ⌜ Sized w h (now map) ⌝ }
+    ensures { λ r. ⌜ r ≡ blocked (floorOf w h (now (map .entry))) x y ⌝ }
+{
+    if x == 0 {
+        return true;
+    }
+    if y == 0 {
+        return true;
+    }
+    if w < x {
+        return true;
+    }
+    if h < y {
+        return true;
+    }
+    is_blocked(map, cell_before(w, h, map, x, y))
+}
+
+// The number of vertices, V.
+pub fn vertex_count(w: usize, h: usize) -> usize
+    requires { ⌜ (w ≤ 127) × (h ≤ 127) ⌝ }
+    ensures { λ r. ⌜ (r ≡ vertices w h) × (1 ≤ r) × (r ≤ 16384) ⌝ }
+{
+    (h + 1) * (w + 1)
+}
+
+// The vertex in column x and row y.
+pub fn vertex_at(w: usize, h: usize, x: usize, y: usize) -> Vertex
+    requires { ⌜ (w ≤ 127) × (h ≤ 127) × (x ≤ w) × (y ≤ h) ⌝ }
+    ensures { λ v. ⌜ (v .0 ≡ number w x y) × (v .0 < vertices w h) ⌝ }
+{
+    Vertex(y * (w + 1) + x)
+}
+
+// The column of a vertex.
+pub fn column_of(w: usize, v: Vertex) -> usize
+    requires { ⌜ w ≤ 127 ⌝ }
+    ensures { λ r. ⌜ (r ≡ column w (v .0)) × (r ≤ w) ⌝ }
+{
+    v.0 % (w + 1)
+}
+
+// The row of a vertex.
+pub fn row_of(w: usize, h: usize, v: Vertex) -> usize
+    requires { ⌜ (w ≤ 127) × (v .0 < vertices w h) ⌝ }
+    ensures { λ r. ⌜ (r ≡ row w (v .0)) × (r ≤ h) ⌝ }
+{
+    v.0 / (w + 1)
+}
+
+// Every byte of the map is 0 or 1.
+fn bytes_good(map: &[u8]) -> bool
+    ensures { λ r. ⌜ r ≡ every (length (now (map .entry))) (mapByte (now (map .entry))) ⌝ }
+{
+    let mut k: usize = 0;
+    while k < map.len() {
+        if 1 < map[k] {
+            return false;
+        }
+        k += 1;
+    }
+    true
+}
+
+// Refusals 1 to 3: the sides, the map's length, its bytes.
+pub fn floor_shape(w: usize, h: usize, map: &[u8]) -> Shape
+    ensures { λ r. ⌜ r ≡ floorShape w h (now (map .entry)) ⌝ }
+{
+    if w < 1 {
+        return Shape::Refused(Refusal::Size);
+    }
+    if 127 < w {
+        return Shape::Refused(Refusal::Size);
+    }
+    if h < 1 {
+        return Shape::Refused(Refusal::Size);
+    }
+    if 127 < h {
+        return Shape::Refused(Refusal::Size);
+    }
+    if map.len() != w * h {
+        return Shape::Refused(Refusal::MapLength);
+    }
+    if bytes_good(map) {
+        return Shape::Good;
+    }
+    Shape::Refused(Refusal::MapByte)
+}
+
+// Refusal 5: one end, on a floor whose sides are good.
+pub fn end_shape(w: usize, h: usize, v: usize) -> Shape
+    requires { ⌜ (w ≤ 127) × (h ≤ 127) ⌝ }
+    ensures { λ r. ⌜ r ≡ endShape w h v ⌝ }
+{
+    if v < vertex_count(w, h) {
+        return Shape::Good;
+    }
+    Shape::Refused(Refusal::End)
+}

@@ -1,0 +1,6 @@
+pub mod Graph
+pub mod Walk
+pub mod Distance
+pub mod Route
+pub mod Sheet
+pub mod Local

@@ -1,0 +1,33 @@
+// Walks, costs, counts and the central route, over any table of moves: definitions in specs/, laws in proofs/. The one
+// function is the constant that code above writes where no walk joins two vertices.
+//
+// Document 01's terms, and what they are called here:
+//
+//     a walk, an open walk     a list that `walks g k u t` lists; as a relation, `Walk g k u t l` (proofs/Listing)
+//     the cheapest cost        `distance g u t`; d(v) is `distance g a v`, e(v) is `distance g v b`
+//     M                        `unreachable`
+//     on the way               `onWay g a b v`; by costs that are handed in, `onShortest`
+//     f(v), b(v)               `countFrom g a b v`, `countTo g a b v`: on the way `pathCount g a v`, `pathCount g v b`
+//     the traversal count      `traversals g a b v`
+//     the total                `pathCount g a b`; that it is at most 2^64 - 1 is `fits g a b`
+//     a walk joins A to B      `joined g a b`
+//     the central route        `centralRoute g a b`
+//     the sheet                `Sheet`
+//     the true route sheet     `routeSheet g a b`, where `TrueRoute g a b s` says that s is it and that the job has one
+//     the true no-route sheet  `noRouteSheet g a`, and `TrueNoRoute g a b s`
+//
+// To believe: specs/ but for specs/Local. The laws to start from: proofs/Faithful (costs and counts are those of walks),
+// proofs/Reverse (the same both ways), proofs/Route (the central route is a cheapest walk), proofs/Sheets (which sheets
+// are true), proofs/SheetTest (the tests of specs/Local are exact).
+ghost use mathlib.Core.Path.{_≡_};
+ghost use Rattle.paths.specs.Distance.{unreachable};
+
+// The cost where no walk joins two vertices: document 01's M.
+pub const UNREACHABLE: u32 = 4294967295;
+
+// The same as a number of 32 bits.
+pub fn unreachable_cost() -> u32
+    ensures { λ r. ⌜ r ≡ unreachable ⌝ }
+{
+    UNREACHABLE
+}

@@ -1,0 +1,6 @@
+pub mod Travel
+pub mod Enters
+pub mod Sees
+pub mod Symmetry
+pub mod Unit
+pub mod Question

@@ -1,0 +1,106 @@
+-- Sight is the same both ways, a vertex sees itself, and two floors with the same cells see the same.
+--
+--   back s     == the segment from the last end to the first
+--   sees-back  == the law for a segment; sees-segment-back for two vertices by their numbers
+--   sees-self  == the law for a point; sees-segment-self for a vertex by its number
+--   sees-same  == the law for two floors
+use Prim.Native.Nat.{ℕ, suc, _<_, min}
+use mathlib.Core.Path.{_≡_, refl, ap₂, _∙_}
+use mathlib.Core.Bool.{Bool, true, _&&_, _||_}
+use native.Mathlib.Omega.{arith}
+use borrow.Author.Tests.{eq-eqb}
+use lib.Dec.{ltb}
+use Rattle.basics.proofs.Bools.{and-comm, eqb-sym}
+use Rattle.floor.specs.Floor.{Floor, column, row}
+use Rattle.floor.proofs.Cells.{blocked-same}
+use Rattle.sight.specs.Sight.{
+  Segment,
+  segmentOf,
+  segment,
+  positive,
+  negative,
+  corner,
+  enters,
+  noCellEntered,
+  uprightOpen,
+  levelOpen,
+  noStepShut,
+  sees,
+}
+use Rattle.sight.proofs.Travel.{between-back}
+use Rattle.sight.proofs.Enters.{less, more}
+use Rattle.sight.proofs.Sees.{none-entered, none-between, upright-enters}
+
+abbrev pub back : Segment → Segment
+back s = segmentOf (s .x1) (s .y1) (s .x0) (s .y0)
+
+-- Back and forth the two sums change places.
+module _ (s : Segment) (p q : ℕ) where
+  less-back : less (s .x1) (s .y1) (s .x0) (s .y0) p q ≡ more (s .x0) (s .y0) (s .x1) (s .y1) p q
+  less-back = omega arith
+
+  more-back : more (s .x1) (s .y1) (s .x0) (s .y0) p q ≡ less (s .x0) (s .y0) (s .x1) (s .y1) p q
+  more-back = omega arith
+
+  positive-back : positive (back s) p q ≡ negative s p q
+  unfolding positive negative
+  positive-back = ap₂ ltb less-back more-back
+
+  negative-back : negative (back s) p q ≡ positive s p q
+  unfolding positive negative
+  negative-back = ap₂ ltb more-back less-back
+
+corner-same : (p q : ℕ → ℕ → Bool) (i j : ℕ) → ((x y : ℕ) → p x y ≡ q x y) → corner p i j ≡ corner q i j
+unfolding corner
+corner-same p q i j h = ap₂ _||_ (ap₂ _||_ (ap₂ _||_ (h i j) (h (suc i) j)) (h i (suc j))) (h (suc i) (suc j))
+
+enters-back : (s : Segment) (i j : ℕ) → enters (back s) i j ≡ enters s i j
+unfolding enters
+enters-back s i j =
+    ap₂ _&&_ (ap₂ _&&_ (between-back (s .x1) (s .x0) i) (between-back (s .y1) (s .y0) j))
+    (ap₂ _&&_ (corner-same (positive (back s)) (negative s) i j (positive-back s))
+    (corner-same (negative (back s)) (positive s) i j (negative-back s))
+    ∙ and-comm (corner (negative s) i j) (corner (positive s) i j))
+
+pub sees-back : (f : Floor) (s : Segment) → sees f (back s) ≡ sees f s
+unfolding sees noCellEntered noStepShut
+sees-back f s =
+    let px : min (s .x1) (s .x0) ≡ min (s .x0) (s .x1) = omega arith in
+    let py : min (s .y1) (s .y0) ≡ min (s .y0) (s .y1) = omega arith in
+    simp (
+      enters-back s,
+      between-back (s .x1) (s .x0),
+      between-back (s .y1) (s .y0),
+      px,
+      py,
+      eqb-sym (s .x1) (s .x0),
+      eqb-sym (s .y1) (s .y0),
+    )
+
+pub sees-segment-back : (f : Floor) (w a b : ℕ) → sees f (segment w b a) ≡ sees f (segment w a b)
+unfolding segment
+sees-segment-back f w a b = sees-back f (segmentOf (column w a) (row w a) (column w b) (row w b))
+
+pub sees-self : (f : Floor) (x y : ℕ) → sees f (segmentOf x y x y) ≡ true
+unfolding sees noStepShut
+sees-self f x y =
+    let mx : min x x ≡ x = omega arith in
+    let my : min y y ≡ y = omega arith in
+    rw (
+      none-entered f (segmentOf x y x y) (upright-enters x y y),
+      eq-eqb x x refl,
+      eq-eqb y y refl,
+      mx,
+      my,
+      none-between (f .high) y (uprightOpen f x),
+      none-between (f .wide) x (λ i. levelOpen f i y),
+    )
+
+pub sees-segment-self : (f : Floor) (w a : ℕ) → sees f (segment w a a) ≡ true
+unfolding segment
+sees-segment-self f w a = sees-self f (column w a) (row w a)
+
+pub sees-same : (f h : Floor) → f .wide ≡ h .wide → f .high ≡ h .high
+    → ((i j : ℕ) → i < f .wide → j < f .high → f .cell i j ≡ h .cell i j) → (s : Segment) → sees f s ≡ sees h s
+unfolding sees noCellEntered noStepShut uprightOpen levelOpen
+sees-same f h p q e s = simp (p, q, blocked-same f h p q e)

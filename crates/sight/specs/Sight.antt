@@ -1,0 +1,69 @@
+-- Document 01, "Sight": the two faults of a segment between vertices, in whole numbers.
+--
+--   Segment           == from the vertex (x0, y0) to the vertex (x1, y1)
+--   enters s i j      == the segment enters cell (i, j)
+--   noCellEntered f s == no blocked cell is entered
+--   noStepShut f s    == along a grid line, no unit step has a blocked cell on both sides, outside counted
+--   sees f s          == the ends of s see each other
+--   between a b k     == min a b ≤ k and k + 1 ≤ max a b
+--   segment w a b     == the segment between two vertices by their numbers
+use Prim.Native.Nat.{ℕ, suc, _+_, _*_, min, max}
+use mathlib.Core.Bool.{Bool, _&&_, _||_, not}
+use lib.Dec.{leb, ltb, eqb}
+use Rattle.basics.specs.Bounded.{every}
+use Rattle.floor.specs.Floor.{Floor, blocked, column, row}
+
+pub record Segment : Type 0 where
+  pub x0 : ℕ
+  pub y0 : ℕ
+  pub x1 : ℕ
+  pub y1 : ℕ
+
+abbrev pub segmentOf : ℕ → ℕ → ℕ → ℕ → Segment
+segmentOf a b c d = record { x0 = a; y0 = b; x1 = c; y1 = d }
+
+unfoldable pub segment : ℕ → ℕ → ℕ → Segment
+segment w a b = segmentOf (column w a) (row w a) (column w b) (row w b)
+
+-- (x1-x0)(q-y0) - (y1-y0)(p-x0) is positive: multiplied out, with each product on the side where it is added.
+unfoldable pub positive : Segment → ℕ → ℕ → Bool
+positive s p q = ltb (s .x1 * s .y0 + s .x0 * q + s .y1 * p) (s .x1 * q + s .x0 * s .y1 + s .y0 * p)
+
+-- The same is negative.
+unfoldable pub negative : Segment → ℕ → ℕ → Bool
+negative s p q = ltb (s .x1 * q + s .x0 * s .y1 + s .y0 * p) (s .x1 * s .y0 + s .x0 * q + s .y1 * p)
+
+unfoldable pub between : ℕ → ℕ → ℕ → Bool
+between a b k = leb (min a b) k && ltb k (max a b)
+
+-- One of the four corners of cell (i, j) passes the test.
+unfoldable pub corner : (ℕ → ℕ → Bool) → ℕ → ℕ → Bool
+corner p i j = p i j || p (suc i) j || p i (suc j) || p (suc i) (suc j)
+
+unfoldable pub enters : Segment → ℕ → ℕ → Bool
+enters s i j = between (s .x0) (s .x1) i && between (s .y0) (s .y1) j && (corner (positive s) i j && corner (negative s) i j)
+
+unfoldable pub noCellEntered : Floor → Segment → Bool
+noCellEntered f s = every (f .wide) (λ i. every (f .high) (λ j. not (blocked f (suc i) (suc j) && enters s i j)))
+
+-- The two cells beside the step along column line x from (x, j) to (x, j + 1) are not both blocked.
+unfoldable pub uprightOpen : Floor → ℕ → ℕ → Bool
+uprightOpen f x j = not (blocked f x (suc j) && blocked f (suc x) (suc j))
+
+-- The two cells beside the step along row line y from (i, y) to (i + 1, y) are not both blocked.
+unfoldable pub levelOpen : Floor → ℕ → ℕ → Bool
+levelOpen f i y = not (blocked f (suc i) y && blocked f (suc i) (suc y))
+
+-- The line's coordinate is written as the lesser of two equal ones, so that swapping the ends changes nothing.
+unfoldable pub noStepShut : Floor → Segment → Bool
+noStepShut f s =
+    (not (eqb (s .x0) (s .x1)) || every (f .high) (λ j. not (between (s .y0) (s .y1) j) || uprightOpen f (min (s .x0) (s .x1)) j))
+    && (not (eqb (s .y0) (s .y1)) || every (f .wide) (λ i. not (between (s .x0) (s .x1) i) || levelOpen f i (min (s .y0) (s .y1))))
+
+unfoldable pub sees : Floor → Segment → Bool
+sees f s = noCellEntered f s && noStepShut f s
+
+-- Named on an `unfolding` line, this opens all of the above, for a theorem that is computed.
+unfoldable pub sight-opened : ℕ
+unfolding segment positive negative between corner enters noCellEntered uprightOpen levelOpen noStepShut sees
+sight-opened = 0

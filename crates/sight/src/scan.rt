@@ -1,0 +1,181 @@
+// Sight along a grid line and across cells, by a look at each step or cell from the first end towards the other.
+ghost use mathlib.Core.Path.{_≡_};
+ghost use Prim.Native.Nat.{suc, _*_, _<_, _≤_};
+ghost use Rattle.basics.specs.Bounded.{every};
+ghost use Rattle.floor.specs.Floor.{Sized, floorOf};
+ghost use Rattle.sight.specs.Sight.{segmentOf, sees};
+ghost use Rattle.sight.specs.Travel.{Ends, span, cellOn, uprightTo, levelTo};
+ghost use Rattle.sight.specs.Travel.{uprightFree, levelFree, cellFree, rowFree};
+ghost use Rattle.sight.specs.Travel as travel;
+
+// How far it is from a to b.
+pub fn span_of(a: usize, b: usize) -> usize
+    ensures { λ r. ⌜ r ≡ span a b ⌝ }
+{
+    if a < b {
+        return b - a;
+    }
+    a - b
+}
+
+// The far line of the k-th cell from a towards b, as `blocked_at` wants it: one more than the cell's number.
+fn line_at(a: usize, b: usize, k: usize) -> usize
+    requires { ⌜ (a ≤ 127) × (b ≤ 127) × (k < span a b) ⌝ }
+    ensures { λ r. ⌜ r ≡ suc (cellOn a b k) ⌝ }
+{
+    if a <= b {
+        return a + k + 1;
+    }
+    a - k
+}
+
+// The step along column line x that ends on row line y is not shut: one of the cells beside it is open.
+pub fn upright_open(w: usize, h: usize, map: &[u8], x: usize, y: usize) -> bool
+    requires { ⌜ Sized w h (now map) × (x ≤ w) ⌝ }
+    ensures { λ r. ⌜ r ≡ uprightTo (floorOf w h (now (map .entry))) x y ⌝ }
+{
+    if floor::blocked_at(w, h, map, x, y) {
+        return !floor::blocked_at(w, h, map, x + 1, y);
+    }
+    true
+}
+
+// The step along row line y that ends on column line x is not shut.
+pub fn level_open(w: usize, h: usize, map: &[u8], x: usize, y: usize) -> bool
+    requires { ⌜ Sized w h (now map) × (y ≤ h) ⌝ }
+    ensures { λ r. ⌜ r ≡ levelTo (floorOf w h (now (map .entry))) x y ⌝ }
+{
+    if floor::blocked_at(w, h, map, x, y) {
+        return !floor::blocked_at(w, h, map, x, y + 1);
+    }
+    true
+}
+
+// No step along column line x from row y0 to row y1 is shut.
+fn upright_free(w: usize, h: usize, map: &[u8], x: usize, y0: usize, y1: usize) -> bool
+    requires { ⌜ Sized w h (now map) × (x ≤ w) × (y0 ≤ h) × (y1 ≤ h) ⌝ }
+    ensures { λ r. ⌜ r ≡ every (span y0 y1) (uprightFree (floorOf w h (now (map .entry))) x y0 y1) ⌝ }
+{
+    let n = span_of(y0, y1);
+    let mut k: usize = 0;
+    while k < n {
+        let y = line_at(y0, y1, k);
+        if !upright_open(w, h, map, x, y) {
+            return false;
+        }
+        k += 1;
+    }
+    true
+}
+
+// No step along row line y from column x0 to column x1 is shut.
+fn level_free(w: usize, h: usize, map: &[u8], y: usize, x0: usize, x1: usize) -> bool
+    requires { ⌜ Sized w h (now map) × (y ≤ h) × (x0 ≤ w) × (x1 ≤ w) ⌝ }
+    ensures { λ r. ⌜ r ≡ every (span x0 x1) (levelFree (floorOf w h (now (map .entry))) y x0 x1) ⌝ }
+{
+    let n = span_of(x0, x1);
+    let mut k: usize = 0;
+    while k < n {
+        let x = line_at(x0, x1, k);
+        if !level_open(w, h, map, x, y) {
+            return false;
+        }
+        k += 1;
+    }
+    true
+}
+
+// The product of two numbers of at most 128.
+fn times(a: usize, b: usize) -> usize
+    requires { ⌜ (a ≤ 128) × (b ≤ 128) ⌝ }
+    ensures { λ r. ⌜ (r ≡ a * b) × (r ≤ 16384) ⌝ }
+{
+    a * b
+}
+
+// The cell c columns and r rows from the first end is entered by a segment dx wide and dy high.
+fn touches(dx: usize, dy: usize, c: usize, r: usize) -> bool
+    requires { ⌜ (dx ≤ 127) × (dy ≤ 127) × (c < dx) × (r < dy) ⌝ }
+    ensures { λ b. ⌜ b ≡ travel.touches dx dy c r ⌝ }
+{
+    if times(dy, c) < times(dx, r + 1) {
+        return times(dx, r) < times(dy, c + 1);
+    }
+    false
+}
+
+// The cell c columns and r rows from the first end is open or not entered.
+fn cell_free(
+    w: usize,
+    h: usize,
+    map: &[u8],
+    x0: usize,
+    y0: usize,
+    x1: usize,
+    y1: usize,
+    r: usize,
+    c: usize,
+) -> bool
+    requires { ⌜ Sized w h (now map) × Ends w h x0 y0 x1 y1 × (r < span y0 y1) × (c < span x0 x1) ⌝ }
+    ensures { λ b. ⌜ b ≡ cellFree (floorOf w h (now (map .entry))) (segmentOf x0 y0 x1 y1) r c ⌝ }
+{
+    if touches(span_of(x0, x1), span_of(y0, y1), c, r) {
+        return !floor::blocked_at(w, h, map, line_at(x0, x1, c), line_at(y0, y1, r));
+    }
+    true
+}
+
+// No blocked cell is entered in the row r rows from the first end, by a look at each cell of that row of the box.
+fn row_free(
+    w: usize,
+    h: usize,
+    map: &[u8],
+    x0: usize,
+    y0: usize,
+    x1: usize,
+    y1: usize,
+    r: usize,
+) -> bool
+    requires { ⌜ Sized w h (now map) × Ends w h x0 y0 x1 y1 × (r < span y0 y1) ⌝ }
+    ensures { λ b. ⌜ b ≡ rowFree (floorOf w h (now (map .entry))) (segmentOf x0 y0 x1 y1) r ⌝ }
+{
+    let n = span_of(x0, x1);
+    let mut c: usize = 0;
+    while c < n {
+        if !cell_free(w, h, map, x0, y0, x1, y1, r, c) {
+            return false;
+        }
+        c += 1;
+    }
+    true
+}
+
+// No blocked cell is entered.
+fn slanted_free(w: usize, h: usize, map: &[u8], x0: usize, y0: usize, x1: usize, y1: usize) -> bool
+    requires { ⌜ Sized w h (now map) × Ends w h x0 y0 x1 y1 ⌝ }
+    ensures { λ b. ⌜ b ≡ every (span y0 y1) (rowFree (floorOf w h (now (map .entry))) (segmentOf x0 y0 x1 y1)) ⌝ }
+{
+    let n = span_of(y0, y1);
+    let mut r: usize = 0;
+    while r < n {
+        if !row_free(w, h, map, x0, y0, x1, y1, r) {
+            return false;
+        }
+        r += 1;
+    }
+    true
+}
+
+// Whether two vertices see each other, at any distance: along a column line, along a row line, or slanted.
+pub fn far_sees(w: usize, h: usize, map: &[u8], x0: usize, y0: usize, x1: usize, y1: usize) -> bool
+    requires { ⌜ Sized w h (now map) × Ends w h x0 y0 x1 y1 ⌝ }
+    ensures { λ r. ⌜ r ≡ sees (floorOf w h (now (map .entry))) (segmentOf x0 y0 x1 y1) ⌝ }
+{
+    if x0 == x1 {
+        return upright_free(w, h, map, x0, y0, y1);
+    }
+    if y0 == y1 {
+        return level_free(w, h, map, y0, x0, x1);
+    }
+    slanted_free(w, h, map, x0, y0, x1, y1)
+}

@@ -1,0 +1,70 @@
+//! The program: a stream of records in, lines of text out.
+
+use crate::floor::Floor;
+use crate::sheet::{self, Lent, Request, Sheet, Solver};
+use crate::thin;
+
+const MAP_MARK: [u8; 2] = [0x4D, 0x50];
+const JOB_MARK: [u8; 2] = [0x4A, 0x42];
+const JOB_SIZE: usize = 7;
+const MOST_JOBS: usize = 1000;
+const LONGEST_SIDE: u8 = 31;
+
+/// The map record at the start of the input, and its size in bytes.
+fn read_map(input: &[u8]) -> Option<(Floor, usize)> {
+    let body = input.strip_prefix(&MAP_MARK)?;
+    let (&width, &height) = (body.first()?, body.get(1)?);
+    if width > LONGEST_SIDE || height > LONGEST_SIDE {
+        return None;
+    }
+    let size = usize::from(width) * usize::from(height);
+    let cells = body.get(2..2 + size)?.to_vec();
+    let floor = Floor::new(width.into(), height.into(), cells);
+    floor.shape_fault().is_none().then_some((floor, 4 + size))
+}
+
+/// The job record at the start of the input.
+fn read_job(input: &[u8]) -> Option<Request> {
+    let record = input.get(..JOB_SIZE)?;
+    let body = record.strip_prefix(&JOB_MARK)?;
+    let number = |at: usize| u64::from(u16::from_le_bytes([body[at], body[at + 1]]));
+    Some(Request { neighbourhood: body[0].into(), start: number(1), goal: number(3) })
+}
+
+/// The lines of one job.
+fn job_lines(solver: &mut Solver, number: usize, request: Request) -> String {
+    let size = solver.floor.vertex_count();
+    let mut s = Sheet::zeros(size);
+    let mut work = vec![0; 4 * size];
+    let lent =
+        Lent { d: &mut s.d, e: &mut s.e, f: &mut s.f, b: &mut s.b, route: &mut s.route, work: &mut work };
+    let answer = sheet::plan(solver, request, lent);
+    if answer.answer != 0 {
+        return format!("job {number}: refused {}\n", answer.answer);
+    }
+    let list = &s.route[..answer.n as usize];
+    let kept = thin::kept_positions(&solver.floor, list);
+    let names: Vec<String> = kept.iter().map(|&position| list[position].to_string()).collect();
+    let (cost, total, points) = (answer.cost, answer.total, answer.n);
+    let first = format!("job {number}: cost {cost} routes {total} points {points} kept {}", kept.len());
+    format!("{first}\nat {}\n", names.join(" "))
+}
+
+/// Everything the program writes for an input.
+pub fn run(input: &[u8]) -> String {
+    let Some((floor, map_size)) = read_map(input) else { return "bad record at 0\n".to_string() };
+    let mut solver = Solver::new(floor);
+    let mut text = String::new();
+    let mut at = map_size;
+    let mut jobs = 0;
+    while at < input.len() {
+        let Some(request) = read_job(&input[at..]).filter(|_| jobs < MOST_JOBS) else {
+            text += &format!("bad record at {at}\n");
+            break;
+        };
+        jobs += 1;
+        text += &job_lines(&mut solver, jobs, request);
+        at += JOB_SIZE;
+    }
+    text
+}

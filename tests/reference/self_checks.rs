@@ -1,0 +1,173 @@
+//! Checks of this program against itself by other methods.
+
+use crate::floor::Floor;
+use crate::graph::{self, Graph};
+use crate::natural::Natural;
+use crate::vectors::{self, Tally};
+use crate::{answers, count, jobs, sheet, sight, thin};
+
+pub fn run(tally: &mut Tally) {
+    naturals(tally);
+    clipping(tally);
+    tiny_floors(tally);
+    checker_on_damage(tally);
+    thinning(tally);
+    streams(tally);
+}
+
+fn naturals(tally: &mut Tally) {
+    let two_64 = Natural::from_u64(u64::MAX).add(&Natural::from_u64(1));
+    tally.equal("2^64", two_64.decimal(), "18446744073709551616".to_string());
+    tally.equal("2^64 as u64", two_64.to_u64(), None);
+    tally.equal("2^64 - 1 as u64", Natural::from_u64(u64::MAX).to_u64(), Some(u64::MAX));
+    let square = two_64.mul(&two_64);
+    tally.equal("2^128", square.decimal(), "340282366920938463463374607431768211456".to_string());
+    let mixed = [0, 1, 7, u32::MAX as u64, 1 << 32, u64::MAX - 5];
+    for x in mixed {
+        for y in mixed {
+            let product = Natural::from_u64(x).mul(&Natural::from_u64(y)).decimal();
+            tally.equal("product", product, (x as u128 * y as u128).to_string());
+            let sum = Natural::from_u64(x).add(&Natural::from_u64(y)).decimal();
+            tally.equal("sum", sum, (x as u128 + y as u128).to_string());
+            tally.holds("order", Natural::from_u64(x).cmp(&Natural::from_u64(y)) == x.cmp(&y));
+        }
+    }
+}
+
+/// Whether the segment enters the cell by the rule of document 01: the cell lies
+/// within the segment's bounds, and corners of it lie on both sides of the line.
+fn enters_by_corners(from: (i64, i64), to: (i64, i64), i: i64, j: i64) -> bool {
+    let ((x0, y0), (x1, y1)) = (from, to);
+    let within = x0.min(x1) <= i && i < x0.max(x1) && y0.min(y1) <= j && j < y0.max(y1);
+    let corners = [(i, j), (i + 1, j), (i, j + 1), (i + 1, j + 1)];
+    let side = |(p, q): (i64, i64)| (x1 - x0) * (q - y0) - (y1 - y0) * (p - x0);
+    within && corners.iter().any(|&c| side(c) > 0) && corners.iter().any(|&c| side(c) < 0)
+}
+
+/// Clipping and the corner rule agree for all segments in a box, and beyond it.
+fn clipping(tally: &mut Tally) {
+    let points: Vec<(i64, i64)> = (0..=6).flat_map(|y| (0..=7).map(move |x| (x, y))).collect();
+    let mut agree = true;
+    for &from in &points {
+        for &to in &points {
+            for j in -1..=6 {
+                for i in -1..=7 {
+                    agree &= sight::enters_cell(from, to, i, j) == enters_by_corners(from, to, i, j);
+                }
+            }
+        }
+    }
+    tally.holds("clipping agrees with the corner rule", agree);
+}
+
+/// All floors of a size, one for each set of blocked cells.
+fn all_floors(width: u64, height: u64) -> impl Iterator<Item = Floor> {
+    let cells = width * height;
+    (0..1u32 << cells).map(move |bits| {
+        Floor::new(width, height, (0..cells).map(|c| (bits >> c & 1) as u8).collect())
+    })
+}
+
+/// On every tiny floor: distances by two ways, counts by sums and by listing, sight
+/// both ways, and the checker takes exactly what the planner leaves.
+fn tiny_floors(tally: &mut Tally) {
+    for (width, height) in [(1, 1), (2, 1), (1, 3), (2, 2), (3, 2)] {
+        for floor in all_floors(width, height) {
+            for neighbourhood in [4, 8] {
+                tiny_graph(tally, &floor, neighbourhood);
+                tiny_jobs(tally, &floor, neighbourhood);
+            }
+            let size = floor.vertex_count();
+            let even = (0..size).all(|u| {
+                (0..size).all(|v| sight::vertices_see(&floor, u, v) == sight::vertices_see(&floor, v, u))
+            });
+            tally.holds("sight is symmetric", even);
+        }
+    }
+}
+
+fn tiny_graph(tally: &mut Tally, floor: &Floor, neighbourhood: u64) {
+    let graph = Graph::of_floor(floor, neighbourhood);
+    let reversed = graph.reversed();
+    for source in 0..graph.size() {
+        let distances = graph::distances(&graph, source);
+        tally.holds("distances by rounds", distances == graph::distances_by_rounds(&graph, source));
+        let counts = count::by_sums(&reversed, &distances, source);
+        let listed = count::assert_listing_agrees(&graph, &distances, &counts, source);
+        tally.holds("counts by listing", listed);
+    }
+}
+
+fn tiny_jobs(tally: &mut Tally, floor: &Floor, neighbourhood: u64) {
+    let size = floor.vertex_count() as u64;
+    for (start, goal) in (0..size).flat_map(|start| (0..size).map(move |goal| (start, goal))) {
+        let planned = vectors::plan(floor, neighbourhood, start, goal);
+        let answer = vectors::check(floor, neighbourhood, start, goal, &planned.sheet);
+        tally.holds("the checker takes the planner's sheet", answer == planned.answer.answer);
+        tally.holds("the working slice is 0", planned.work.iter().all(|&x| x == 0));
+    }
+}
+
+/// Every single place of a sheet matters to the checker.
+fn checker_on_damage(tally: &mut Tally) {
+    let floor = Floor::new(3, 2, vec![0, 0, 0, 1, 0, 0]);
+    let planned = vectors::plan(&floor, 8, 0, 11);
+    for place in 0..floor.vertex_count() {
+        let mut damaged = vec![planned.sheet.clone(); 5];
+        damaged[0].d[place] ^= 1;
+        damaged[1].e[place] ^= 1;
+        damaged[2].f[place] ^= 1;
+        damaged[3].b[place] ^= 1;
+        damaged[4].route[place] ^= 1;
+        for sheet in &damaged {
+            tally.equal("damage", vectors::check(&floor, 8, 0, 11, sheet), 9);
+        }
+    }
+    let more = sheet::Sheet { n: planned.sheet.n + 1, ..planned.sheet };
+    tally.equal("another n", vectors::check(&floor, 8, 0, 11, &more), 9);
+}
+
+/// Kept positions see each other in turn, and a position past the next kept one
+/// is unseen. Lists with repeats and turns back are thinned too.
+fn thinning(tally: &mut Tally) {
+    let floor = Floor::new(3, 3, vec![0, 0, 0, 0, 1, 0, 0, 0, 0]);
+    let lists: [&[u16]; 5] =
+        [&[0, 1, 2, 3, 7, 11, 15], &[0, 0, 0], &[0, 3, 0, 3, 15, 12], &[5], &[0, 4, 8, 12, 13, 14, 15, 11, 7, 3]];
+    for list in lists {
+        let mut output = vec![77; list.len()];
+        let (answer, kept) = thin::thin(&floor, list, &mut output, list.len() as u64);
+        tally.equal("thinning answer", answer, 0);
+        let kept: Vec<usize> = output[..kept as usize].iter().map(|&position| position.into()).collect();
+        tally.holds("kept ends", kept[0] == 0 && kept[kept.len() - 1] == list.len() - 1);
+        let sees = |i: usize, k: usize| sight::vertices_see(&floor, list[i].into(), list[k].into());
+        for pair in kept.windows(2) {
+            let clear = (pair[0]..=pair[1]).all(|k| sees(pair[0], k));
+            let farthest = pair[1] == list.len() - 1 || !sees(pair[0], pair[1] + 1);
+            tally.holds("kept positions", clear && farthest);
+        }
+    }
+    let mut output = vec![77; 7];
+    thin::thin(&floor, lists[0], &mut output, 7);
+    tally.equal("thinning round a corner", output, vec![0, 4, 6, 0, 0, 0, 0]);
+    tally.equal("unseen neighbours", thin::thin(&floor, &[0, 15], &mut [5, 5], 2), (10, 0));
+}
+
+/// A short job stream has every answer in it, and is read to its end.
+fn streams(tally: &mut Tally) {
+    let text = answers::run(&jobs::make(5, 160, true)).unwrap_or_default();
+    tally.holds("a stream ends", text.ends_with("\nend\n"));
+    let has = |start: &str| text.lines().any(|line| format!("{line} ").starts_with(start));
+    for answer in 0..=8 {
+        tally.holds(&format!("plan answers {answer}"), has(&format!("plan {answer} ")));
+    }
+    for answer in [0, 1, 2, 3, 4, 5, 6, 7, 9] {
+        tally.holds(&format!("check answers {answer}"), has(&format!("check {answer} ")));
+    }
+    for answer in [0, 1, 2, 3, 6, 10] {
+        tally.holds(&format!("thin answers {answer}"), has(&format!("thin {answer} ")));
+    }
+    let sights: String = text.lines().filter_map(|line| line.strip_prefix("sight ")).collect();
+    for answer in ['y', 'n', '1', '2', '3', '5'] {
+        tally.holds(&format!("sight answers {answer}"), sights.contains(answer));
+    }
+}

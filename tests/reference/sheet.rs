@@ -1,0 +1,300 @@
+//! The true sheets of a job, and from them the planner and the checker.
+
+use crate::count;
+use crate::floor::Floor;
+use crate::graph::{self, Distances, Graph};
+use crate::natural::Natural;
+use std::collections::BTreeMap;
+use std::rc::Rc;
+
+/// The cost written where no walk joins two vertices.
+pub const NO_WALK: u32 = u32::MAX;
+
+/// Distances, counts and route of a job; n is the number of route points.
+#[derive(Clone, Debug, PartialEq, Eq)]
+pub struct Sheet {
+    pub d: Vec<u32>,
+    pub e: Vec<u32>,
+    pub f: Vec<u64>,
+    pub b: Vec<u64>,
+    pub route: Vec<u16>,
+    pub n: u64,
+}
+
+impl Sheet {
+    pub fn zeros(size: usize) -> Sheet {
+        Sheet { d: vec![0; size], e: vec![0; size], f: vec![0; size], b: vec![0; size], route: vec![0; size], n: 0 }
+    }
+}
+
+/// What is true of a job of good shape.
+pub enum Truth {
+    Route { sheet: Sheet, cost: u64, total: u64 },
+    NoRoute { sheet: Sheet },
+    /// Holds d and e, the rest 0.
+    TooMany { sheet: Sheet },
+}
+
+/// A floor with what has been computed for it.
+pub struct Solver {
+    pub floor: Floor,
+    graphs: BTreeMap<u64, Rc<(Graph, Graph)>>,
+    truths: BTreeMap<(u64, usize, usize), Rc<Truth>>,
+}
+
+impl Solver {
+    pub fn new(floor: Floor) -> Solver {
+        Solver { floor, graphs: BTreeMap::new(), truths: BTreeMap::new() }
+    }
+
+    /// The graph of open moves, and the same with its edges turned round.
+    pub fn graphs(&mut self, neighbourhood: u64) -> Rc<(Graph, Graph)> {
+        let floor = &self.floor;
+        let made = self.graphs.entry(neighbourhood).or_insert_with(|| {
+            let graph = Graph::of_floor(floor, neighbourhood);
+            let reversed = graph.reversed();
+            Rc::new((graph, reversed))
+        });
+        Rc::clone(made)
+    }
+
+    /// The truth of a job of good shape.
+    pub fn truth(&mut self, neighbourhood: u64, start: usize, goal: usize) -> Rc<Truth> {
+        let key = (neighbourhood, start, goal);
+        if !self.truths.contains_key(&key) {
+            let graphs = self.graphs(neighbourhood);
+            let job = Job { graph: &graphs.0, reversed: &graphs.1, start, goal };
+            self.truths.insert(key, Rc::new(job.solve()));
+        }
+        Rc::clone(&self.truths[&key])
+    }
+}
+
+struct Job<'a> {
+    graph: &'a Graph,
+    reversed: &'a Graph,
+    start: usize,
+    goal: usize,
+}
+
+/// All of a job's distances and counts, unbounded and at every vertex.
+struct Measures {
+    from_start: Distances,
+    to_goal: Distances,
+    walks_from_start: Vec<Natural>,
+    walks_to_goal: Vec<Natural>,
+    cost: u64,
+}
+
+impl Measures {
+    fn on_the_way(&self, vertex: usize) -> bool {
+        match (self.from_start[vertex], self.to_goal[vertex]) {
+            (Some(before), Some(after)) => before + after == self.cost,
+            _ => false,
+        }
+    }
+
+    fn traversal_count(&self, vertex: usize) -> Natural {
+        self.walks_from_start[vertex].mul(&self.walks_to_goal[vertex])
+    }
+
+    /// The counts of the vertices on the way, 0 elsewhere.
+    fn written(&self, counts: &[Natural]) -> Vec<u64> {
+        let value = |v: usize| if self.on_the_way(v) { counts[v].to_u64().expect("above the total") } else { 0 };
+        (0..counts.len()).map(value).collect()
+    }
+}
+
+fn written_distances(distances: &Distances) -> Vec<u32> {
+    distances.iter().map(|d| d.map_or(NO_WALK, |cost| cost as u32)).collect()
+}
+
+impl Job<'_> {
+    fn solve(&self) -> Truth {
+        let from_start = graph::distances(self.graph, self.start);
+        let mut sheet = Sheet::zeros(self.graph.size());
+        sheet.d = written_distances(&from_start);
+        let Some(cost) = from_start[self.goal] else { return Truth::NoRoute { sheet } };
+        let measures = self.measure(from_start, cost);
+        sheet.e = written_distances(&measures.to_goal);
+        let Some(total) = measures.walks_from_start[self.goal].to_u64() else { return Truth::TooMany { sheet } };
+        self.finish(&measures, &mut sheet);
+        Truth::Route { sheet, cost, total }
+    }
+
+    fn measure(&self, from_start: Distances, cost: u64) -> Measures {
+        let to_goal = graph::distances(self.reversed, self.goal);
+        let walks_from_start = count::by_sums(self.reversed, &from_start, self.start);
+        let walks_to_goal = count::by_sums(self.graph, &to_goal, self.goal);
+        if self.graph.size() <= 9 {
+            count::assert_listing_agrees(self.graph, &from_start, &walks_from_start, self.start);
+            count::assert_listing_agrees(self.reversed, &to_goal, &walks_to_goal, self.goal);
+        }
+        assert_eq!(walks_from_start[self.goal], walks_to_goal[self.start]);
+        Measures { from_start, to_goal, walks_from_start, walks_to_goal, cost }
+    }
+
+    fn finish(&self, measures: &Measures, sheet: &mut Sheet) {
+        sheet.f = measures.written(&measures.walks_from_start);
+        sheet.b = measures.written(&measures.walks_to_goal);
+        let route = self.central_route(measures);
+        sheet.n = route.len() as u64;
+        for (place, &vertex) in sheet.route.iter_mut().zip(&route) {
+            *place = vertex as u16;
+        }
+    }
+
+    fn central_route(&self, measures: &Measures) -> Vec<usize> {
+        let mut route = vec![self.start];
+        while *route.last().unwrap() != self.goal {
+            route.push(self.central_successor(measures, *route.last().unwrap()));
+        }
+        route
+    }
+
+    /// Of the successors on the way the one with the highest traversal count,
+    /// of equals the first in move order.
+    fn central_successor(&self, measures: &Measures, from: usize) -> usize {
+        let mut best: Option<(Natural, usize)> = None;
+        for edge in &self.graph.edges[from] {
+            let through = measures.from_start[from].map(|start| start + edge.cost);
+            if through != measures.from_start[edge.to] || !measures.on_the_way(edge.to) {
+                continue;
+            }
+            let count = measures.traversal_count(edge.to);
+            if best.as_ref().is_none_or(|(highest, _)| count > *highest) {
+                best = Some((count, edge.to));
+            }
+        }
+        best.expect("a vertex on the way before the goal has a successor").1
+    }
+}
+
+/// Neighbourhood and ends, as handed in.
+#[derive(Clone, Copy, Debug)]
+pub struct Request {
+    pub neighbourhood: u64,
+    pub start: u64,
+    pub goal: u64,
+}
+
+impl Request {
+    /// Refusal 1 to 5, the first that applies.
+    pub fn fault(&self, floor: &Floor) -> Option<u8> {
+        if let Some(fault) = floor.shape_fault() {
+            return Some(fault);
+        }
+        if self.neighbourhood != 4 && self.neighbourhood != 8 {
+            return Some(4);
+        }
+        let count = floor.vertex_count() as u64;
+        (self.start >= count || self.goal >= count).then_some(5)
+    }
+}
+
+/// The slices lent to the planner.
+pub struct Lent<'a> {
+    pub d: &'a mut [u32],
+    pub e: &'a mut [u32],
+    pub f: &'a mut [u64],
+    pub b: &'a mut [u64],
+    pub route: &'a mut [u16],
+    pub work: &'a mut [u32],
+}
+
+impl Lent<'_> {
+    fn lengths_are_good(&self, count: usize) -> bool {
+        let sheet = [self.d.len(), self.e.len(), self.f.len(), self.b.len(), self.route.len()];
+        sheet.iter().all(|&length| length == count) && self.work.len() == 4 * count
+    }
+
+    fn take(&mut self, sheet: &Sheet) {
+        self.d.copy_from_slice(&sheet.d);
+        self.e.copy_from_slice(&sheet.e);
+        self.f.copy_from_slice(&sheet.f);
+        self.b.copy_from_slice(&sheet.b);
+        self.route.copy_from_slice(&sheet.route);
+        self.work.fill(0);
+    }
+}
+
+#[derive(Clone, Copy, Debug, PartialEq, Eq)]
+pub struct PlanAnswer {
+    pub answer: u8,
+    pub cost: u64,
+    pub total: u64,
+    pub n: u64,
+}
+
+impl PlanAnswer {
+    fn refusal(answer: u8) -> PlanAnswer {
+        PlanAnswer { answer, cost: 0, total: 0, n: 0 }
+    }
+}
+
+/// The planner: answers 0 to 8, with what each leaves in the lent slices.
+pub fn plan(solver: &mut Solver, request: Request, mut lent: Lent) -> PlanAnswer {
+    if let Some(fault) = request.fault(&solver.floor) {
+        return PlanAnswer::refusal(fault);
+    }
+    if !lent.lengths_are_good(solver.floor.vertex_count()) {
+        return PlanAnswer::refusal(6);
+    }
+    let truth = solver.truth(request.neighbourhood, request.start as usize, request.goal as usize);
+    match &*truth {
+        Truth::Route { sheet, cost, total } => {
+            lent.take(sheet);
+            PlanAnswer { answer: 0, cost: *cost, total: *total, n: sheet.n }
+        }
+        Truth::NoRoute { sheet } => {
+            lent.take(sheet);
+            PlanAnswer::refusal(7)
+        }
+        Truth::TooMany { sheet } => {
+            lent.take(sheet);
+            PlanAnswer::refusal(8)
+        }
+    }
+}
+
+/// The slices handed to the checker.
+pub struct Handed<'a> {
+    pub d: &'a [u32],
+    pub e: &'a [u32],
+    pub f: &'a [u64],
+    pub b: &'a [u64],
+    pub route: &'a [u16],
+    pub n: u64,
+}
+
+impl Handed<'_> {
+    fn lengths_are_good(&self, count: usize) -> bool {
+        let lengths = [self.d.len(), self.e.len(), self.f.len(), self.b.len(), self.route.len()];
+        lengths.iter().all(|&length| length == count)
+    }
+
+    fn is(&self, sheet: &Sheet) -> bool {
+        self.n == sheet.n
+            && self.d == sheet.d
+            && self.e == sheet.e
+            && self.f == sheet.f
+            && self.b == sheet.b
+            && self.route == sheet.route
+    }
+}
+
+/// The checker: 1 to 6, then 0, 7 or 9.
+pub fn check(solver: &mut Solver, request: Request, handed: &Handed) -> u8 {
+    if let Some(fault) = request.fault(&solver.floor) {
+        return fault;
+    }
+    if !handed.lengths_are_good(solver.floor.vertex_count()) {
+        return 6;
+    }
+    let truth = solver.truth(request.neighbourhood, request.start as usize, request.goal as usize);
+    match &*truth {
+        Truth::Route { sheet, .. } if handed.is(sheet) => 0,
+        Truth::NoRoute { sheet } if handed.is(sheet) => 7,
+        _ => 9,
+    }
+}

@@ -1,0 +1,100 @@
+//! Line of sight by exact geometry: the segment is clipped against the open
+//! square of each blocked cell, with fractions for the parameters.
+
+use crate::floor::Floor;
+
+pub type Point = (i64, i64);
+
+/// num / den with den above 0.
+#[derive(Clone, Copy)]
+struct Fraction {
+    num: i128,
+    den: i128,
+}
+
+impl Fraction {
+    fn new(num: i128, den: i128) -> Fraction {
+        if den < 0 {
+            Fraction { num: -num, den: -den }
+        } else {
+            Fraction { num, den }
+        }
+    }
+
+    fn less(self, other: Fraction) -> bool {
+        self.num * other.den < other.num * self.den
+    }
+
+    fn min(self, other: Fraction) -> Fraction {
+        if self.less(other) { self } else { other }
+    }
+
+    fn max(self, other: Fraction) -> Fraction {
+        if self.less(other) { other } else { self }
+    }
+}
+
+/// The open interval of all t with low < start + t * delta < low + 1, for
+/// whole numbers start and low. Empty for delta 0: start is whole.
+fn strip_interval(start: i64, delta: i64, low: i64) -> Option<(Fraction, Fraction)> {
+    if delta == 0 {
+        return None;
+    }
+    let at_low = Fraction::new(i128::from(low - start), i128::from(delta));
+    let at_high = Fraction::new(i128::from(low + 1 - start), i128::from(delta));
+    Some((at_low.min(at_high), at_low.max(at_high)))
+}
+
+/// Whether the segment has a point inside the open square of cell (i, j).
+pub fn enters_cell(from: Point, to: Point, i: i64, j: i64) -> bool {
+    let (dx, dy) = (to.0 - from.0, to.1 - from.1);
+    let Some((x_low, x_high)) = strip_interval(from.0, dx, i) else { return false };
+    let Some((y_low, y_high)) = strip_interval(from.1, dy, j) else { return false };
+    let low = x_low.max(y_low).max(Fraction::new(0, 1));
+    let high = x_high.min(y_high).min(Fraction::new(1, 1));
+    low.less(high)
+}
+
+fn enters_blocked_cell(floor: &Floor, from: Point, to: Point) -> bool {
+    let columns = from.0.min(to.0)..from.0.max(to.0);
+    let mut rows = from.1.min(to.1)..from.1.max(to.1);
+    rows.any(|j| columns.clone().any(|i| floor.is_blocked(i, j) && enters_cell(from, to, i, j)))
+}
+
+/// Whether a unit step of a vertical segment has blocked cells on both sides.
+fn vertical_is_shut(floor: &Floor, x: i64, y0: i64, y1: i64) -> bool {
+    (y0.min(y1)..y0.max(y1)).any(|j| floor.is_blocked(x - 1, j) && floor.is_blocked(x, j))
+}
+
+/// Whether a unit step of a horizontal segment has blocked cells on both sides.
+fn horizontal_is_shut(floor: &Floor, y: i64, x0: i64, x1: i64) -> bool {
+    (x0.min(x1)..x0.max(x1)).any(|i| floor.is_blocked(i, y - 1) && floor.is_blocked(i, y))
+}
+
+/// Whether two points of a floor of good shape see each other.
+pub fn sees(floor: &Floor, from: Point, to: Point) -> bool {
+    if from.0 == to.0 {
+        !vertical_is_shut(floor, from.0, from.1, to.1)
+    } else if from.1 == to.1 {
+        !horizontal_is_shut(floor, from.1, from.0, to.0)
+    } else {
+        !enters_blocked_cell(floor, from, to)
+    }
+}
+
+/// Whether two vertices see each other; both are below the vertex count.
+pub fn vertices_see(floor: &Floor, from: usize, to: usize) -> bool {
+    sees(floor, floor.point(from), floor.point(to))
+}
+
+/// The sight question: a refusal 1, 2, 3 or 5, or yes or no.
+pub fn question(floor: &Floor, from: u64, to: u64) -> Result<bool, u8> {
+    if let Some(fault) = floor.shape_fault() {
+        return Err(fault);
+    }
+    let count = floor.vertex_count() as u64;
+    if from >= count || to >= count {
+        return Err(5);
+    }
+    Ok(vertices_see(floor, from as usize, to as usize))
+}

@@ -1,0 +1,393 @@
+//! Known answers: the worked floors of document 01 and the worked numbers of
+//! the source documents 000, 002 and 003, each with its place there.
+
+use crate::floor::Floor;
+use crate::natural::{binomial, Natural};
+use crate::sheet::{self, Handed, Lent, PlanAnswer, Request, Sheet, Solver, NO_WALK};
+use crate::{boundary, program, self_checks, sight, stream, thin};
+
+/// Counts what holds and prints what does not.
+pub struct Tally {
+    passed: u64,
+    failed: u64,
+}
+
+impl Tally {
+    pub fn holds(&mut self, name: &str, condition: bool) {
+        if condition {
+            self.passed += 1;
+        } else {
+            self.failed += 1;
+            println!("failed: {name}");
+        }
+    }
+
+    pub fn equal<T: PartialEq + std::fmt::Debug>(&mut self, name: &str, found: T, expected: T) {
+        if found != expected {
+            println!("{name}: found {found:?}, expected {expected:?}");
+        }
+        self.holds(name, found == expected);
+    }
+}
+
+/// Runs everything; whether all of it holds.
+pub fn run() -> bool {
+    let mut tally = Tally { passed: 0, failed: 0 };
+    small_floors(&mut tally);
+    small_sight(&mut tally);
+    large_totals(&mut tally);
+    totals_at_the_boundary(&mut tally);
+    bad_shapes(&mut tally);
+    source_000_numbers(&mut tally);
+    source_000_patterns(&mut tally);
+    source_002_sight(&mut tally);
+    source_003(&mut tally);
+    programs(&mut tally);
+    self_checks::run(&mut tally);
+    println!("{} passed, {} failed", tally.passed, tally.failed);
+    tally.failed == 0
+}
+
+/// What a plan answers and leaves, with the working slice.
+pub struct Planned {
+    pub answer: PlanAnswer,
+    pub sheet: Sheet,
+    pub work: Vec<u32>,
+}
+
+/// Plans with slices of the good length that hold 9 at each place.
+pub fn plan(floor: &Floor, neighbourhood: u64, start: u64, goal: u64) -> Planned {
+    let size = if floor.shape_fault().is_none() { floor.vertex_count() } else { 4 };
+    let (cost, count, point) = (vec![9; size], vec![9; size], vec![9; size]);
+    let mut s = Sheet { d: cost.clone(), e: cost, f: count.clone(), b: count, route: point, n: 0 };
+    let mut work = vec![9; 4 * size];
+    let lent =
+        Lent { d: &mut s.d, e: &mut s.e, f: &mut s.f, b: &mut s.b, route: &mut s.route, work: &mut work };
+    let mut solver = Solver::new(floor.clone());
+    let answer = sheet::plan(&mut solver, Request { neighbourhood, start, goal }, lent);
+    s.n = answer.n;
+    Planned { answer, sheet: s, work }
+}
+
+pub fn check(floor: &Floor, neighbourhood: u64, start: u64, goal: u64, s: &Sheet) -> u8 {
+    let handed = Handed { d: &s.d, e: &s.e, f: &s.f, b: &s.b, route: &s.route, n: s.n };
+    sheet::check(&mut Solver::new(floor.clone()), Request { neighbourhood, start, goal }, &handed)
+}
+
+impl Planned {
+    fn points(&self) -> &[u16] {
+        &self.sheet.route[..self.answer.n as usize]
+    }
+
+    fn traversal_count(&self, vertex: usize) -> Natural {
+        Natural::from_u64(self.sheet.f[vertex]).mul(&Natural::from_u64(self.sheet.b[vertex]))
+    }
+}
+
+fn route(cost: u64, total: u64, n: u64) -> PlanAnswer {
+    PlanAnswer { answer: 0, cost, total, n }
+}
+
+fn refusal(answer: u8) -> PlanAnswer {
+    PlanAnswer { answer, cost: 0, total: 0, n: 0 }
+}
+
+fn sheet_of(d: &[u32], e: &[u32], f: &[u64], b: &[u64], points: &[u16]) -> Sheet {
+    let mut route = points.to_vec();
+    route.resize(d.len(), 0);
+    Sheet { d: d.to_vec(), e: e.to_vec(), f: f.to_vec(), b: b.to_vec(), route, n: points.len() as u64 }
+}
+
+/// Document 01, "Floors worked by hand", a to h.
+fn small_floors(tally: &mut Tally) {
+    let a = plan(&Floor::open(1, 1), 8, 0, 3);
+    tally.equal("a", a.answer, route(577, 1, 2));
+    let sheet = sheet_of(&[0, 408, 408, 577], &[577, 408, 408, 0], &[1, 0, 0, 1], &[1, 0, 0, 1], &[0, 3]);
+    tally.equal("a sheet", a.sheet, sheet);
+    tally.equal("a work", a.work, vec![0; 16]);
+    let b = plan(&Floor::open(1, 1), 4, 0, 3);
+    tally.equal("b", b.answer, route(816, 2, 3));
+    let sheet = sheet_of(&[0, 408, 408, 816], &[816, 408, 408, 0], &[1, 1, 1, 2], &[2, 1, 1, 1], &[0, 1, 3]);
+    tally.equal("b sheet", b.sheet.clone(), sheet);
+    tally.equal("b kept", thin::kept_positions(&Floor::open(1, 1), b.points()), vec![0, 2]);
+    blocked_floors(tally);
+    let e = plan(&Floor::open(2, 1), 8, 0, 5);
+    tally.equal("e", e.answer, route(985, 2, 3));
+    tally.equal("e route", e.points(), &[0, 1, 5]);
+    tally.equal("e kept", thin::kept_positions(&Floor::open(2, 1), e.points()), vec![0, 2]);
+    let touching = Floor::new(2, 2, vec![1, 0, 0, 1]);
+    let g = plan(&touching, 8, 2, 6);
+    tally.equal("g", g.answer, route(1154, 1, 3));
+    tally.equal("g route", g.points(), &[2, 4, 6]);
+    tally.equal("g kept", thin::kept_positions(&touching, g.points()), vec![0, 2]);
+    let h = plan(&Floor::open(2, 2), 4, 0, 8);
+    tally.equal("h", h.answer, route(1632, 6, 5));
+    tally.equal("h traversal count", h.traversal_count(4), Natural::from_u64(4));
+    tally.equal("h route", h.points(), &[0, 1, 4, 5, 8]);
+}
+
+/// Document 01, c, d and f, and the sheets that they leave.
+fn blocked_floors(tally: &mut Tally) {
+    let blocked = Floor::new(1, 1, vec![1]);
+    let c = plan(&blocked, 8, 0, 3);
+    tally.equal("c", c.answer, refusal(7));
+    tally.equal("c sheet", c.sheet, sheet_of(&[0, NO_WALK, NO_WALK, NO_WALK], &[0; 4], &[0; 4], &[0; 4], &[]));
+    tally.equal("c work", c.work, vec![0; 16]);
+    let d = plan(&blocked, 8, 0, 0);
+    tally.equal("d", d.answer, route(0, 1, 1));
+    tally.equal("d route", d.points(), &[0]);
+    let half = Floor::new(2, 1, vec![0, 1]);
+    let f = plan(&half, 8, 0, 5);
+    tally.equal("f", f.answer, refusal(7));
+    let costs = [0, 408, NO_WALK, 408, 577, NO_WALK];
+    tally.equal("f sheet", f.sheet.clone(), sheet_of(&costs, &[0; 6], &[0; 6], &[0; 6], &[]));
+    tally.equal("f checked", check(&half, 8, 0, 5, &f.sheet), 7);
+}
+
+/// Document 01, i.
+fn small_sight(tally: &mut Tally) {
+    let mut entered = Vec::new();
+    for j in 0..2 {
+        for i in 0..3 {
+            if sight::enters_cell((0, 0), (3, 2), i, j) {
+                entered.push((i, j));
+            }
+        }
+    }
+    tally.equal("i", entered, vec![(0, 0), (1, 0), (1, 1), (2, 1)]);
+}
+
+/// Document 01, j and k.
+fn large_totals(tally: &mut Tally) {
+    let total = plan(&Floor::open(33, 34), 4, 0, 34 * 35 - 1).answer.total;
+    tally.equal("j 33x34", total, 14_226_520_737_620_288_370);
+    tally.equal("j 33x34 as a binomial", Natural::from_u64(total), binomial(67, 33));
+    let over = plan(&Floor::open(34, 34), 4, 0, 35 * 35 - 1);
+    tally.equal("j 34x34", over.answer, refusal(8));
+    let zero = |values: &[u64]| values.iter().all(|&x| x == 0);
+    let left = zero(&over.sheet.f) && zero(&over.sheet.b) && over.sheet.route.iter().all(|&v| v == 0);
+    tally.holds("j 34x34 leaves f, b and route 0", left);
+    tally.holds("j 34x34 leaves the working slice 0", over.work.iter().all(|&x| x == 0));
+    tally.equal("j 34x34 d", over.sheet.d[35 * 35 - 1], 68 * 408);
+    tally.equal("j 34x34 e", over.sheet.e[0], 68 * 408);
+    tally.equal("j 34x34 checked", check(&Floor::open(34, 34), 4, 0, 35 * 35 - 1, &over.sheet), 9);
+    let k = plan(&Floor::open(127, 127), 4, 0, 1);
+    tally.equal("k", k.answer, route(408, 1, 2));
+    tally.equal("k far distance", k.sheet.d[16_383], 254 * 408);
+    tally.holds("k far count", binomial(254, 127).to_u64().is_none());
+    tally.equal("k on the way", k.sheet.f.iter().filter(|&&count| count > 0).count(), 2);
+}
+
+/// Totals of 2^63, 2^64 - 1, 2^64 and above.
+fn totals_at_the_boundary(tally: &mut Tally) {
+    tally.equal("2^63", plan(&boundary::doubling(63), 4, 0, 64 * 64 - 1).answer.total, 1 << 63);
+    tally.equal("2^64", plan(&boundary::doubling(64), 4, 0, 65 * 65 - 1).answer, refusal(8));
+    let largest = boundary::product(14);
+    let answer = plan(&largest.floor, 4, largest.start, largest.goal).answer;
+    tally.equal("2^64 - 1", (answer.answer, answer.total), (0, u64::MAX));
+    let above = boundary::product(15);
+    tally.equal("above 2^64", plan(&above.floor, 4, above.start, above.goal).answer, refusal(8));
+}
+
+/// Document 01, l, and the order of the refusals.
+fn bad_shapes(tally: &mut Tally) {
+    for (width, height) in [(0, 1), (1, 0), (128, 1), (1, 128)] {
+        tally.equal("l sizes", plan(&Floor::open(width, height), 4, 0, 0).answer, refusal(1));
+    }
+    let short = Floor::new(2, 2, vec![0; 3]);
+    tally.equal("l short map", plan(&short, 4, 0, 0).answer, refusal(2));
+    let open = Floor::open(3, 2);
+    tally.equal("l end V - 1", plan(&open, 8, 0, 11).answer.answer, 0);
+    let refused = plan(&open, 8, 0, 12);
+    tally.equal("l end V", refused.answer, refusal(5));
+    tally.holds("l untouched", refused.sheet.d.iter().chain(&refused.work).all(|&x| x == 9));
+    tally.equal("byte above 1", plan(&Floor::new(1, 1, vec![2]), 5, 9, 9).answer, refusal(3));
+    tally.equal("neighbourhood before ends", plan(&open, 5, 12, 12).answer, refusal(4));
+    tally.equal("slice length", check(&open, 8, 0, 11, &Sheet::zeros(11)), 6);
+    tally.equal("thinning no list", thin::thin(&open, &[], &mut [], 0), (10, 0));
+    tally.equal("thinning other length", thin::thin(&open, &[0, 1], &mut [0], 2), (6, 0));
+    tally.equal("thinning one point", thin::thin(&open, &[5], &mut [7], 1), (0, 1));
+    tally.equal("sight refusals", sight::question(&open, 12, 0), Err(5));
+}
+
+/// Total of an open floor from its first vertex to its last.
+fn open_answer(width: u64, height: u64, neighbourhood: u64) -> PlanAnswer {
+    let floor = Floor::open(width, height);
+    plan(&floor, neighbourhood, 0, floor.vertex_count() as u64 - 1).answer
+}
+
+/// Numbers given in the text of document 000.
+fn source_000_numbers(tally: &mut Tally) {
+    // Section 2.3: "To get from [0; 0] to [6; 3] using the 8-neighborhood ... one
+    // needs three of each"; equation (8) then counts 6!/(3! 3!) = 20 orders.
+    tally.equal("000 2.3", open_answer(6, 3, 8), route(3 * 408 + 3 * 577, 20, 7));
+    // Section 3.1: "there are 70 shortest grid paths between the top of the triangle
+    // in Figure 5 and the vertex in the middle of the bottom row": row 8, middle.
+    tally.equal("000 3.1, neighbourhood 8", open_answer(8, 4, 8).total, 70);
+    tally.equal("000 3.1, neighbourhood 4", open_answer(4, 4, 4).total, 70);
+    // Section 3.2: lengths 408 and 577, whose quotient is close to the root of 2.
+    tally.holds("000 3.2", 577u64 * 577 == 2 * 408 * 408 + 1);
+    // Section 4.2, Figure 18: from [0; 0] to [64; 32] at a grid spacing of 32, then
+    // halved: s by s/2 moves. Section 4.2: n!/(k! (n - k)!) ways to [n; k].
+    let totals: [u64; 6] = [2, 6, 70, 12_870, 601_080_390, 1_832_624_140_942_590_534];
+    for (k, total) in totals.into_iter().enumerate() {
+        let side = 2 << k;
+        let cost = side / 2 * (408 + 577);
+        tally.equal("000 4.2, Figure 18", open_answer(side, side / 2, 8), route(cost, total, side + 1));
+        let formula = binomial(side as u32, side as u32 / 2);
+        tally.equal("000 4.2, the formula", formula.decimal(), total.to_string());
+    }
+}
+
+/// Patterns of counts described in document 000.
+fn source_000_patterns(tally: &mut Tally) {
+    pascal_rows(tally);
+    pascal_around_a_square(tally);
+    mirrored_counts(tally);
+}
+
+/// Section 3.1, Figure 5: the top rows of Pascal's triangle, down to the row with 70.
+fn pascal_rows(tally: &mut Tally) {
+    let floor = Floor::open(8, 8);
+    for n in 0..=8u32 {
+        for k in 0..=n {
+            let count = plan(&floor, 8, 0, u64::from(k * 9 + n)).answer.total;
+            tally.equal("000 3.1, rows, neighbourhood 8", Natural::from_u64(count), binomial(n, k));
+            let count = plan(&floor, 4, 0, u64::from(k * 9 + n - k)).answer.total;
+            tally.equal("000 3.1, rows, neighbourhood 4", Natural::from_u64(count), binomial(n, k));
+        }
+    }
+}
+
+/// Section 4.1, Figure 10: outward counts on an 8-neighbor grid form 8 copies of
+/// Pascal's triangle; equation (8) gives each. The same with 4 copies for 4.
+fn pascal_around_a_square(tally: &mut Tally) {
+    let floor = Floor::open(10, 10);
+    let mut solver = Solver::new(floor.clone());
+    let centre = floor.vertex(5, 5).unwrap();
+    for vertex in 0..floor.vertex_count() {
+        let (x, y) = floor.point(vertex);
+        let (dx, dy) = (x.abs_diff(5) as u32, y.abs_diff(5) as u32);
+        let mut total = |neighbourhood| match &*solver.truth(neighbourhood, centre, vertex) {
+            sheet::Truth::Route { total, .. } => Natural::from_u64(*total),
+            _ => Natural::zero(),
+        };
+        tally.equal("000 4.1, Figure 10", total(8), binomial(dx.max(dy), dx.min(dy)));
+        tally.equal("000 4.1, neighbourhood 4", total(4), binomial(dx + dy, dx));
+    }
+}
+
+/// Section 4.2: from A n!/(k! (n - k)!) ways to [n; k], from B the same with N - n
+/// and K - k; and Section 3.1, Figure 6d: the counts from B are those from A,
+/// flipped across both axes.
+fn mirrored_counts(tally: &mut Tally) {
+    let (width, height) = (16, 8);
+    let floor = Floor::open(width, height);
+    let last = floor.vertex_count() - 1;
+    let planned = plan(&floor, 8, 0, last as u64);
+    for vertex in 0..=last {
+        let (n, k) = floor.point(vertex);
+        let (n, k) = (n as u32, k as u32);
+        let on_the_way = k <= n && n - k <= 8;
+        let from_start = if on_the_way { binomial(n, k) } else { Natural::zero() };
+        let to_goal = if on_the_way { binomial(16 - n, 8 - k) } else { Natural::zero() };
+        tally.equal("000 4.2, from A", Natural::from_u64(planned.sheet.f[vertex]), from_start);
+        tally.equal("000 4.2, from B", Natural::from_u64(planned.sheet.b[vertex]), to_goal);
+        tally.equal("000 3.1, flipped", planned.sheet.b[vertex], planned.sheet.f[last - vertex]);
+    }
+    for (n, &vertex) in planned.points().iter().enumerate() {
+        let column = (0..=last).filter(|&v| floor.point(v).0 == n as i64);
+        let highest = column.map(|v| planned.traversal_count(v)).max();
+        tally.equal("000 3.1, Figure 6f", Some(planned.traversal_count(vertex.into())), highest);
+    }
+}
+
+/// Document 002, "Path planning problem and notation": not through the interior of
+/// blocked cells, not between blocked cells that share an edge, but between
+/// diagonally touching blocked cells.
+fn source_002_sight(tally: &mut Tally) {
+    let touching = Floor::new(2, 2, vec![1, 0, 0, 1]);
+    tally.holds("002 between touching cells", sight::sees(&touching, (2, 0), (0, 2)));
+    tally.holds("002 through the interior", !sight::sees(&touching, (0, 0), (2, 2)));
+    let wall = Floor::new(2, 3, vec![0, 0, 1, 1, 0, 0]);
+    tally.holds("002 between cells with a shared edge", !sight::sees(&wall, (1, 0), (1, 3)));
+    tally.holds("002 along one blocked cell", sight::sees(&touching, (1, 0), (1, 2)));
+    tally.holds("outside is blocked", !sight::sees(&touching, (0, 0), (0, 1)));
+    tally.holds("a vertex sees itself", sight::sees(&Floor::new(1, 1, vec![1]), (1, 1), (1, 1)));
+}
+
+/// Open rectangles given by corner and size, everything else blocked.
+fn carved(width: u64, height: u64, open: &[(u64, u64, u64, u64)]) -> Floor {
+    let mut floor = Floor::new(width, height, vec![1; (width * height) as usize]);
+    for &(left, top, columns, rows) in open {
+        for j in top..top + rows {
+            for i in left..left + columns {
+                floor.cells[(j * width + i) as usize] = 0;
+            }
+        }
+    }
+    floor
+}
+
+/// Document 003. Its figures are not in the text: the last two floors are made to
+/// have the numbers that the text gives.
+fn source_003(tally: &mut Tally) {
+    // "Pascal's Triangle": "exactly 6 shortest grid paths from the top cell of the
+    // triangle to that bottom middle cell", the fifth row.
+    tally.equal("003 six paths, neighbourhood 4", open_answer(2, 2, 4).total, 6);
+    tally.equal("003 six paths, neighbourhood 8", open_answer(4, 2, 8).total, 6);
+    // "The Ugly Path Problem": 400 shortest paths of 15 moves, 4 directions.
+    let squares = carved(9, 7, &[(0, 0, 3, 1), (3, 1, 3, 3), (6, 4, 3, 3)]);
+    let start = squares.vertex(0, 1).unwrap() as u64;
+    tally.equal("003 400 paths", plan(&squares, 4, start, 79).answer, route(15 * 408, 400, 16));
+    // "Pathfinding by Counting": 12 paths from A and 20 from B make 12 times 20 = 240.
+    let chain = carved(5, 8, &[(0, 0, 1, 2), (1, 2, 1, 3), (2, 5, 3, 3)]);
+    let planned = plan(&chain, 4, 0, 53);
+    let middle = chain.vertex(2, 5).unwrap();
+    tally.equal("003 12 from A", planned.sheet.f[middle], 12);
+    tally.equal("003 20 from B", planned.sheet.b[middle], 20);
+    tally.equal("003 240 paths", planned.traversal_count(middle), Natural::from_u64(240));
+}
+
+/// Document 01, "The program".
+fn programs(tally: &mut Tally) {
+    let example = "job 1: cost 816 routes 2 points 3 kept 2\nat 0 3\n";
+    let bytes = [0x4D, 0x50, 1, 1, 0, 0x4A, 0x42, 4, 0, 0, 3, 0];
+    tally.equal("program example", program::run(&bytes), example.to_string());
+    let expected = [
+        example,
+        "bad record at 0\n",
+        "",
+        "bad record at 0\n",
+        "bad record at 0\n",
+        &format!("{example}bad record at 12\n"),
+        &format!("{example}bad record at 12\n"),
+        "bad record at 0\n",
+        &format!("{example}bad record at 12\n"),
+        &format!("{example}bad record at 12\n"),
+        "bad record at 0\n",
+        "bad record at 0\n",
+        "bad record at 0\n",
+        "bad record at 0\n",
+        "job 1: cost 17887 routes 1 points 32 kept 2\nat 0 1023\njob 2: refused 5\n",
+        "job 1: refused 4\njob 2: refused 5\njob 3: refused 5\njob 4: cost 0 routes 1 points 1 kept 1\nat 2\n",
+    ];
+    let streams = stream::short_streams();
+    tally.equal("short streams", streams.len(), expected.len());
+    for (k, (bytes, text)) in streams.iter().zip(expected).enumerate() {
+        tally.equal(&format!("short stream {k}"), program::run(bytes), text.to_string());
+    }
+    long_program(tally);
+}
+
+fn long_program(tally: &mut Tally) {
+    let text = program::run(&stream::long_stream());
+    for refusal in [4, 5, 7, 8] {
+        let ending = format!("refused {refusal}");
+        tally.holds("long stream refusals", text.lines().any(|line| line.ends_with(&ending)));
+    }
+    let jobs = text.lines().filter(|line| line.starts_with("job ")).count();
+    tally.equal("long stream jobs", jobs, 1000);
+    let last = format!("bad record at {}", 4 + 31 * 31 + 1000 * 7);
+    tally.equal("long stream end", text.lines().last(), Some(last.as_str()));
+}
