@@ -1,0 +1,6 @@
+pub mod Table
+pub mod Signs
+pub mod Steps
+pub mod Masks
+pub mod Masked
+pub mod Classes

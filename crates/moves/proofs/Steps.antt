@@ -1,0 +1,241 @@
+-- The far end of a move: one coordinate, the spot, the vertex, and what an open move is.
+--
+--   shifted-at, shifted-is, -low, -high == one coordinate moved by an offset
+--   Goes f m x y w                      == move m goes from (x, y) to vertex w and is open
+--   open-goes, goes-open                == `openEndAt` says so
+--   open-if-seen, open-past-spot        == an open move by what its ends see; a move that leaves the floor is not open
+use Prim.Native.Nat.{ℕ, _+_, _-_, _≤_, _<_}
+use mathlib.Core.Path.{_≡_, refl, sym, ap, _∙_}
+use mathlib.Core.Bool.{Bool, true, false, _&&_, and-false}
+use mathlib.Core.Option.{Option, none, some}
+use native.Mathlib.Omega.{arith}
+use borrow.Author.Tests.{le-leb, lt-leb, leb-true}
+use lib.Dec.{leb}
+use lib.IntN.{ℤ}
+use Rattle.floor.specs.Floor.{Floor, number}
+use Rattle.floor.proofs.Numbers.{column-number, row-number}
+use Rattle.sight.specs.Sight.{segment, segmentOf, sees}
+use Rattle.moves.specs.declared.Move.{Move}
+use Rattle.moves.specs.declared.Place.the-variants.{Is, Past}
+use Rattle.moves.specs.declared.Spot.the-variants.{At, Outside}
+use Rattle.moves.specs.declared.Step.the-variants.{To, Off}
+use Rattle.moves.specs.Steps.{up, down, shifted, thenAt, farEndAt, openEndAt, stepOf}
+use Rattle.moves.specs.Table.{OnFloor, placeOf, spotOf}
+
+-- ---- one coordinate
+
+pub shifted-at : (n a b : ℕ) (d : ℤ) → b + down d ≡ a + up d → b ≤ n → shifted n a d ≡ some b
+unfolding shifted
+shifted-at n a b d e h =
+    let q : a + up d - down d ≡ b = omega arith in
+    rw (le-leb (down d) (a + up d) (omega arith), le-leb (a + up d) (n + down d) (omega arith), q, shifted)
+
+pub shifted-low : (n a : ℕ) (d : ℤ) → a + up d < down d → shifted n a d ≡ none
+unfolding shifted
+shifted-low n a d h = rw (lt-leb (down d) (a + up d) h, shifted)
+
+pub shifted-high : (n a : ℕ) (d : ℤ) → n + down d < a + up d → shifted n a d ≡ none
+unfolding shifted
+shifted-high n a d h = rw (lt-leb (a + up d) (n + down d) h, and-false (leb (down d) (a + up d)), shifted)
+
+pub record Shifted (n a b : ℕ) (d : ℤ) : Type 0 where
+  pub moved : b + down d ≡ a + up d
+  pub inside : b ≤ n
+
+never : {P : Type 0} {w : ℕ} → _≡_ {A = Option ℕ} none (some w) → P
+never {P} {w} e = let z : _≡_ {A = ℕ} 0 1 = cc in absurd (omega arith)
+
+some-is : {v w : ℕ} → _≡_ {A = Option ℕ} (some v) (some w) → v ≡ w
+some-is e = cc
+
+pub shifted-is : (n a b : ℕ) (d : ℤ) → shifted n a d ≡ some b → Shifted n a b d
+unfolding shifted
+shifted-is n a b d e = cases (leb (down d) (a + up d)) (leb (a + up d) (n + down d)) refl refl e
+  where
+    cases : (p q : Bool) → leb (down d) (a + up d) ≡ p → leb (a + up d) (n + down d) ≡ q
+        → _≡_ {A = Option ℕ} (elim (p && q) [ true ↦ some (a + up d - down d) | false ↦ none ]) (some b)
+        → Shifted n a b d
+    cases true true p q h =
+        let s : a + up d - down d ≡ b = some-is h in
+        let low = leb-true (down d) (a + up d) p in
+        let high = leb-true (a + up d) (n + down d) q in
+        record { moved = omega arith; inside = omega arith }
+    cases true false p q h = never h
+    cases false q p r h = never h
+
+-- What the code answers of one coordinate, and of both.
+module _ (n a : ℕ) (d : ℤ) where
+  pub place-low : a + up d < down d → Past ≡ placeOf (shifted n a d)
+  unfolding placeOf
+  place-low h = rw (shifted-low n a d h)
+
+  pub place-high : n + down d < a + up d → Past ≡ placeOf (shifted n a d)
+  unfolding placeOf
+  place-high h = rw (shifted-high n a d h)
+
+  pub place-is : down d ≤ a + up d → a + up d ≤ n + down d → Is (a + up d - down d) ≡ placeOf (shifted n a d)
+  unfolding placeOf
+  place-is l h = rw (shifted-at n a (a + up d - down d) d (omega arith) (omega arith))
+
+pub place-past : (o : Option ℕ) → placeOf o ≡ Past → o ≡ none
+unfolding placeOf
+place-past none e = refl
+place-past (some i) e = let z : _≡_ {A = ℕ} 0 1 = cc in absurd (omega arith)
+
+pub place-there : (o : Option ℕ) (i : ℕ) → placeOf o ≡ Is i → o ≡ some i
+unfolding placeOf
+place-there none i e = let z : _≡_ {A = ℕ} 0 1 = cc in absurd (omega arith)
+place-there (some k) i e = let z : k ≡ i = cc in ap some z
+
+pub spot-past-column : (a b : Option ℕ) → a ≡ none → Outside ≡ spotOf a b
+unfolding spotOf
+spot-past-column a b e = rw e
+
+pub spot-past-row : (a b : Option ℕ) → b ≡ none → Outside ≡ spotOf a b
+unfolding spotOf
+spot-past-row none b e = refl
+spot-past-row (some i) b e = rw e
+
+pub spot-at : (a b : Option ℕ) (i j : ℕ) → a ≡ some i → b ≡ some j → At i j ≡ spotOf a b
+unfolding spotOf
+spot-at a b i j p q = rw (p, q)
+
+-- ---- the vertex
+
+far-past : (w h x y : ℕ) (m : Move) → spotOf (shifted w x (m .dx)) (shifted h y (m .dy)) ≡ Outside
+    → farEndAt w h m x y ≡ none
+unfolding farEndAt spotOf thenAt
+far-past w h x y m e = cases (shifted w x (m .dx)) (shifted h y (m .dy)) e
+  where
+    cases : (a b : Option ℕ) → spotOf a b ≡ Outside → thenAt a (λ i. thenAt b (λ j. some (number w i j))) ≡ none
+    cases none b e = refl
+    cases (some i) none e = refl
+    cases (some i) (some j) e = let z : _≡_ {A = ℕ} 0 1 = cc in absurd (omega arith)
+
+-- Both coordinates of the spot where a move leads.
+pub record Reaches (w h : ℕ) (m : Move) (x y i j : ℕ) : Type 0 where
+  pub columns : shifted w x (m .dx) ≡ some i
+  pub rows : shifted h y (m .dy) ≡ some j
+
+pub spot-reaches : (w h x y i j : ℕ) (m : Move) → spotOf (shifted w x (m .dx)) (shifted h y (m .dy)) ≡ At i j
+    → Reaches w h m x y i j
+unfolding spotOf
+spot-reaches w h x y i j m e = cases (shifted w x (m .dx)) (shifted h y (m .dy)) refl refl e
+  where
+    cases : (a b : Option ℕ) → shifted w x (m .dx) ≡ a → shifted h y (m .dy) ≡ b → spotOf a b ≡ At i j
+        → Reaches w h m x y i j
+    cases none b p q e = let z : _≡_ {A = ℕ} 0 1 = cc in absurd (omega arith)
+    cases (some k) none p q e = let z : _≡_ {A = ℕ} 0 1 = cc in absurd (omega arith)
+    cases (some k) (some l) p q e =
+        let s : k ≡ i = cc in
+        let t : l ≡ j = cc in
+        record { columns = p ∙ ap some s; rows = q ∙ ap some t }
+
+pub reaches-on : {w h x y i j : ℕ} {m : Move} → OnFloor w h x y → Reaches w h m x y i j → OnFloor w h i j
+reaches-on {w} {h} {x} {y} {i} {j} {m} o r = record {
+  wide = o .wide;
+  high = o .high;
+  column = shifted-is w x i (m .dx) (r .columns) .inside;
+  row = shifted-is h y j (m .dy) (r .rows) .inside;
+}
+
+pub reaches-far : {w h x y i j : ℕ} {m : Move} → Reaches w h m x y i j → farEndAt w h m x y ≡ some (number w i j)
+unfolding farEndAt thenAt
+reaches-far {w} {h} {x} {y} {i} {j} {m} r = rw (r .columns, r .rows)
+
+pub step-off : (w h x y : ℕ) (m : Move) → spotOf (shifted w x (m .dx)) (shifted h y (m .dy)) ≡ Outside
+    → Off ≡ stepOf (farEndAt w h m x y)
+unfolding stepOf
+step-off w h x y m e = rw (far-past w h x y m e)
+
+pub step-to : {w h x y i j : ℕ} {m : Move} → Reaches w h m x y i j
+    → To (record { 0 = number w i j }) ≡ stepOf (farEndAt w h m x y)
+unfolding stepOf
+step-to r = rw (reaches-far r)
+
+-- ---- open moves
+
+abbrev pub whenSeen : Bool → ℕ → Option ℕ
+whenSeen b w = elim b [ true ↦ some w | false ↦ none ]
+
+module _ (f : Floor) (m : Move) (x y : ℕ) where
+  pub open-past-spot : spotOf (shifted (f .wide) x (m .dx)) (shifted (f .high) y (m .dy)) ≡ Outside
+      → openEndAt f m x y ≡ none
+  unfolding openEndAt thenAt
+  open-past-spot e = rw (far-past (f .wide) (f .high) x y m e)
+
+  module _ (i j : ℕ) (on : x ≤ f .wide) (r : Reaches (f .wide) (f .high) m x y i j) where
+    -- The segment by its two vertex numbers is the one by their columns and rows.
+    segment-is : segment (f .wide) (number (f .wide) x y) (number (f .wide) i j) ≡ segmentOf x y i j
+    unfolding segment
+    segment-is =
+        let h = shifted-is (f .wide) x i (m .dx) (r .columns) .inside in
+        rw (
+          column-number (f .wide) x y on,
+          row-number (f .wide) x y on,
+          column-number (f .wide) i j h,
+          row-number (f .wide) i j h,
+        )
+
+    pub open-if-seen : openEndAt f m x y ≡ whenSeen (sees f (segmentOf x y i j)) (number (f .wide) i j)
+    unfolding openEndAt thenAt
+    open-if-seen =
+        ap (λ o. thenAt o (λ w. whenSeen (sees f (segment (f .wide) (number (f .wide) x y) w)) w)) (reaches-far r)
+        ∙ ap (λ s. whenSeen (sees f s) (number (f .wide) i j)) segment-is
+
+-- What the code answers of an open move.
+module _ (f : Floor) (m : Move) (x y : ℕ) where
+  pub open-step-past : spotOf (shifted (f .wide) x (m .dx)) (shifted (f .high) y (m .dy)) ≡ Outside
+      → Off ≡ stepOf (openEndAt f m x y)
+  unfolding stepOf
+  open-step-past e = rw (open-past-spot f m x y e)
+
+  module _ (i j : ℕ) (on : x ≤ f .wide) (r : Reaches (f .wide) (f .high) m x y i j) where
+    pub open-step-shut : sees f (segmentOf x y i j) ≡ false → Off ≡ stepOf (openEndAt f m x y)
+    unfolding stepOf
+    open-step-shut e = rw (open-if-seen f m x y i j on r, e)
+
+    pub open-step-to : sees f (segmentOf x y i j) ≡ true
+        → To (record { 0 = number (f .wide) i j }) ≡ stepOf (openEndAt f m x y)
+    unfolding stepOf
+    open-step-to e = rw (open-if-seen f m x y i j on r, e)
+
+pub record Goes (f : Floor) (m : Move) (x y w : ℕ) : Type 0 where
+  pub i : ℕ
+  pub j : ℕ
+  pub columns : Shifted (f .wide) x i (m .dx)
+  pub rows : Shifted (f .high) y j (m .dy)
+  pub vertex : w ≡ number (f .wide) i j
+  pub seen : sees f (segmentOf x y i j) ≡ true
+
+module _ (f : Floor) (m : Move) (x y w : ℕ) (on : x ≤ f .wide) where
+  pub goes-open : Goes f m x y w → openEndAt f m x y ≡ some w
+  goes-open g =
+      let r : Reaches (f .wide) (f .high) m x y (g .i) (g .j) = record {
+        columns = shifted-at (f .wide) x (g .i) (m .dx) (g .columns .moved) (g .columns .inside);
+        rows = shifted-at (f .high) y (g .j) (m .dy) (g .rows .moved) (g .rows .inside);
+      } in
+      open-if-seen f m x y (g .i) (g .j) on r ∙ ap (λ b. whenSeen b (number (f .wide) (g .i) (g .j))) (g .seen)
+      ∙ ap some (sym (g .vertex))
+
+  pub open-goes : openEndAt f m x y ≡ some w → Goes f m x y w
+  open-goes e = spot (shifted (f .wide) x (m .dx)) (shifted (f .high) y (m .dy)) refl refl
+    where
+      seen : (i j : ℕ) → shifted (f .wide) x (m .dx) ≡ some i → shifted (f .high) y (m .dy) ≡ some j
+          → (b : Bool) → sees f (segmentOf x y i j) ≡ b → whenSeen b (number (f .wide) i j) ≡ some w → Goes f m x y w
+      seen i j p q true s h = record {
+        i = i;
+        j = j;
+        columns = shifted-is (f .wide) x i (m .dx) p;
+        rows = shifted-is (f .high) y j (m .dy) q;
+        vertex = sym (some-is h);
+        seen = s;
+      }
+      seen i j p q false s h = never h
+
+      spot : (a b : Option ℕ) → shifted (f .wide) x (m .dx) ≡ a → shifted (f .high) y (m .dy) ≡ b → Goes f m x y w
+      spot none b p q = never (sym (open-past-spot f m x y (sym (spot-past-column _ _ p))) ∙ e)
+      spot (some i) none p q = never (sym (open-past-spot f m x y (sym (spot-past-row _ _ q))) ∙ e)
+      spot (some i) (some j) p q =
+          seen i j p q (sees f (segmentOf x y i j)) refl
+          (sym (open-if-seen f m x y i j on (record { columns = p; rows = q })) ∙ e)

@@ -1,0 +1,21 @@
+-- `moves::row_at` meets its contract: the rows that pass the test are in the table. Assumes nothing.
+use mathlib.Core.Path.{refl}
+use native.Mathlib.Omega.{arith}
+use Rattle.moves.proofs.Table.{LawfulMove, lawful-move}
+use Rattle.moves.proofs.row_at.Statement.{statement}
+use Rattle.moves.proofs.row_at.Tie as tie
+
+lawful : (s : tie.Start) → LawfulMove (s .args .rows) (s .args .m)
+lawful s = lawful-move (s .args .rows) (s .args .m) (s .pre .0) (s .pre .1)
+
+mul-result : tie.Need-mul-result
+mul-result c = omega (arith, lawful (c .before) .in-table)
+
+add-result : tie.Need-add-result
+add-result c = omega (arith, lawful (c .before .before) .in-table)
+
+returns : tie.Need-returns
+returns c = (refl, lawful (c .before .before) .in-table)
+
+pub row-at-spec : {M : Type 1} → statement M
+row-at-spec = tie.close (tie.spec mul-result add-result returns)

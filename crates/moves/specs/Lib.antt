@@ -1,0 +1,5 @@
+pub mod Moves
+pub mod Steps
+pub mod Table
+pub mod Masks
+pub mod Classes

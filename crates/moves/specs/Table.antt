@@ -1,0 +1,89 @@
+-- The test of a neighbourhood's rows that gives the laws of its moves, and the parts of a step. Nobody has to believe
+-- these: the test is computed in proofs/, and the parts stand in contracts of private functions.
+--
+--   Listed r       == r are the rows of a neighbourhood
+--   lawfulRows r   == the rows are in the table; each costs 1 to 4,095, goes at most 2 columns and 2 rows, leads where
+--                     no other row leads, and has its opposite, half the rows on, at the same cost
+--   Short m        == move m goes at most 2 columns and 2 rows: what a step takes
+--   OnFloor ..     == the vertex (x, y) is on a floor whose sides are not refused
+--   partsOf d      == the signed offset d as how far up and how far down
+--   placeOf a      == one coordinate where it is there, as the code answers it
+--   spotOf a b     == the column a and the row b, where both are there
+use Prim.Native.Nat.{ℕ, _+_, _/_, _%_, _≤_}
+use mathlib.Core.Path.{_≡_}
+use mathlib.Core.Bool.{Bool, true, _&&_, not}
+use mathlib.Core.List.{List, [], _∷_}
+use mathlib.Core.Option.{Option, none, some}
+use lib.Dec.{leb, ltb, eqb}
+use lib.IntN.{ℤ, natAbs}
+use lib.ListN.{length, getD}
+use Rattle.basics.specs.Bounded.{every}
+use Rattle.moves.specs.declared.Move.{Move}
+use Rattle.moves.specs.declared.Rows.{Rows}
+use Rattle.moves.specs.declared.Neighbourhood.the-variants.{Known}
+use Rattle.moves.specs.declared.Offset.{Offset}
+use Rattle.moves.specs.declared.Place.{Place}
+use Rattle.moves.specs.declared.Place.the-variants.{Is, Past}
+use Rattle.moves.specs.declared.Spot.{Spot}
+use Rattle.moves.specs.declared.Spot.the-variants.{At, Outside}
+use Rattle.moves.specs.Moves.{moves, rowAt, moveAt, neighbourhoodOf}
+use Rattle.moves.specs.Steps.{up, down}
+
+pub record Listed (r : Rows) : Type 0 where
+  pub number : ℕ
+  pub known : neighbourhoodOf number ≡ Known r
+
+-- In a table in order of angle the opposite of a move stands half its length on.
+abbrev pub oppositeOf : Rows → ℕ → ℕ
+oppositeOf r m = (m + r .count / 2) % r .count
+
+-- The offset a is b turned round.
+unfoldable pub turned : ℤ → ℤ → Bool
+turned a b = eqb (up a) (down b) && eqb (down a) (up b)
+
+unfoldable pub sameOffset : ℤ → ℤ → Bool
+sameOffset a b = eqb (up a) (up b) && eqb (down a) (down b)
+
+pub record Short (m : Move) : Type 0 where
+  pub columns : natAbs (m .dx) ≤ 2
+  pub rows : natAbs (m .dy) ≤ 2
+
+-- What is tested of move m of the rows r.
+abbrev pub lawfulTests : Rows → ℕ → List Bool
+lawfulTests r m =
+    ltb (rowAt r m) (length moves)
+    ∷ leb 1 (moveAt r m .cost)
+    ∷ leb (moveAt r m .cost) 4095
+    ∷ leb (natAbs (moveAt r m .dx)) 2
+    ∷ leb (natAbs (moveAt r m .dy)) 2
+    ∷ eqb (moveAt r (oppositeOf r m) .cost) (moveAt r m .cost)
+    ∷ turned (moveAt r (oppositeOf r m) .dx) (moveAt r m .dx)
+    ∷ turned (moveAt r (oppositeOf r m) .dy) (moveAt r m .dy)
+    ∷ every m (λ n. not (sameOffset (moveAt r n .dx) (moveAt r m .dx) && sameOffset (moveAt r n .dy) (moveAt r m .dy)))
+    ∷ []
+
+abbrev pub lawfulRow : Rows → ℕ → Bool
+lawfulRow r m = every (length (lawfulTests r m)) (λ k. getD (lawfulTests r m) k true)
+
+unfoldable pub lawfulRows : Rows → Bool
+lawfulRows r = every (r .count) (lawfulRow r)
+
+-- ---- the parts of a step
+
+pub record OnFloor (w h x y : ℕ) : Type 0 where
+  pub wide : w ≤ 127
+  pub high : h ≤ 127
+  pub column : x ≤ w
+  pub row : y ≤ h
+
+abbrev pub partsOf : ℤ → Offset
+partsOf d = record { up = up d; down = down d }
+
+unfoldable pub placeOf : Option ℕ → Place
+placeOf none = Past
+placeOf (some a) = Is a
+
+unfoldable pub spotOf : Option ℕ → Option ℕ → Spot
+spotOf none b = Outside
+spotOf (some i) none = Outside
+spotOf (some i) (some j) = At i j

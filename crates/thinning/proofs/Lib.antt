@@ -1,0 +1,6 @@
+pub mod More
+pub mod Shapes
+pub mod Kept
+pub mod Answered
+pub mod Unread
+pub mod Recording

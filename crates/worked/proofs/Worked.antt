@@ -1,0 +1,183 @@
+-- The worked floors: each sheet passes the local test, which antt computes; the laws of paths make of that the true sheet.
+use Prim.Native.Nat.{ℕ, zero, suc, _+_, _*_, _<_, _^_}
+use mathlib.Core.Path.{_≡_, refl, sym, ap, ap₂, _∙_}
+use mathlib.Core.Bool.{Bool, true, false, _&&_}
+use mathlib.Core.List.{List, [], _∷_}
+use native.Mathlib.Omega.{arith}
+use borrow.Author.Tests.{ltb-true, eqb-true}
+use lib.Dec.{ltb, eqb}
+use lib.ListN.{length, getD}
+use Rattle.basics.specs.Bounded.{bounded-opened}
+use Rattle.basics.specs.Lists.{same, lists-opened}
+use Rattle.basics.proofs.Bools.{and-left, and-right}
+use Rattle.basics.proofs.Lists.{same-eq}
+use Rattle.floor.specs.Floor.{floor-opened}
+use Rattle.floor.specs.Refusals.{floorShape, endShape}
+use Rattle.sight.specs.Sight.{segmentOf, enters, sight-opened}
+use Rattle.moves.specs.Moves.{neighbourhoodOf}
+use Rattle.moves.specs.Steps.{steps-opened}
+use Rattle.moves.specs.Table.{lawfulRows}
+use Rattle.paths.specs.Graph.{Graph, Lawful}
+use Rattle.paths.specs.Distance.{distance, pathCount}
+use Rattle.paths.specs.Route.{route-opened, traversals}
+use Rattle.paths.specs.Sheet.{Sheet, TrueRoute, TrueNoRoute}
+use Rattle.paths.specs.Local.{Shaped, entry, localRoute, localNoRoute, local-opened}
+use Rattle.paths.proofs.SheetTest.{numbers-true, numbers-total, local-true, local-noRoute}
+use Rattle.paths.proofs.Sheets.{route-entries}
+use Rattle.grid.specs.Grid.{jobOf}
+use Rattle.grid.specs.declared.Job.the-variants.{Fit}
+use Rattle.grid.proofs.Lawful.{floor-lawful}
+use Rattle.grid.proofs.Jobs.{FitJob, job-fit}
+use Rattle.thinning.specs.Thinning.{keptPositions, thinning-opened}
+use Rattle.worked.specs.Floors.{
+  Case,
+  planOf,
+  graphOf,
+  routes,
+  noRoutes,
+  floorA,
+  floorB,
+  floorC,
+  floorD,
+  floorE,
+  floorF,
+  floorG,
+  floorH,
+  entered,
+  RouteHolds,
+  NoRouteHolds,
+  Each,
+  Worked,
+}
+
+-- ---- what is computed of a case
+
+-- Each slice of the sheet has a place for each vertex.
+unfoldable shaped : Case → Bool
+shaped c =
+    eqb (length (c .sheet .d)) (graphOf c .size)
+    && (eqb (length (c .sheet .e)) (graphOf c .size)
+    && (eqb (length (c .sheet .f)) (graphOf c .size)
+    && (eqb (length (c .sheet .b)) (graphOf c .size) && eqb (length (c .sheet .route)) (graphOf c .size))))
+
+unfoldable routeTest : Case → Bool
+routeTest c =
+    shaped c
+    && (localRoute (graphOf c) (c .start) (c .end) (c .sheet)
+    && (eqb (entry (c .sheet .d) (c .end)) (c .cost)
+    && (eqb (entry (c .sheet .f) (c .end)) (c .total)
+    && (ltb (entry (c .sheet .f) (c .end)) (2 ^ 64)
+    && same (keptPositions (planOf c) (c .sheet .route) (c .sheet .n)) (c .kept)))))
+
+unfoldable noRouteTest : Case → Bool
+noRouteTest c = shaped c && localNoRoute (graphOf c) (c .start) (c .end) (c .sheet)
+
+-- ---- and what follows
+
+shaped-true : (c : Case) → shaped c ≡ true → Shaped (graphOf c) (c .sheet)
+unfolding shaped
+shaped-true c t =
+    let v = graphOf c .size in
+    let t1 = and-right (eqb (length (c .sheet .d)) v) _ t in
+    let t2 = and-right (eqb (length (c .sheet .e)) v) _ t1 in
+    let t3 = and-right (eqb (length (c .sheet .f)) v) _ t2 in
+    record {
+      d = eqb-true (length (c .sheet .d)) v (and-left (eqb (length (c .sheet .d)) v) _ t);
+      e = eqb-true (length (c .sheet .e)) v (and-left (eqb (length (c .sheet .e)) v) _ t1);
+      f = eqb-true (length (c .sheet .f)) v (and-left (eqb (length (c .sheet .f)) v) _ t2);
+      b = eqb-true (length (c .sheet .b)) v (and-left (eqb (length (c .sheet .b)) v) _ t3);
+      route = eqb-true (length (c .sheet .route)) v (and-right (eqb (length (c .sheet .b)) v) _ t3);
+    }
+
+-- The shape of the case's job is good.
+abbrev Fits : Case → Type 0
+Fits c = jobOf (c .wide) (c .high) (c .map) (c .neighbourhood) (c .start) (c .end) ≡ Fit (c .rows)
+
+module _ (c : Case) (fit : Fits c) where
+  abbrev g : Graph
+  g = graphOf c
+
+  known : FitJob (c .wide) (c .high) (c .map) (c .neighbourhood) (c .start) (c .end) (c .rows)
+  known = job-fit (c .wide) (c .high) (c .map) (c .neighbourhood) (c .start) (c .end) (c .rows) fit
+
+  lawful : Lawful g
+  lawful = floor-lawful (planOf c) (c .rows) (known .lawful)
+
+  route-holds : routeTest c ≡ true → RouteHolds c
+  unfolding routeTest localRoute
+  route-holds t =
+      let k = known in
+      let s = c .sheet in
+      let t1 = and-right (shaped c) _ t in
+      let t2 = and-right (localRoute g (c .start) (c .end) s) _ t1 in
+      let t3 = and-right (eqb (entry (s .d) (c .end)) (c .cost)) _ t2 in
+      let t4 = and-right (eqb (entry (s .f) (c .end)) (c .total)) _ t3 in
+      let local = and-left (localRoute g (c .start) (c .end) s) _ t1 in
+      let numbers = numbers-true g lawful (c .start) (c .end) (k .start) (k .end) s (and-left _ _ local) in
+      let total = eqb-true (entry (s .f) (c .end)) (c .total) (and-left (eqb (entry (s .f) (c .end)) (c .total)) _ t3) in
+      let cost = eqb-true (entry (s .d) (c .end)) (c .cost) (and-left (eqb (entry (s .d) (c .end)) (c .cost)) _ t2) in
+      record {
+        shape = fit;
+        sheet = local-true g lawful (c .start) (c .end) (k .start) (k .end) s (shaped-true c (and-left (shaped c) _ t))
+            (ltb-true (entry (s .f) (c .end)) (2 ^ 64) (and-left (ltb (entry (s .f) (c .end)) (2 ^ 64)) _ t4)) local;
+        cost = sym (numbers .costs-from (c .end) (k .end)) ∙ cost;
+        total = sym (numbers-total g lawful (c .start) (c .end) (k .start) (k .end) s numbers) ∙ total;
+        kept = same-eq (keptPositions (planOf c) (s .route) (s .n)) (c .kept)
+            (and-right (ltb (entry (s .f) (c .end)) (2 ^ 64)) _ t4);
+      }
+
+  noRoute-holds : noRouteTest c ≡ true → NoRouteHolds c
+  unfolding noRouteTest
+  noRoute-holds t =
+      let k = known in
+      record {
+        shape = fit;
+        sheet = local-noRoute g lawful (c .start) (c .end) (k .start) (k .end) (c .sheet)
+            (shaped-true c (and-left (shaped c) _ t)) (and-right (shaped c) _ t);
+      }
+
+-- ---- the floors
+
+routes-true : Each RouteHolds routes
+unfolding jobOf floorShape endShape neighbourhoodOf shaped routeTest bounded-opened lists-opened floor-opened sight-opened
+    steps-opened route-opened local-opened thinning-opened
+routes-true =
+    (route-holds floorA refl refl,
+    (route-holds floorB refl refl,
+    (route-holds floorD refl refl,
+    (route-holds floorE refl refl, (route-holds floorG refl refl, (route-holds floorH refl refl, tt))))))
+
+noRoutes-true : Each NoRouteHolds noRoutes
+unfolding jobOf floorShape endShape neighbourhoodOf shaped noRouteTest bounded-opened lists-opened floor-opened sight-opened
+    steps-opened route-opened local-opened
+noRoutes-true = (noRoute-holds floorC refl refl, (noRoute-holds floorF refl refl, tt))
+
+-- h's vertex 4 has 2 walks from the start and 2 to the end.
+traversals-four : traversals (graphOf floorH) 0 8 4 ≡ 4
+unfolding traversals
+traversals-four =
+    let h = routes-true .1 .1 .1 .1 .1 .0 in
+    let E = route-entries (graphOf floorH) (lawful floorH (h .shape)) 0 8 (known floorH (h .shape) .start)
+    (known floorH (h .shape) .end) (floorH .sheet) (h .sheet) in
+    ap₂ _*_ (sym (E .f-at 4 (omega arith))) (sym (E .b-at 4 (omega arith)))
+
+cells-true : (i j : ℕ) → i < 3 → j < 2 → enters (segmentOf 0 0 3 2) i j ≡ getD entered (j * 3 + i) false
+unfolding sight-opened
+cells-true zero zero a b = refl
+cells-true zero (suc zero) a b = refl
+cells-true zero (suc (suc j)) a b = absurd (omega arith)
+cells-true (suc zero) zero a b = refl
+cells-true (suc zero) (suc zero) a b = refl
+cells-true (suc zero) (suc (suc j)) a b = absurd (omega arith)
+cells-true (suc (suc zero)) zero a b = refl
+cells-true (suc (suc zero)) (suc zero) a b = refl
+cells-true (suc (suc zero)) (suc (suc j)) a b = absurd (omega arith)
+cells-true (suc (suc (suc i))) j a b = absurd (omega arith)
+
+pub worked : Worked
+worked = record {
+  routes-hold = routes-true;
+  noRoutes-hold = noRoutes-true;
+  traversals-h = traversals-four;
+  cells-i = cells-true;
+}

@@ -1,0 +1,156 @@
+-- Document 01, "Floors worked by hand": the starred floors a to i, with the numbers that it gives.
+--
+--   Case             == a job, and a sheet for it
+--   routes           == floors a, b, d, e, g and h: the job, its true route sheet, the kept positions
+--   noRoutes         == floors c and f: the job and its true no-route sheet
+--   entered          == floor i: the cells of a 3 by 2 floor, row by row, that the segment from (0, 0) to (3, 2) enters
+--   RouteHolds c     == the job has a good shape, the sheet is its true route sheet, its cost and total are those of the
+--                       case, and thinning keeps the positions of the case
+--   NoRouteHolds c   == the job has a good shape and the sheet is its true no-route sheet
+--   Worked           == the statement: all of this holds
+use Prim.Native.Nat.{ℕ, _+_, _*_, _<_}
+use mathlib.Core.Path.{_≡_}
+use mathlib.Core.Bool.{Bool, true, false}
+use mathlib.Core.List.{List, [], _∷_}
+use lib.ListN.{length, getD}
+use Rattle.floor.specs.Floor.{Floor, floorOf}
+use Rattle.sight.specs.Sight.{segmentOf, enters}
+use Rattle.moves.specs.declared.Rows.{Rows}
+use Rattle.moves.specs.Moves.{rowsOf}
+use Rattle.paths.specs.Graph.{Graph}
+use Rattle.paths.specs.Distance.{unreachable, distance, pathCount}
+use Rattle.paths.specs.Route.{traversals}
+use Rattle.paths.specs.Sheet.{Sheet, TrueRoute, TrueNoRoute}
+use Rattle.grid.specs.Grid.{floorGraph, jobOf}
+use Rattle.grid.specs.declared.Job.the-variants.{Fit}
+use Rattle.thinning.specs.Thinning.{keptPositions}
+
+pub record Case : Type 0 where
+  pub wide : ℕ
+  pub high : ℕ
+  pub map : List ℕ
+  pub neighbourhood : ℕ
+  pub rows : Rows
+  pub start : ℕ
+  pub end : ℕ
+  pub sheet : Sheet
+  pub cost : ℕ
+  pub total : ℕ
+  pub kept : List ℕ
+
+abbrev pub planOf : Case → Floor
+planOf c = floorOf (c .wide) (c .high) (c .map)
+
+abbrev pub graphOf : Case → Graph
+graphOf c = floorGraph (planOf c) (c .rows)
+
+-- A case from its floor, neighbourhood and ends, its sheet, and cost, total and kept positions.
+abbrev pub job : ℕ → ℕ → List ℕ → ℕ → Rows → ℕ → ℕ → Sheet → ℕ → ℕ → List ℕ → Case
+job w h l nb r a b s c t k = record {
+  wide = w;
+  high = h;
+  map = l;
+  neighbourhood = nb;
+  rows = r;
+  start = a;
+  end = b;
+  sheet = s;
+  cost = c;
+  total = t;
+  kept = k;
+}
+
+abbrev pub sheetOf : List ℕ → List ℕ → List ℕ → List ℕ → List ℕ → ℕ → Sheet
+sheetOf d e f b route n = record { d = d; e = e; f = f; b = b; route = route; n = n }
+
+abbrev pub eight : Rows
+eight = rowsOf 0 1 8
+
+abbrev pub four : Rows
+four = rowsOf 0 2 4
+
+abbrev pub M : ℕ
+M = unreachable
+
+abbrev pub floorA : Case
+floorA =
+    job 1 1 (0 ∷ []) 8 eight 0 3
+    (sheetOf (0 ∷ 408 ∷ 408 ∷ 577 ∷ []) (577 ∷ 408 ∷ 408 ∷ 0 ∷ []) (1 ∷ 0 ∷ 0 ∷ 1 ∷ []) (1 ∷ 0 ∷ 0 ∷ 1 ∷ []) (0 ∷ 3 ∷ 0 ∷ 0 ∷ []) 2)
+    577 1 (0 ∷ 1 ∷ [])
+
+abbrev pub floorB : Case
+floorB =
+    job 1 1 (0 ∷ []) 4 four 0 3
+    (sheetOf (0 ∷ 408 ∷ 408 ∷ 816 ∷ []) (816 ∷ 408 ∷ 408 ∷ 0 ∷ []) (1 ∷ 1 ∷ 1 ∷ 2 ∷ []) (2 ∷ 1 ∷ 1 ∷ 1 ∷ []) (0 ∷ 1 ∷ 3 ∷ 0 ∷ []) 3)
+    816 2 (0 ∷ 2 ∷ [])
+
+abbrev pub floorC : Case
+floorC =
+    job 1 1 (1 ∷ []) 8 eight 0 3
+    (sheetOf (0 ∷ M ∷ M ∷ M ∷ []) (0 ∷ 0 ∷ 0 ∷ 0 ∷ []) (0 ∷ 0 ∷ 0 ∷ 0 ∷ []) (0 ∷ 0 ∷ 0 ∷ 0 ∷ []) (0 ∷ 0 ∷ 0 ∷ 0 ∷ []) 0)
+    0 0 []
+
+abbrev pub floorD : Case
+floorD =
+    job 1 1 (1 ∷ []) 8 eight 0 0
+    (sheetOf (0 ∷ M ∷ M ∷ M ∷ []) (0 ∷ M ∷ M ∷ M ∷ []) (1 ∷ 0 ∷ 0 ∷ 0 ∷ []) (1 ∷ 0 ∷ 0 ∷ 0 ∷ []) (0 ∷ 0 ∷ 0 ∷ 0 ∷ []) 1)
+    0 1 (0 ∷ [])
+
+abbrev pub floorE : Case
+floorE =
+    job 2 1 (0 ∷ 0 ∷ []) 8 eight 0 5
+    (sheetOf (0 ∷ 408 ∷ 816 ∷ 408 ∷ 577 ∷ 985 ∷ []) (985 ∷ 577 ∷ 408 ∷ 816 ∷ 408 ∷ 0 ∷ [])
+    (1 ∷ 1 ∷ 0 ∷ 0 ∷ 1 ∷ 2 ∷ []) (2 ∷ 1 ∷ 0 ∷ 0 ∷ 1 ∷ 1 ∷ []) (0 ∷ 1 ∷ 5 ∷ 0 ∷ 0 ∷ 0 ∷ []) 3)
+    985 2 (0 ∷ 2 ∷ [])
+
+abbrev pub floorF : Case
+floorF =
+    job 2 1 (0 ∷ 1 ∷ []) 8 eight 0 5
+    (sheetOf (0 ∷ 408 ∷ M ∷ 408 ∷ 577 ∷ M ∷ []) (0 ∷ 0 ∷ 0 ∷ 0 ∷ 0 ∷ 0 ∷ [])
+    (0 ∷ 0 ∷ 0 ∷ 0 ∷ 0 ∷ 0 ∷ []) (0 ∷ 0 ∷ 0 ∷ 0 ∷ 0 ∷ 0 ∷ []) (0 ∷ 0 ∷ 0 ∷ 0 ∷ 0 ∷ 0 ∷ []) 0)
+    0 0 []
+
+abbrev pub floorG : Case
+floorG =
+    job 2 2 (1 ∷ 0 ∷ 0 ∷ 1 ∷ []) 8 eight 2 6
+    (sheetOf (M ∷ 408 ∷ 0 ∷ 985 ∷ 577 ∷ 408 ∷ 1154 ∷ 985 ∷ M ∷ []) (M ∷ 985 ∷ 1154 ∷ 408 ∷ 577 ∷ 985 ∷ 0 ∷ 408 ∷ M ∷ [])
+    (0 ∷ 0 ∷ 1 ∷ 0 ∷ 1 ∷ 0 ∷ 1 ∷ 0 ∷ 0 ∷ []) (0 ∷ 0 ∷ 1 ∷ 0 ∷ 1 ∷ 0 ∷ 1 ∷ 0 ∷ 0 ∷ []) (2 ∷ 4 ∷ 6 ∷ 0 ∷ 0 ∷ 0 ∷ 0 ∷ 0 ∷ 0 ∷ []) 3)
+    1154 1 (0 ∷ 2 ∷ [])
+
+abbrev pub floorH : Case
+floorH =
+    job 2 2 (0 ∷ 0 ∷ 0 ∷ 0 ∷ []) 4 four 0 8
+    (sheetOf (0 ∷ 408 ∷ 816 ∷ 408 ∷ 816 ∷ 1224 ∷ 816 ∷ 1224 ∷ 1632 ∷ []) (1632 ∷ 1224 ∷ 816 ∷ 1224 ∷ 816 ∷ 408 ∷ 816 ∷ 408 ∷ 0 ∷ [])
+    (1 ∷ 1 ∷ 1 ∷ 1 ∷ 2 ∷ 3 ∷ 1 ∷ 3 ∷ 6 ∷ []) (6 ∷ 3 ∷ 1 ∷ 3 ∷ 2 ∷ 1 ∷ 1 ∷ 1 ∷ 1 ∷ []) (0 ∷ 1 ∷ 4 ∷ 5 ∷ 8 ∷ 0 ∷ 0 ∷ 0 ∷ 0 ∷ []) 5)
+    1632 6 (0 ∷ 4 ∷ [])
+
+abbrev pub routes : List Case
+routes = floorA ∷ floorB ∷ floorD ∷ floorE ∷ floorG ∷ floorH ∷ []
+
+abbrev pub noRoutes : List Case
+noRoutes = floorC ∷ floorF ∷ []
+
+abbrev pub entered : List Bool
+entered = true ∷ true ∷ false ∷ false ∷ true ∷ true ∷ []
+
+pub record RouteHolds (c : Case) : Type 0 where
+  pub shape : jobOf (c .wide) (c .high) (c .map) (c .neighbourhood) (c .start) (c .end) ≡ Fit (c .rows)
+  pub sheet : TrueRoute (graphOf c) (c .start) (c .end) (c .sheet)
+  pub cost : distance (graphOf c) (c .start) (c .end) ≡ c .cost
+  pub total : pathCount (graphOf c) (c .start) (c .end) ≡ c .total
+  pub kept : keptPositions (planOf c) (c .sheet .route) (c .sheet .n) ≡ c .kept
+
+pub record NoRouteHolds (c : Case) : Type 0 where
+  pub shape : jobOf (c .wide) (c .high) (c .map) (c .neighbourhood) (c .start) (c .end) ≡ Fit (c .rows)
+  pub sheet : TrueNoRoute (graphOf c) (c .start) (c .end) (c .sheet)
+
+-- Each of a list.
+abbrev pub Each : (Case → Type 0) → List Case → Type 0
+Each P [] = Unit {0}
+Each P (c ∷ l) = P c × Each P l
+
+pub record Worked : Type 0 where
+  pub routes-hold : Each RouteHolds routes
+  pub noRoutes-hold : Each NoRouteHolds noRoutes
+  pub traversals-h : traversals (graphOf floorH) 0 8 4 ≡ 4
+  pub cells-i : (i j : ℕ) → i < 3 → j < 2 → enters (segmentOf 0 0 3 2) i j ≡ getD entered (j * 3 + i) false
