@@ -1,3 +1,4 @@
 pub mod Numbers
 pub mod Cells
 pub mod Shapes
+pub mod Bytes

@@ -1,32 +1,25 @@
--- `floor::bytes_good` meets its contract: the bytes passed are all 0 or 1. Assumes nothing.
+-- `floor::bytes_good` meets its contract: the largest byte so far tells whether the bytes passed are all 0 or 1. Assumes nothing.
 use Prim.Native.Nat.{_-_}
-use mathlib.Core.Path.{refl, sym}
 use native.Mathlib.Omega.{arith}
-use borrow.Author.Tests.{le-leb, lt-leb}
 use borrow.Author.Needs.{needs}
-use lib.ListN.{length}
-use Rattle.basics.proofs.Bounded.{every-fails}
-use Rattle.basics.proofs.Scan.{Passed, passed-none, passed-more, passed-all}
-use Rattle.floor.specs.Refusals.{mapByte}
+use Rattle.floor.proofs.Bytes.{Largest, largest-none, largest-more, largest-done}
 use Rattle.floor.proofs.bytes_good.Statement.{statement}
 use Rattle.floor.proofs.bytes_good.Tie as tie
 
 abbrev Inv-loop : tie.InvT-loop
-Inv-loop map k₀ k = Passed (length map) k (mapByte map)
+Inv-loop map largest₀ k₀ k-end largest k = Largest map k-end k largest
 
 abbrev μ-loop : tie.MeasureT-loop
-μ-loop map k₀ k = length map - k
+μ-loop map largest₀ k₀ k-end largest k = k-end - k
 
 loop-holds : tie.Need-loop-holds Inv-loop μ-loop
-loop-holds c = passed-none _ _
+loop-holds c = largest-none _
 
-shared-slice-read-if1 : tie.Need-shared-slice-read-if1 Inv-loop μ-loop
-shared-slice-read-if1 c = search needs
+shared-slice-read-larger : tie.Need-shared-slice-read-larger Inv-loop μ-loop
+shared-slice-read-larger c = search needs
 
-returns : tie.Need-returns Inv-loop μ-loop
-returns c =
-    let s = c .before .before .before in
-    sym (every-fails (length (s .before .args .map .now)) (s .loop .k) (mapByte (s .before .args .map .now)) (omega arith) (lt-leb _ 1 (c .if1 .taken)))
+larger-requires : tie.Need-larger-requires Inv-loop μ-loop
+larger-requires c κs = search needs
 
 add-k : tie.Need-add-k Inv-loop μ-loop
 add-k c = search needs
@@ -35,12 +28,10 @@ loop-less : tie.Need-loop-less Inv-loop μ-loop
 loop-less c = search needs
 
 loop-again : tie.Need-loop-again Inv-loop μ-loop
-loop-again c =
-    let s = c .before .before .before in
-    passed-more (mapByte (s .before .args .map .now) (s .loop .k)) (s .loop .inv) (omega arith) refl (rw (le-leb _ 1 (c .if1 .left)))
+loop-again c = largest-more (c .larger .result) (c .before .before .before .loop .inv) (omega arith) (c .larger .ensures)
 
-returns-2 : tie.Need-returns-2 Inv-loop μ-loop
-returns-2 c = passed-all (c .before .loop .inv) (omega arith)
+returns : tie.Need-returns Inv-loop μ-loop
+returns c = largest-done (c .before .loop .inv) (omega arith)
 
 pub bytes-good-spec : {M : Type 1} → statement M
 bytes-good-spec =
@@ -49,9 +40,9 @@ bytes-good-spec =
     Inv-loop
     μ-loop
     loop-holds
-    shared-slice-read-if1
-    returns
+    shared-slice-read-larger
+    larger-requires
     add-k
     loop-less
     loop-again
-    returns-2)
+    returns)

@@ -1,0 +1,226 @@
+-- The tests that the checker runs say the same as `verdict`.
+--
+--   tests-numbers, numbers-tests == the tests of the costs and counts are `localNumbers`
+--   routeTest-local, noRouteTest-local == the tests of a whole sheet are `localRoute` and `localNoRoute`
+--   counts-fit                   == where they pass, the traversal counts fit 64 bits
+--   route-.., noRoute-..         == what the code finds in turn, said of `routeTest` and `noRouteTest`
+use Prim.Native.Nat.{ℕ, _^_, _<_}
+use mathlib.Core.Path.{_≡_, refl, sym, _∙_}
+use mathlib.Core.Bool.{Bool, true, false, _&&_, not}
+use mathlib.Core.List.{List}
+use native.Mathlib.Omega.{arith}
+use borrow.Author.Tests.{lt-ltb, le-ltb, eq-eqb, ne-eqb, not-false}
+use lib.Dec.{ltb, eqb}
+use Rattle.basics.proofs.Bools.{iff-eq, and-intro, and-left, and-right}
+use Rattle.basics.proofs.Bounded.{every-all, every-at}
+use Rattle.moves.specs.declared.Rows.{Rows}
+use Rattle.paths.specs.Graph.{Graph, Lawful}
+use Rattle.paths.specs.Distance.{unreachable}
+use Rattle.paths.specs.Sheet.{Sheet}
+use Rattle.paths.specs.Local.{rightCost, rightCosts, countAt, rightCounts, entry, localOn, localNumbers}
+use Rattle.paths.specs.Local.{localRoute, blankAt, localNoRoute}
+use Rattle.paths.proofs.SheetTest.{numbers-true, numbers-fit}
+use Rattle.checker.specs.Answer.{sheetOf}
+use Rattle.checker.specs.Tests.{countsTest, vertexTest, verticesTest, pointsTest, routeTest, noRouteTest}
+use Rattle.checker.specs.Tests.{Posed, FitCounts}
+use Rattle.checker.proofs.Chains.{fails, holds, fact-fails, fact-holds}
+
+-- ---- one vertex, and every vertex
+
+-- What `vertexTest` has of a vertex of a route sheet.
+record RightAt (g : Graph) (a b : ℕ) (s : Sheet) (v : ℕ) : Type 0 where
+  d : rightCost g a (entry (s .d)) v ≡ true
+  e : rightCost g b (entry (s .e)) v ≡ true
+  f : eqb (entry (s .f) v) (countAt g a (localOn b s) (entry (s .d)) (entry (s .f)) v) ≡ true
+  b-is : eqb (entry (s .b) v) (countAt g b (localOn b s) (entry (s .e)) (entry (s .b)) v) ≡ true
+
+module _ (g : Graph) (a b : ℕ) (s : Sheet) where
+  right-at : (v : ℕ) → vertexTest true g a b s v ≡ true → RightAt g a b s v
+  unfolding vertexTest countsTest
+  right-at v t =
+      let d = rightCost g a (entry (s .d)) v in
+      let e = rightCost g b (entry (s .e)) v in
+      let f = eqb (entry (s .f) v) (countAt g a (localOn b s) (entry (s .d)) (entry (s .f)) v) in
+      let t1 = and-right d _ t in
+      let t2 = and-right e _ t1 in
+      record { d = and-left d _ t; e = and-left e _ t1; f = and-left f _ t2; b-is = and-right f _ t2 }
+
+  at-right : (v : ℕ) → RightAt g a b s v → vertexTest true g a b s v ≡ true
+  unfolding vertexTest countsTest
+  at-right v r = and-intro _ _ (r .d) (and-intro _ _ (r .e) (and-intro _ _ (r .f) (r .b-is)))
+
+  -- ---- the costs and counts of a route sheet
+
+  pub tests-numbers : ltb (entry (s .d) b) unreachable ≡ true → eqb (entry (s .d) a) 0 ≡ true → eqb
+      (entry (s .e) b) 0 ≡ true
+      → verticesTest true g a b s ≡ true → localNumbers g a b s ≡ true
+  unfolding verticesTest localNumbers rightCosts rightCounts
+  tests-numbers reached start end all =
+      let at : (v : ℕ) → v < g .size → RightAt g a b s v
+      = λ v i. right-at v (every-at (g .size) (vertexTest true g a b s) all v i) in
+      and-intro _ _ (and-intro _ _ start (every-all (g .size) _ (λ v i. at v i .d)))
+      (and-intro _ _ reached
+      (and-intro _ _ (and-intro _ _ end (every-all (g .size) _ (λ v i. at v i .e)))
+      (and-intro _ _ (every-all (g .size) _ (λ v i. at v i .f)) (every-all (g .size) _ (λ v i. at v i .b-is)))))
+
+  -- The parts of `localNumbers`.
+  record Numbers : Type 0 where
+    reached : ltb (entry (s .d) b) unreachable ≡ true
+    start : eqb (entry (s .d) a) 0 ≡ true
+    end : eqb (entry (s .e) b) 0 ≡ true
+    all : verticesTest true g a b s ≡ true
+
+  numbers-tests : localNumbers g a b s ≡ true → Numbers
+  unfolding verticesTest localNumbers rightCosts rightCounts
+  numbers-tests t =
+      let D = rightCosts g a (entry (s .d)) in
+      let E = rightCosts g b (entry (s .e)) in
+      let F = rightCounts g a (localOn b s) (entry (s .d)) (entry (s .f)) in
+      let B = rightCounts g b (localOn b s) (entry (s .e)) (entry (s .b)) in
+      let near = ltb (entry (s .d) b) unreachable in
+      let t1 = and-right D (near && (E && (F && B))) t in
+      let t2 = and-right near (E && (F && B)) t1 in
+      let t3 = and-right E (F && B) t2 in
+      let dd = and-left D (near && (E && (F && B))) t in
+      let ee = and-left E (F && B) t2 in
+      record {
+        reached = and-left near (E && (F && B)) t1;
+        start = and-left (eqb (entry (s .d) a) 0) _ dd;
+        end = and-left (eqb (entry (s .e) b) 0) _ ee;
+        all = every-all (g .size) (vertexTest true g a b s) (λ v i. at-right v (record {
+          d = every-at (g .size) _ (and-right (eqb (entry (s .d) a) 0) _ dd) v i;
+          e = every-at (g .size) _ (and-right (eqb (entry (s .e) b) 0) _ ee) v i;
+          f = every-at (g .size) _ (and-left F B t3) v i;
+          b-is = every-at (g .size) _ (and-right F B t3) v i;
+        }));
+      }
+
+  -- ---- whole sheets
+
+  pub routeTest-local : routeTest g a b s ≡ localRoute g a b s
+  unfolding routeTest localRoute pointsTest
+  routeTest-local = iff-eq (routeTest g a b s) (localRoute g a b s) there back
+    where
+      there : routeTest g a b s ≡ true → localRoute g a b s ≡ true
+      there t =
+          let near = ltb (entry (s .d) b) unreachable in
+          let t1 = and-right near _ t in
+          let t2 = and-right (eqb (entry (s .d) a) 0) _ t1 in
+          let t3 = and-right (eqb (entry (s .e) b) 0) _ t2 in
+          and-intro _ _
+          (tests-numbers (and-left near _ t) (and-left (eqb (entry (s .d) a) 0) _ t1)
+          (and-left (eqb (entry (s .e) b) 0) _ t2)
+          (and-left (verticesTest true g a b s) _ t3))
+          (and-right (verticesTest true g a b s) _ t3)
+
+      back : localRoute g a b s ≡ true → routeTest g a b s ≡ true
+      back t =
+          let n = numbers-tests (and-left (localNumbers g a b s) _ t) in
+          and-intro _ _ (n .reached) (and-intro _ _ (n .start) (and-intro _ _ (n .end)
+          (and-intro _ _ (n .all) (and-right (localNumbers g a b s) _ t))))
+
+  pub noRouteTest-local : noRouteTest g a b s ≡ localNoRoute g a b s
+  unfolding noRouteTest localNoRoute rightCosts verticesTest vertexTest
+  noRouteTest-local = iff-eq (noRouteTest g a b s) (localNoRoute g a b s) there back
+    where
+      d : ℕ → Bool
+      d v = rightCost g a (entry (s .d)) v
+
+      end : Bool
+      end = eqb (entry (s .d) b) unreachable
+
+      none : Bool
+      none = eqb (s .n) 0
+
+      start : Bool
+      start = eqb (entry (s .d) a) 0
+
+      there : noRouteTest g a b s ≡ true → localNoRoute g a b s ≡ true
+      there t =
+          let t1 = and-right end _ t in
+          let t2 = and-right none _ t1 in
+          let all = every-at (g .size) (vertexTest false g a b s) (and-right start _ t2) in
+          and-intro _ _ (and-intro _ _ (and-left start _ t2)
+          (every-all (g .size) d (λ v i. and-left (d v) _ (all v i))))
+          (and-intro _ _ (and-left end _ t) (and-intro _ _ (and-left none _ t1)
+          (every-all (g .size) (blankAt s) (λ v i. and-right (d v) _ (all v i)))))
+
+      back : localNoRoute g a b s ≡ true → noRouteTest g a b s ≡ true
+      back t =
+          let t1 = and-right (rightCosts g a (entry (s .d))) _ t in
+          let t2 = and-right end _ t1 in
+          let c = and-left (rightCosts g a (entry (s .d))) _ t in
+          and-intro _ _ (and-left end _ t1) (and-intro _ _ (and-left none _ t2) (and-intro _ _ (and-left start _ c)
+          (every-all (g .size) (vertexTest false g a b s) (λ v i.
+          and-intro _ _ (every-at (g .size) d (and-right start _ c) v i)
+          (every-at (g .size) (blankAt s) (and-right none _ t2) v i)))))
+
+  -- ---- what the code finds in turn
+
+  pub route-unreached : entry (s .d) b ≡ unreachable → false ≡ routeTest g a b s
+  unfolding routeTest
+  route-unreached e = fact-fails _ (le-ltb (entry (s .d) b) unreachable (omega arith))
+
+  module _ (near : entry (s .d) b < unreachable) where
+    pub route-start : (entry (s .d) a ≡ 0 → ⊥) → false ≡ routeTest g a b s
+    unfolding routeTest
+    route-start ne = fact-holds (lt-ltb _ _ near) (fact-fails _ (ne-eqb _ _ ne))
+
+    module _ (start : entry (s .d) a ≡ 0) where
+      pub route-end : (entry (s .e) b ≡ 0 → ⊥) → false ≡ routeTest g a b s
+      unfolding routeTest
+      route-end ne = fact-holds (lt-ltb _ _ near) (fact-holds (eq-eqb _ _ start) (fact-fails _ (ne-eqb _ _ ne)))
+
+      module _ (end : entry (s .e) b ≡ 0) {k : Bool} (all : k ≡ verticesTest true g a b s) where
+        pub route-vertices : not k ≡ true → false ≡ routeTest g a b s
+        unfolding routeTest
+        route-vertices f =
+            fact-holds (lt-ltb _ _ near) (fact-holds (eq-eqb _ _ start) (fact-holds (eq-eqb _ _ end) (fails all _ f)))
+
+        module _ (f : not k ≡ false) where
+          pub route-points : {p : Bool} → p ≡ pointsTest g a b s → p ≡ routeTest g a b s
+          unfolding routeTest
+          route-points q =
+              fact-holds (lt-ltb _ _ near) (fact-holds (eq-eqb _ _ start)
+              (fact-holds (eq-eqb _ _ end) (holds all f q)))
+
+          pub counts-fit : Lawful g → a < g .size → b < g .size → entry (s .f) b < 2 ^ 64 → FitCounts (g .size) (s .f)
+              (s .b)
+          counts-fit L in-a in-b total =
+              let t = tests-numbers (lt-ltb _ _ near) (eq-eqb _ _ start) (eq-eqb _ _ end) (sym all ∙ not-false k f) in
+              let N = numbers-true g L a b in-a in-b s t in
+              record { fit = λ v i. omega (arith, numbers-fit g L a b in-a in-b s N v i) }
+
+  pub noRoute-reached : (entry (s .d) b ≡ unreachable → ⊥) → false ≡ noRouteTest g a b s
+  unfolding noRouteTest
+  noRoute-reached ne = fact-fails _ (ne-eqb _ _ ne)
+
+  module _ (far : entry (s .d) b ≡ unreachable) where
+    pub noRoute-counted : (s .n ≡ 0 → ⊥) → false ≡ noRouteTest g a b s
+    unfolding noRouteTest
+    noRoute-counted ne = fact-holds (eq-eqb _ _ far) (fact-fails _ (ne-eqb _ _ ne))
+
+    module _ (none : s .n ≡ 0) where
+      pub noRoute-start : (entry (s .d) a ≡ 0 → ⊥) → false ≡ noRouteTest g a b s
+      unfolding noRouteTest
+      noRoute-start ne = fact-holds (eq-eqb _ _ far) (fact-holds (eq-eqb _ _ none) (fact-fails _ (ne-eqb _ _ ne)))
+
+      pub noRoute-vertices : entry (s .d) a ≡ 0 → {p : Bool} → p ≡ verticesTest false g a b s
+          → p ≡ noRouteTest g a b s
+      unfolding noRouteTest
+      noRoute-vertices start q =
+          fact-holds (eq-eqb _ _ far) (fact-holds (eq-eqb _ _ none) (fact-holds (eq-eqb _ _ start) q))
+
+-- The tests of the vertices do not look at the point count.
+module _ (d e f back route : List ℕ) (n : ℕ) where
+  pub vertices-uncounted : (j : Bool) (g : Graph) (a b : ℕ)
+      → verticesTest j g a b (sheetOf d e f back route 0) ≡ verticesTest j g a b (sheetOf d e f back route n)
+  unfolding verticesTest vertexTest countsTest localOn blankAt
+  vertices-uncounted j g a b = refl
+
+  pub posed-uncounted : {w h : ℕ} {l : List ℕ} {r : Rows} {a b : ℕ} → Posed w h l r a b (sheetOf d e f back route n)
+      → Posed w h l r a b (sheetOf d e f back route 0)
+  posed-uncounted p = record {
+    job = p .job;
+    shape = record { d = p .shape .d; e = p .shape .e; f = p .shape .f; b = p .shape .b; route = p .shape .route };
+  }

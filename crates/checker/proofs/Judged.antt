@@ -1,0 +1,93 @@
+-- What the checker finds of a whole job in turn, said of `judged`.
+use Prim.Native.Nat.{ℕ, _^_, _<_}
+use mathlib.Core.Path.{_≡_, sym, _∙_}
+use mathlib.Core.Bool.{Bool, true, false, _&&_, not}
+use mathlib.Core.List.{List}
+use borrow.Author.Tests.{eqb-true, not-true, not-false}
+use lib.Dec.{eqb}
+use lib.ListN.{length}
+use Rattle.basics.specs.Bounded.{pick}
+use Rattle.basics.proofs.Bools.{and-left, and-right}
+use Rattle.floor.specs.Floor.{floorOf, vertices}
+use Rattle.floor.specs.declared.Refusal.the-variants.{SliceLength, FalseSheet}
+use Rattle.moves.specs.declared.Rows.{Rows}
+use Rattle.moves.proofs.Table.{listed-lawful}
+use Rattle.paths.specs.Graph.{Graph}
+use Rattle.paths.specs.Sheet.{Sheet}
+use Rattle.paths.specs.Local.{entry, Shaped}
+use Rattle.grid.specs.Grid.{floorGraph}
+use Rattle.grid.specs.declared.Job.the-variants.{Fit}
+use Rattle.grid.proofs.Jobs.{FitJob}
+use Rattle.grid.proofs.Lawful.{floor-lawful}
+use Rattle.checker.specs.declared.Checked.the-variants.{Route, NoRoute, Refused}
+use Rattle.checker.specs.Answer.{sheetOf, sheetSized, judged}
+use Rattle.checker.specs.Tests.{routeTest, noRouteTest, Fitting, Posed}
+use Rattle.checker.proofs.Verdict.{verdict-tests}
+
+pub fit-fitting : {w h : ℕ} {l : List ℕ} {nb a b : ℕ} {r : Rows} → FitJob w h l nb a b r → Fitting w h l r a b
+fit-fitting j = record { floor = j .floor .sized; listed = j .listed; start = j .start; end = j .end }
+
+-- The slices of a sheet that passes the test of their lengths.
+pub sized-shaped : (g : Graph) (s : Sheet) → sheetSized (g .size) s ≡ true → Shaped g s
+unfolding sheetSized
+sized-shaped g s t =
+    let n = g .size in
+    let D = eqb (length (s .d)) n in
+    let E = eqb (length (s .e)) n in
+    let F = eqb (length (s .f)) n in
+    let B = eqb (length (s .b)) n in
+    let R = eqb (length (s .route)) n in
+    let t1 = and-left (D && E && F && B) R t in
+    let t2 = and-left (D && E && F) B t1 in
+    let t3 = and-left (D && E) F t2 in
+    record {
+      d = eqb-true (length (s .d)) n (and-left D E t3);
+      e = eqb-true (length (s .e)) n (and-right D E t3);
+      f = eqb-true (length (s .f)) n (and-right (D && E) F t2);
+      b = eqb-true (length (s .b)) n (and-right (D && E && F) B t1);
+      route = eqb-true (length (s .route)) n (and-right (D && E && F && B) R t);
+    }
+
+module _ (w h : ℕ) (l : List ℕ) (r : Rows) (a b : ℕ) (d e f back route : List ℕ) (n : ℕ) (v : ℕ)
+    (count : v ≡ vertices w h) {k : Bool}
+    (sized : k ≡ sheetSized v (sheetOf d e f back route 0)) where
+  abbrev s : Sheet
+  s = sheetOf d e f back route n
+
+  abbrev g : Graph
+  g = floorGraph (floorOf w h l) r
+
+  -- The test of the lengths does not look at the point count.
+  sized-is : k ≡ sheetSized (vertices w h) s
+  unfolding sheetSized
+  sized-is = rw count at sized
+
+  pub judged-unsized : not k ≡ true → Refused SliceLength ≡ judged w h l a b s (Fit r)
+  judged-unsized f = rw (sym sized-is ∙ not-true k f)
+
+  module _ (good : not k ≡ false) where
+    fits : sheetSized (vertices w h) s ≡ true
+    fits = sym sized-is ∙ not-false k good
+
+    module _ (job : Fitting w h l r a b) where
+      pub judged-posed : Posed w h l r a b s
+      judged-posed = record { job = job; shape = sized-shaped g s fits }
+
+      module _ (total : entry f b < 2 ^ 64) {p : Bool} (route-is : p ≡ routeTest g a b s) where
+        is-verdict : judged w h l a b s (Fit r) ≡ pick p Route
+            (pick (noRouteTest g a b s) NoRoute (Refused FalseSheet))
+        is-verdict =
+            rw (fits, route-is)
+            (verdict-tests g a b s (floor-lawful (floorOf w h l) r (listed-lawful (job .listed))) (job .start)
+            (job .end)
+            (sized-shaped g s fits) total)
+
+        pub judged-route : p ≡ true → Route ≡ judged w h l a b s (Fit r)
+        judged-route e = sym (is-verdict ∙ rw e)
+
+        module _ (no : p ≡ false) {q : Bool} (none-is : q ≡ noRouteTest g a b s) where
+          pub judged-noRoute : q ≡ true → NoRoute ≡ judged w h l a b s (Fit r)
+          judged-noRoute e = sym (is-verdict ∙ rw (no, sym none-is, e))
+
+          pub judged-false : q ≡ false → Refused FalseSheet ≡ judged w h l a b s (Fit r)
+          judged-false e = sym (is-verdict ∙ rw (no, sym none-is, e))

@@ -1,0 +1,136 @@
+-- `checker::is_route` meets its contract, test by test; once costs and counts are right the products of counts fit 64
+-- bits. Assumes nothing.
+use Prim.Native.Nat.{ℕ, _<_}
+use mathlib.Core.Path.{_≡_, sym, _∙_, subst}
+use mathlib.Core.Bool.{true}
+use native.Mathlib.Omega.{arith}
+use Rattle.floor.specs.Floor.{floorOf}
+use Rattle.moves.proofs.Table.{listed-lawful}
+use Rattle.paths.specs.Graph.{Graph}
+use Rattle.paths.specs.Distance.{unreachable}
+use Rattle.paths.specs.Sheet.{Sheet}
+use Rattle.paths.specs.Local.{entry}
+use Rattle.grid.specs.Grid.{floorGraph}
+use Rattle.grid.proofs.Lawful.{floor-lawful}
+use Rattle.checker.specs.Answer.{sheetOf}
+use Rattle.checker.specs.Tests.{verticesTest, FitCounts}
+use Rattle.checker.proofs.Exact.{route-unreached, route-start, route-end}
+use Rattle.checker.proofs.Exact.{route-vertices, route-points, counts-fit}
+use Rattle.checker.proofs.Exact.{vertices-uncounted, posed-uncounted}
+use borrow.Author.Needs.{needs}
+use Rattle.checker.proofs.is_route.Statement.{statement}
+use Rattle.checker.proofs.is_route.Tie as tie
+
+abbrev sheet : tie.Start → Sheet
+sheet s = sheetOf (s .args .d .now) (s .args .e .now) (s .args .f .now) (s .args .back .now) (s .args .route .now)
+    (s .args .n)
+
+abbrev graph : tie.Start → Graph
+graph s = floorGraph (floorOf (s .args .w) (s .args .h) (s .args .map .now)) (s .args .rows)
+
+abbrev start : tie.Else1 → tie.Start
+start c = c .before .before .before .before .before .before .before .before
+
+near : (c : tie.Else1) → entry (start c .args .d .now) (start c .args .b) < unreachable
+near c = omega (arith, c .before .shared-slice-known7 .given (start c .args .b))
+
+abbrev first : tie.After-vertices-right → tie.Else1
+first c = c .before .before .before .before .before
+
+vertices : (c : tie.After-vertices-right)
+    → let s = start (first c) in c .vertices-right .result ≡ verticesTest true (graph s) (s .args .a) (s .args .b)
+    (sheet s)
+vertices c =
+    let a = start (first c) .args in
+    c .vertices-right .ensures
+    ∙ vertices-uncounted (a .d .now) (a .e .now) (a .f .now) (a .back .now) (a .route .now) (a .n) true
+    (graph (start (first c))) (a .a) (a .b)
+
+mul-if1 : tie.Need-mul-if1
+mul-if1 c = search needs
+
+shared-slice-read-if1 : tie.Need-shared-slice-read-if1
+shared-slice-read-if1 c = search needs
+
+returns : tie.Need-returns
+returns c =
+    let s = c .before .before .before .before .before .before .before .before in
+    route-unreached (graph s) (s .args .a) (s .args .b) (sheet s) (c .if1 .taken)
+
+mul-if2 : tie.Need-mul-if2
+mul-if2 c = search needs
+
+shared-slice-read-if2 : tie.Need-shared-slice-read-if2
+shared-slice-read-if2 c = search needs
+
+returns-2 : tie.Need-returns-2
+returns-2 c =
+    let k = c .before .before in
+    let s = start k in
+    route-start (graph s) (s .args .a) (s .args .b) (sheet s) (near k) (c .if2 .taken)
+
+mul-if3 : tie.Need-mul-if3
+mul-if3 c = search needs
+
+shared-slice-read-if3 : tie.Need-shared-slice-read-if3
+shared-slice-read-if3 c = search needs
+
+returns-3 : tie.Need-returns-3
+returns-3 c =
+    let k = c .before .before .before .before in
+    let s = start k in
+    route-end (graph s) (s .args .a) (s .args .b) (sheet s) (near k) (c .before .before .if2 .left) (c .if3 .taken)
+
+vertices-right-requires : tie.Need-vertices-right-requires
+vertices-right-requires c κs =
+    let s = start (c .before .before .before .before) in
+    posed-uncounted (s .args .d .now) (s .args .e .now) (s .args .f .now) (s .args .back .now) (s .args .route .now)
+    (s .args .n) (s .pre)
+
+returns-4 : tie.Need-returns-4
+returns-4 c =
+    let v = c .before in
+    let s = start (first v) in
+    route-vertices (graph s) (s .args .a) (s .args .b) (sheet s) (near (first v))
+    (v .before .before .before .if2 .left) (v .before .if3 .left)
+    (vertices v) (c .if4 .taken)
+
+route-right-requires : tie.Need-route-right-requires
+route-right-requires c κs =
+    let v = c .before in
+    let s = start (first v) in (
+      s .pre,
+      subst (λ (n : ℕ). FitCounts n (s .args .f .now) (s .args .back .now)) (sym (s .pre .shape .d))
+          (counts-fit (graph s) (s .args .a) (s .args .b) (sheet s) (near (first v)) (v .before .before .before .if2 .left)
+          (v .before .if3 .left)
+          (vertices v) (c .if4 .left) (floor-lawful (floorOf (s .args .w) (s .args .h) (s .args .map .now)) (s .args .rows)
+          (listed-lawful (s .pre .job .listed)))
+          (s .pre .job .start) (s .pre .job .end) (omega
+          (arith, first v .before .before .before .before .shared-slice-known4 .given (s .args .b)))),
+    )
+
+returns-5 : tie.Need-returns-5
+returns-5 c =
+    let v = c .before .before in
+    let s = start (first v) in
+    route-points (graph s) (s .args .a) (s .args .b) (sheet s) (near (first v)) (v .before .before .before .if2 .left)
+    (v .before .if3 .left)
+    (vertices v) (c .before .if4 .left) (c .route-right .ensures)
+
+pub is-route-spec : {M : Type 1} → statement M
+is-route-spec =
+    tie.close
+    (tie.spec
+    mul-if1
+    shared-slice-read-if1
+    returns
+    mul-if2
+    shared-slice-read-if2
+    returns-2
+    mul-if3
+    shared-slice-read-if3
+    returns-3
+    vertices-right-requires
+    returns-4
+    route-right-requires
+    returns-5)

@@ -1,0 +1,51 @@
+-- Document 01, "The checker uses 1 to 6 and then .. 0 .. exactly when n and every slice are the true route sheet, 7 ..
+-- exactly when they are the true no-route sheet, and 9 .. for every other sheet".
+--
+--   sheetOf d e f b r n  == the sheet with these slices and this point count
+--   verdict g a b s      == the answer to the sheet s of the job from a to b on graph g
+--   sheetSized v s       == refusal 6 does not apply: each slice of the sheet s has v places
+--   judged ..            == the answer to a sheet, by the shape of its job
+--   checkAnswer ..       == the answer for every input
+--   checkNumber r        == document 01's number of an answer
+use Prim.Native.Nat.{ℕ}
+use mathlib.Core.Bool.{Bool, _&&_, not}
+use mathlib.Core.List.{List}
+use lib.Dec.{eqb}
+use lib.ListN.{length}
+use Rattle.basics.specs.Bounded.{pick}
+use Rattle.floor.specs.Floor.{floorOf, vertices}
+use Rattle.floor.specs.Refusals.{refusalNumber}
+use Rattle.floor.specs.declared.Refusal.the-variants.{SliceLength, FalseSheet}
+use Rattle.paths.specs.Graph.{Graph}
+use Rattle.paths.specs.Sheet.{Sheet, joined, fits, routeSheet, noRouteSheet, sameSheet}
+use Rattle.grid.specs.Grid.{floorGraph, jobOf}
+use Rattle.grid.specs.declared.Job.{Job}
+use Rattle.grid.specs.declared.Job.the-variants.{Fit, Unfit}
+use Rattle.checker.specs.declared.Checked.{Checked}
+use Rattle.checker.specs.declared.Checked.the-variants.{Route, NoRoute, Refused}
+
+abbrev pub sheetOf : List ℕ → List ℕ → List ℕ → List ℕ → List ℕ → ℕ → Sheet
+sheetOf d e f b r n = record { d = d; e = e; f = f; b = b; route = r; n = n }
+
+unfoldable pub verdict : Graph → ℕ → ℕ → Sheet → Checked
+verdict g a b s =
+    pick (joined g a b && (fits g a b && sameSheet s (routeSheet g a b))) Route
+    (pick (not (joined g a b) && sameSheet s (noRouteSheet g a)) NoRoute (Refused FalseSheet))
+
+unfoldable pub sheetSized : ℕ → Sheet → Bool
+sheetSized v s =
+    eqb (length (s .d)) v && eqb (length (s .e)) v && eqb (length (s .f)) v && eqb (length (s .b)) v
+    && eqb (length (s .route)) v
+
+abbrev pub judged : ℕ → ℕ → List ℕ → ℕ → ℕ → Sheet → Job → Checked
+judged w h map a b s (Fit rows) =
+    pick (sheetSized (vertices w h) s) (verdict (floorGraph (floorOf w h map) rows) a b s) (Refused SliceLength)
+judged w h map a b s (Unfit r) = Refused r
+
+unfoldable pub checkAnswer : ℕ → ℕ → List ℕ → ℕ → ℕ → ℕ → Sheet → Checked
+checkAnswer w h map nb a b s = judged w h map a b s (jobOf w h map nb a b)
+
+abbrev pub checkNumber : Checked → ℕ
+checkNumber Route = 0
+checkNumber NoRoute = 7
+checkNumber (Refused r) = refusalNumber r

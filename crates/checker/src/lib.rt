@@ -1,0 +1,176 @@
+// The checker: accepts exactly the true sheets, with no memory to write in. `back` is document 01's slice b.
+mod route; // route.rt: the test of the route
+mod vertices; // vertices.rt: the tests of costs and counts
+
+ghost use mathlib.Core.Path.{_≡_};
+ghost use Rattle.floor.specs.Floor.{floorOf};
+ghost use Rattle.grid.specs.Grid.{floorGraph};
+ghost use Rattle.grid.specs.declared.Job.the-variants.{Fit};
+ghost use Rattle.checker.specs.Answer.{sheetOf, sheetSized, judged, checkAnswer, checkNumber};
+ghost use Rattle.checker.specs.Tests.{routeTest, noRouteTest, Fitting, Posed};
+use floor::Refusal;
+use grid::Job;
+use moves::Rows;
+
+// The answer: the sheet is the true route sheet, the true no-route sheet, or refused.
+pub enum Checked {
+    Route,
+    NoRoute,
+    Refused(Refusal),
+}
+
+// Document 01's number of an answer.
+pub fn check_number(c: Checked) -> u8
+    ensures { λ r. ⌜ r ≡ checkNumber c ⌝ }
+{
+    match c {
+        Checked::Route => 0,
+        Checked::NoRoute => 7,
+        Checked::Refused(r) => floor::refusal_number(r),
+    }
+}
+
+// The sheet is the true route sheet.
+fn is_route(
+    w: usize,
+    h: usize,
+    map: &[u8],
+    rows: Rows,
+    a: usize,
+    b: usize,
+    d: &[u32],
+    e: &[u32],
+    f: &[u64],
+    back: &[u64],
+    route: &[u16],
+    n: usize,
+) -> bool
+    requires { ⌜ Posed w h (now map) rows a b (sheetOf (now d) (now e) (now f) (now back) (now route) n) ⌝ }
+    ensures { λ r. ⌜ r ≡ routeTest (floorGraph (floorOf w h (now (map .entry))) rows) a b
+        (sheetOf (now (d .entry)) (now (e .entry)) (now (f .entry)) (now (back .entry)) (now (route .entry)) n) ⌝ }
+{
+    if d[b] == 4294967295 {
+        return false;
+    }
+    if d[a] != 0 {
+        return false;
+    }
+    if e[b] != 0 {
+        return false;
+    }
+    if !vertices::vertices_right(w, h, map, rows, true, a, b, d, e, f, back, route) {
+        return false;
+    }
+    route::route_right(w, h, map, rows, a, b, d, e, f, back, route, n)
+}
+
+// The sheet is the true no-route sheet.
+fn is_no_route(
+    w: usize,
+    h: usize,
+    map: &[u8],
+    rows: Rows,
+    a: usize,
+    b: usize,
+    d: &[u32],
+    e: &[u32],
+    f: &[u64],
+    back: &[u64],
+    route: &[u16],
+    n: usize,
+) -> bool
+    requires { ⌜ Posed w h (now map) rows a b (sheetOf (now d) (now e) (now f) (now back) (now route) n) ⌝ }
+    ensures { λ r. ⌜ r ≡ noRouteTest (floorGraph (floorOf w h (now (map .entry))) rows) a b
+        (sheetOf (now (d .entry)) (now (e .entry)) (now (f .entry)) (now (back .entry)) (now (route .entry)) n) ⌝ }
+{
+    if d[b] != 4294967295 {
+        return false;
+    }
+    if n != 0 {
+        return false;
+    }
+    if d[a] != 0 {
+        return false;
+    }
+    vertices::vertices_right(w, h, map, rows, false, a, b, d, e, f, back, route)
+}
+
+// Refusal 6 does not apply: each slice of the sheet has v places.
+fn sheet_sized(v: usize, d: &[u32], e: &[u32], f: &[u64], back: &[u64], route: &[u16]) -> bool
+    ensures { λ r. ⌜ r ≡ sheetSized v
+        (sheetOf (now (d .entry)) (now (e .entry)) (now (f .entry)) (now (back .entry)) (now (route .entry)) 0) ⌝ }
+{
+    if d.len() != v {
+        return false;
+    }
+    if e.len() != v {
+        return false;
+    }
+    if f.len() != v {
+        return false;
+    }
+    if back.len() != v {
+        return false;
+    }
+    route.len() == v
+}
+
+// The answer to a job whose floor, neighbourhood and ends have a good shape.
+fn judge(
+    w: usize,
+    h: usize,
+    map: &[u8],
+    rows: Rows,
+    a: usize,
+    b: usize,
+    d: &[u32],
+    e: &[u32],
+    f: &[u64],
+    back: &[u64],
+    route: &[u16],
+    n: usize,
+) -> Checked
+    requires { ⌜ Fitting w h (now map) rows a b ⌝ }
+    ensures { λ r. ⌜ r ≡ judged w h (now (map .entry)) a b
+        (sheetOf (now (d .entry)) (now (e .entry)) (now (f .entry)) (now (back .entry)) (now (route .entry)) n)
+        (Fit rows) ⌝ }
+{
+    let v = floor::vertex_count(w, h);
+    if !sheet_sized(v, d, e, f, back, route) {
+        return Checked::Refused(Refusal::SliceLength);
+    }
+    if is_route(w, h, map, rows, a, b, d, e, f, back, route, n) {
+        return Checked::Route;
+    }
+    if is_no_route(w, h, map, rows, a, b, d, e, f, back, route, n) {
+        return Checked::NoRoute;
+    }
+    Checked::Refused(Refusal::FalseSheet)
+}
+
+// Checks a sheet that any planner filled, for the job from a to b on the floor of width w and height h with the
+// neighbourhood of number nb: the slices d, e, f, b and the route, and its point count n. Nothing is required of any of
+// them, and nothing is written.
+pub fn check(
+    w: usize,
+    h: usize,
+    map: &[u8],
+    nb: usize,
+    a: usize,
+    b: usize,
+    d: &[u32],
+    e: &[u32],
+    f: &[u64],
+    back: &[u64],
+    route: &[u16],
+    n: usize,
+) -> Checked
+    ensures { λ r. ⌜ r ≡ checkAnswer w h (now (map .entry)) nb a b
+        (sheetOf (now (d .entry)) (now (e .entry)) (now (f .entry)) (now (back .entry)) (now (route .entry)) n) ⌝ }
+{
+    let job = grid::job_of(w, h, map, nb, a, b);
+    match job {
+        Job::Fit(rows) => judge(w, h, map, rows, a, b, d, e, f, back, route, n),
+        Job::Unfit(r) => Checked::Refused(r),
+    }
+}

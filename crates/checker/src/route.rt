@@ -1,0 +1,103 @@
+// The test of the route: one walk of its points.
+ghost use mathlib.Core.Path.{_≡_};
+ghost use Prim.Native.Nat.{_<_};
+ghost use lib.ListN.{length};
+ghost use Rattle.floor.specs.Floor.{floorOf};
+ghost use Rattle.moves.specs.declared.Rows.{Rows};
+ghost use Rattle.grid.specs.Grid.{floorGraph};
+ghost use Rattle.checker.specs.Answer.{sheetOf};
+ghost use Rattle.checker.specs.Tests.{pointTest, pointsTest, Posed, FitCounts, Routing};
+use floor::Vertex;
+use moves::Rows;
+use moves::Step;
+use neighbours::Reach;
+
+// A route's point as an index.
+fn point(x: u16) -> usize
+    ensures { λ r. ⌜ r ≡ x ⌝ }
+{
+    x as usize
+}
+
+// Place i of a route of n points is right: b is the last point, each other is followed by its next vertex, and past the
+// n points stands 0.
+fn point_right(
+    w: usize,
+    h: usize,
+    map: &[u8],
+    t: Reach,
+    b: usize,
+    d: &[u32],
+    e: &[u32],
+    f: &[u64],
+    back: &[u64],
+    route: &[u16],
+    n: usize,
+    i: usize,
+) -> bool
+    requires { ⌜ ((q : Rows) × Routing w h (now map) q t b
+        (sheetOf (now d) (now e) (now f) (now back) (now route) n)) × (i < length (now route)) ⌝ }
+    ensures { λ r. ⌜ ((q : Rows) → Routing w h (now (map .entry)) q t b
+        (sheetOf (now (d .entry)) (now (e .entry)) (now (f .entry)) (now (back .entry)) (now (route .entry)) n)
+        → r ≡ pointTest (floorGraph (floorOf w h (now (map .entry))) q) b
+        (sheetOf (now (d .entry)) (now (e .entry)) (now (f .entry)) (now (back .entry)) (now (route .entry)) n) i) ⌝ }
+{
+    let at = point(route[i]);
+    if n <= i {
+        return at == 0;
+    }
+    if d.len() <= at {
+        return false;
+    }
+    if at == b {
+        return i + 1 == n;
+    }
+    if n <= i + 1 {
+        return false;
+    }
+    let x = floor::column_of(w, Vertex(at));
+    let y = floor::row_of(w, h, Vertex(at));
+    let mask = moves::open_moves(w, h, map, x, y);
+    let Step::To(u) = neighbours::next_at(t, mask, d, e, f, back, b, at) else {
+        return false;
+    };
+    u.0 == point(route[i + 1])
+}
+
+// The route and its point count are right.
+pub fn route_right(
+    w: usize,
+    h: usize,
+    map: &[u8],
+    rows: Rows,
+    a: usize,
+    b: usize,
+    d: &[u32],
+    e: &[u32],
+    f: &[u64],
+    back: &[u64],
+    route: &[u16],
+    n: usize,
+) -> bool
+    requires { ⌜ Posed w h (now map) rows a b
+        (sheetOf (now d) (now e) (now f) (now back) (now route) n) × FitCounts (length (now d)) (now f) (now back) ⌝ }
+    ensures { λ r. ⌜ r ≡ pointsTest (floorGraph (floorOf w h (now (map .entry))) rows) a b
+        (sheetOf (now (d .entry)) (now (e .entry)) (now (f .entry)) (now (back .entry)) (now (route .entry)) n) ⌝ }
+{
+    if n < 1 {
+        return false;
+    }
+    if route.len() < n {
+        return false;
+    }
+    if point(route[0]) != a {
+        return false;
+    }
+    let t = neighbours::reach_of(w, rows);
+    for i in 0..route.len() {
+        if !point_right(w, h, map, t, b, d, e, f, back, route, n, i) {
+            return false;
+        }
+    }
+    true
+}

@@ -1,0 +1,198 @@
+-- One turn of a counting pass: the vertex gets its count, since the cheaper vertices on the way have theirs.
+--
+--   count-zero, count-one, count-sum == what the code answers for a vertex off the way, for the start, and for any other
+--   Counted g s x i P f   == the vertices of the first i turns have their counts from s, and off the way stands 0
+--   counted-none          == so it is at the start
+--   count-right           == the count that the code works out for the next vertex is its count
+--   counted-more          == so it is one turn on
+--   count-over            == a count above 64 bits: so is the total
+--   counted-all           == after the last turn f holds the counts
+--   Turning ..            == what holds at turn i of a pass, on whatever graph its data are of
+--   turn-start, turn-more, turn-over, turn-end == so it is at the start and one turn on; what it says where a count does
+--                            not fit, and at the end
+--   turn-len              == the slice keeps its length
+use Prim.Native.Nat.{ℕ, suc, _+_, _^_, _≤_, _<_}
+use mathlib.Core.Path.{_≡_, sym, ap, _∙_, subst}
+use mathlib.Core.Logic.{⊎-elim}
+use mathlib.Core.Bool.{Bool, true, false, true≢false}
+use mathlib.Core.List.{List}
+use native.Mathlib.Omega.{arith}
+use lib.ListN.{length, set, length-set, length-replicate}
+use lib.Seq.{getD-set-same, getD-set-other}
+use Rattle.basics.specs.Lists.{tabulate, zeros}
+use Rattle.basics.proofs.Order.{le-or-lt, eq-or-ne}
+use Rattle.basics.proofs.Bools.{true-or-false}
+use Rattle.basics.proofs.Lists.{tabulate-of}
+use Rattle.paths.specs.Graph.{Graph}
+use Rattle.paths.specs.Distance.{distance, pathCount}
+use Rattle.paths.specs.Route.{onShortest, onWay, countFrom}
+use Rattle.paths.specs.Local.{inflow, countAt, entry}
+use Rattle.paths.proofs.More.{getD-zeros}
+use Rattle.paths.proofs.Counts.{pathCount-self}
+use Rattle.paths.proofs.Way.{countFrom-way, countFrom-off, countFrom-fits}
+use Rattle.paths.proofs.CountTest.{Closed, closed-same, way-closed, countAt-start, countAt-other, countAt-off, count-next}
+use Rattle.neighbours.specs.declared.Reach.{Reach}
+use Rattle.neighbours.specs.declared.Sum.{Sum}
+use Rattle.neighbours.specs.declared.Sum.the-variants.{Is, Over}
+use Rattle.neighbours.specs.Reach.{star, sumOf}
+use Rattle.neighbours.proofs.Agree.{countAt-agrees}
+use Rattle.neighbours.proofs.Sums.{sumOf-fits, sumOf-is, sumOf-passes}
+use Rattle.distances.specs.Order.{maskAt}
+use Rattle.counts.specs.Passes.{turnOf, countOf, Known, Passed}
+use Rattle.counts.proofs.Sequence.{d-at, d-len, on-at, agrees, turn-inside, turn-found, turn-before}
+
+-- ---- the count of one vertex
+
+module _ (t : Reach) (mask s x : ℕ) (d e f : List ℕ) (u : ℕ) where
+  abbrev star-here : Graph
+  star-here = star (length d) t mask
+
+  abbrev on-here : ℕ → Bool
+  on-here = onShortest (entry d) (entry e) x
+
+  pub count-zero : on-here u ≡ false → Is 0 ≡ sumOf (countOf t mask s x d e f u)
+  count-zero o = rw (countAt-off star-here s on-here (entry d) (entry f) u o) (sumOf-fits 0 (omega arith))
+
+  pub count-one : on-here u ≡ true → u ≡ s → Is 1 ≡ sumOf (countOf t mask s x d e f u)
+  count-one o q =
+      let at : countOf t mask s x d e f u ≡ 1
+      = ap (countOf t mask s x d e f) q
+      ∙ countAt-start star-here s on-here (entry d) (entry f) (ap on-here (sym q) ∙ o) in
+      rw at (sumOf-fits 1 (omega arith))
+
+  pub count-sum : on-here u ≡ true → (u ≡ s → ⊥) → (r : Sum) → r ≡ sumOf (inflow star-here (entry d) (entry f) u)
+      → r ≡ sumOf (countOf t mask s x d e f u)
+  count-sum o ne r q = q ∙ ap sumOf (sym (countAt-other star-here s on-here (entry d) (entry f) u o ne))
+
+-- ---- the counts so far
+
+pub record Counted (g : Graph) (s x i : ℕ) (P : ℕ → ℕ) (f : List ℕ) : Type 0 where
+  pub len : length f ≡ g .size
+  pub done : (j : ℕ) → j < i → entry f (P j) ≡ countFrom g s x (P j)
+  pub off : (u : ℕ) → u < g .size → onWay g s x u ≡ false → entry f u ≡ 0
+
+pub counted-none : (g : Graph) (s x : ℕ) (P : ℕ → ℕ) (f : List ℕ) → f ≡ zeros (g .size) → Counted g s x 0 P f
+counted-none g s x P f e = record {
+  len = ap length e ∙ length-replicate (g .size) 0;
+  done = λ j l. absurd (omega arith);
+  off = λ u i o. ap (λ l. entry l u) e ∙ getD-zeros (g .size) u;
+}
+
+module _ {g : Graph} {t : Reach} {s x n : ℕ} {down : Bool} {d e work : List ℕ} (K : Known g t s x n down d e work) where
+  abbrev P : ℕ → ℕ
+  P = turnOf work n down
+
+  abbrev on : ℕ → Bool
+  on = onShortest (entry d) (entry e) x
+
+  closed : Closed g s on
+  closed =
+      closed-same g (K .lawful) s on (onWay g s x) (K .start-in) (on-at K) (way-closed g (K .lawful) s x (K .reached))
+
+  module _ {i : ℕ} {f : List ℕ} (l : i < n) (C : Counted g s x i P f) where
+    abbrev u : ℕ
+    u = P i
+
+    in-u : u < g .size
+    in-u = turn-inside K i l
+
+    -- What is on the way and cheaper has its count.
+    before : onWay g s x u ≡ true → (w : ℕ) → w < g .size → on w ≡ true → distance g s w < distance g s u
+        → entry f w ≡ pathCount g s w
+    before o w k p lt =
+        let q = sym (on-at K w k) ∙ p in
+        let r = turn-before K i w l o k q lt in
+        subst (λ z. entry f z ≡ countFrom g s x z) (r .2) (C .done (r .0) (r .1)) ∙ countFrom-way g s x w q
+
+    count-on : onWay g s x u ≡ true → countAt g s on (entry d) (entry f) u ≡ pathCount g s u
+    count-on o = ⊎-elim
+        (λ q. subst (λ z. countAt g s on (entry d) (entry f) z ≡ pathCount g s z) (sym q)
+        (countAt-start g s on (entry d) (entry f) (closed .start) ∙ sym (pathCount-self g (K .lawful) s)))
+        (λ ne. countAt-other g s on (entry d) (entry f) u (on-at K u in-u ∙ o) ne
+        ∙ count-next g (K .lawful) s (K .start-in) on closed (entry d) (d-at K) (entry f) u in-u (on-at K u in-u ∙ o) ne
+        (before o))
+        (eq-or-ne u s)
+
+    count-of : countAt g s on (entry d) (entry f) u ≡ countFrom g s x u
+    count-of = ⊎-elim (λ o. count-on o ∙ sym (countFrom-way g s x u o))
+        (λ o. countAt-off g s on (entry d) (entry f) u (on-at K u in-u ∙ o) ∙ sym (countFrom-off g s x u o))
+        (true-or-false (onWay g s x u))
+
+    pub count-right : countOf t (maskAt (length d) work u) s x d e f u ≡ countFrom g s x u
+    count-right = rw (d-len K) (countAt-agrees (agrees K u in-u) (entry d) s on (entry f) ∙ count-of)
+
+    pub counted-more : (y : ℕ) → y ≡ countFrom g s x u → Counted g s x (i + 1) P (set f u y)
+    counted-more y q = record {
+      len = length-set f u y ∙ C .len;
+      done = λ j k. ⊎-elim
+          (λ p. subst (λ z. entry (set f u y) z ≡ countFrom g s x z) p (at-u ∙ q))
+          (λ ne. getD-set-other f u (P j) y 0 (λ p. ne (sym p)) ∙ C .done j (below j k ne)) (eq-or-ne u (P j));
+      off = λ v k o. ⊎-elim (λ p. subst (λ z. entry (set f u y) z ≡ 0) p (at-u ∙ q ∙ rw p (countFrom-off g s x v o)))
+          (λ ne. getD-set-other f u v y 0 (λ p. ne (sym p)) ∙ C .off v k o) (eq-or-ne u v);
+    }
+      where
+        at-u : entry (set f u y) u ≡ y
+        at-u = getD-set-same f u y 0 (omega (arith, C .len, in-u))
+
+        below : (j : ℕ) → j < i + 1 → (u ≡ P j → ⊥) → j < i
+        below j k ne = ⊎-elim (λ h. h) (λ h. absurd (ne (ap P (omega arith)))) (le-or-lt (suc j) i)
+
+    pub count-over : 2 ^ 64 ≤ countFrom g s x u → 2 ^ 64 ≤ pathCount g s x
+    count-over h = omega (arith, countFrom-fits g (K .lawful) s x u)
+
+  pub counted-all : {f : List ℕ} → Counted g s x n P f → f ≡ tabulate (g .size) (countFrom g s x)
+  counted-all {f} C = tabulate-of (g .size) f (countFrom g s x) (C .len) (λ v k. ⊎-elim
+      (λ o. let r = turn-found K v k o in subst (λ z. entry f z ≡ countFrom g s x z) (r .2) (C .done (r .0) (r .1)))
+      (λ o. C .off v k o ∙ sym (countFrom-off g s x v o)) (true-or-false (onWay g s x v)))
+
+-- ---- the loop of a pass
+
+pub record Turning (t : Reach) (s x n : ℕ) (down : Bool) (d e work : List ℕ) (i : ℕ) (f : List ℕ) : Type 0 where
+  pub within : i ≤ n
+  pub len : length f ≡ length d
+  pub counted : (g : Graph) → Known g t s x n down d e work → Counted g s x i (turnOf work n down) f
+
+module _ {t : Reach} {s x n : ℕ} {down : Bool} {d e work : List ℕ} where
+  pub turn-start : {f : List ℕ} → f ≡ zeros (length d) → Turning t s x n down d e work 0 f
+  turn-start {f} q = record {
+    within = omega arith;
+    len = ap length q ∙ length-replicate (length d) 0;
+    counted = λ g K. counted-none g s x (turnOf work n down) f (rw (sym (d-len K)) q);
+  }
+
+  pub turn-len : {i : ℕ} {f f₀ : List ℕ} → Turning t s x n down d e work i f → f₀ ≡ zeros (length d)
+      → length f ≡ length f₀
+  turn-len h q = h .len ∙ sym (ap length q ∙ length-replicate (length d) 0)
+
+  module _ {i : ℕ} {f : List ℕ} (h : Turning t s x n down d e work i f) (l : i < n) (u : ℕ)
+      (at : u ≡ turnOf work n down i) (r : Sum) (sum : r ≡ sumOf (countOf t (maskAt (length d) work u) s x d e f u)) where
+    -- What was worked out is the count of the vertex.
+    worked : (g : Graph) (K : Known g t s x n down d e work)
+        → countOf t (maskAt (length d) work u) s x d e f u ≡ countFrom g s x (turnOf work n down i)
+    worked g K =
+        subst (λ v. countOf t (maskAt (length d) work v) s x d e f v ≡ countFrom g s x (turnOf work n down i)) (sym at)
+        (count-right K l (h .counted g K))
+
+    pub turn-more : (y : ℕ) → r ≡ Is y → Turning t s x n down d e work (i + 1) (set f u y)
+    turn-more y q = record {
+      within = omega arith;
+      len = length-set f u y ∙ h .len;
+      counted = λ g K.
+          subst (λ v. Counted g s x (i + 1) (turnOf work n down) (set f v y)) (sym at)
+          (counted-more K l (h .counted g K) y (sym (sumOf-is _ y (sym sum ∙ q)) ∙ worked g K));
+    }
+
+    pub turn-over : r ≡ Over → (g : Graph) → Known g t s x n down d e work → Passed g s x f false
+    turn-over q g K = record {
+      counted = λ z. absurd (true≢false (sym z));
+      over = λ z. count-over K l (h .counted g K) (omega (arith, sumOf-passes _ (sym sum ∙ q), worked g K));
+    }
+
+  pub turn-end : {i : ℕ} {f : List ℕ} → Turning t s x n down d e work i f → n ≤ i → (g : Graph)
+      → Known g t s x n down d e work → Passed g s x f true
+  turn-end {i} {f} h l g K =
+      let q : i ≡ n = omega (arith, h .within) in
+      record {
+        counted = λ z. counted-all K (subst (λ j. Counted g s x j (turnOf work n down) f) q (h .counted g K));
+        over = λ z. absurd (true≢false z);
+      }

@@ -1,0 +1,118 @@
+-- The floor's graph as the merge reads it, and what the merge leaves put together.
+--
+--   masked-of          == masks of the open moves, read by the table of a neighbourhood, give the steps of the graph
+--   classes-of         == the classes of a neighbourhood's moves are classes of the graph's
+--   costing-on         == a working slice of the same length serves as well
+--   mergeable          == so the merge can run
+--   ordered-costs      == the merge leaves the costs, their order and the masks
+--   filled-costs       == cleared, the costs alone
+use Prim.Native.Nat.{ℕ, _+_, _*_, _≤_}
+use mathlib.Core.Path.{_≡_, refl, sym, ap, _∙_, subst}
+use mathlib.Core.List.{List}
+use native.Mathlib.Omega.{arith}
+use lib.ListN.{length, replicate}
+use Rattle.floor.specs.Floor.{Floor, floorOf, vertices, column, row}
+use Rattle.floor.proofs.Numbers.{vertices-le}
+use Rattle.moves.specs.declared.Rows.{Rows}
+use Rattle.moves.specs.declared.Class.{Class}
+use Rattle.moves.specs.Table.{Listed}
+use Rattle.moves.specs.Masks.{OpenMask}
+use Rattle.moves.specs.Classes.{Classes}
+use Rattle.moves.proofs.Table.{listed-lawful}
+use Rattle.paths.specs.Graph.{Graph}
+use Rattle.grid.specs.Grid.{floorGraph}
+use Rattle.grid.proofs.Lawful.{floor-lawful}
+use Rattle.neighbours.specs.declared.Reach.{Reach}
+use Rattle.neighbours.specs.Reach.{readStep, Built}
+use Rattle.neighbours.proofs.Built.{listed-few, reach-faces}
+use Rattle.distances.specs.Order.{maskOn, OpenMasks, Masked, SettledCosts, Costing, OrderedCosts, FilledCosts}
+use Rattle.distances.specs.Merge.{tableOf, CostClasses, Mergeable}
+
+pub masked-of : (f : Floor) {r : Rows} {t : Reach} {work : List ℕ} → f .wide ≤ 127 → f .high ≤ 127 → Listed r
+    → Built (f .wide) r t → OpenMasks f work → Masked (floorGraph f r) t work
+masked-of f {work = work} p q listed b o = record {
+  count = b .count;
+  here = λ u i. reach-faces f listed b p q (maskOn f work u) u i (o u i) .here;
+  step = λ u m i lt. reach-faces f listed b p q (maskOn f work u) u i (o u i) .agrees .step m (omega (arith, b .count));
+}
+
+-- the merge reads no costs in the table
+table-masked : {g : Graph} {t : Reach} {work : List ℕ} → Masked g t work
+    → Masked g (tableOf (g .moves) (t .row) (t .up) (t .down)) work
+unfolding readStep
+table-masked M = record {
+  count = refl;
+  here = λ u i. let H = M .here u i in record {
+    few = omega (arith, H .few, M .count);
+    vertex = H .vertex;
+    readable = λ m l.
+        let R = H .readable m (omega (arith, M .count)) in record { place = R .place; movable = R .movable };
+    inside = λ m w l. H .inside m w (omega (arith, M .count));
+  };
+  step = M .step;
+}
+
+pub classes-of : (f : Floor) {r : Rows} {l : List Class} → Classes r l → CostClasses (floorGraph f r) l
+classes-of f C = record {
+  each = λ k h. let c = C .each k h in record {
+    stride-pos = c .stride-pos;
+    short = c .short;
+    high = c .high;
+    same = c .same;
+  };
+  covers = C .covers;
+}
+
+pub costing-on : {w h : ℕ} {map : List ℕ} {r : Rows} {a : ℕ} {d work work′ : List ℕ} → Costing w h map r a d work
+    → length work′ ≡ length work → Costing w h map r a d work′
+costing-on J e = record {
+  sized = J .sized;
+  listed = J .listed;
+  source = J .source;
+  d-len = J .d-len;
+  work-len = e ∙ J .work-len;
+}
+
+module _ {w h : ℕ} {map : List ℕ} {r : Rows} {a : ℕ} {d work : List ℕ} (J : Costing w h map r a d work)
+    (o : OpenMasks (floorOf w h map) work) where
+  abbrev f : Floor
+  f = floorOf w h map
+
+  pub mergeable : {t : Reach} {l : List Class} → Built w r t → Classes r l
+      → 8 ≤ length (t .row) → 8 ≤ length (t .up) → 8 ≤ length (t .down)
+      → Mergeable (floorGraph f r) (t .row) (t .up) (t .down) l a d work
+  mergeable b C rows ups downs = record {
+    few = vertices-le (J .sized .wide) (J .sized .high);
+    lawful = floor-lawful f r (listed-lawful (J .listed));
+    table = let few = listed-few (J .listed) in record {
+      few = few;
+      rows = omega (arith, few);
+      ups = omega (arith, few);
+      downs = omega (arith, few);
+    };
+    masked = table-masked (masked-of f (J .sized .wide) (J .sized .high) (J .listed) b o);
+    classes = classes-of f C;
+    source = J .source;
+    d-len = J .d-len;
+    work-len = J .work-len;
+  }
+
+  module _ {n : ℕ} {d′ work′ : List ℕ} (S : SettledCosts (floorGraph f r) a n d′ work work′) where
+    masks-kept : OpenMasks f work′
+    masks-kept v i =
+        subst (OpenMask f (column w v) (row w v)) (sym (S .rest (2 * vertices w h + v) (omega arith))) (o v i)
+
+    pub ordered-costs : OrderedCosts f r a n d′ work′
+    ordered-costs = record {
+      costs = S .costs;
+      few = S .few;
+      work-len = S .work-len;
+      ordered = S .ordered;
+      masks = masks-kept;
+      masked = λ t b. masked-of f (J .sized .wide) (J .sized .high) (J .listed) b masks-kept;
+    }
+
+-- the costs, and a cleared working slice
+pub filled-costs : {f : Floor} {r : Rows} {a n : ℕ} {d work work′ : List ℕ} → OrderedCosts f r a n d work
+    → work′ ≡ replicate (length work) 0 → FilledCosts (floorGraph f r) a d work′
+filled-costs O e = record { costs = O .costs; clear = e ∙ ap (λ (k : ℕ). replicate k 0) (O .work-len) }

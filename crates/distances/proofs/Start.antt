@@ -1,0 +1,126 @@
+-- The start of the merge: the source alone is settled, at cost 0.
+--
+--   merging-start   == the invariant before the first turn
+--   three-first     == three positions at 0, where their classes have moves
+--   three-classes   == the classes of an array, read one by one
+use Prim.Native.Nat.{ℕ, zero, suc, _*_, _≤_, _<_}
+use mathlib.Core.Path.{_≡_, refl, sym, ap, _∙_, subst}
+use mathlib.Core.Logic.{⊎-elim}
+use mathlib.Core.List.{List, [], _∷_}
+use native.Mathlib.Omega.{arith}
+use borrow.Author.Tests.{le-ltb}
+use lib.Dec.{ltb}
+use lib.ListN.{length, getD, set, replicate, length-set, length-replicate, getD-replicate}
+use lib.Seq.{getD-set-same, getD-set-other}
+use Rattle.basics.proofs.Order.{eq-or-ne}
+use Rattle.moves.specs.declared.Class.{Class}
+use Rattle.moves.specs.Classes.{Member, classAt}
+use Rattle.paths.specs.Graph.{Graph}
+use Rattle.paths.specs.Distance.{unreachable}
+use Rattle.paths.specs.Local.{entry}
+use Rattle.paths.proofs.More.{pick-no}
+use Rattle.paths.proofs.Listing.{HasWalk, stop}
+use Rattle.distances.specs.Merge.{reached, OneCost, CostClasses, Settled, Merging}
+use Rattle.distances.proofs.Store.{reached-set}
+
+reached-none : (n : ℕ) → reached (replicate n unreachable) ≡ 0
+unfolding reached
+reached-none zero = refl
+reached-none (suc n) =
+    let no = pick-no {A = ℕ} (ltb unreachable unreachable) 1 0 (le-ltb unreachable unreachable (omega arith)) in
+    omega (arith, reached-none n, no)
+
+module _ (g : Graph) (a : ℕ) (work : List ℕ) (few : g .size ≤ 16384) (i : a < g .size)
+    (len : length work ≡ 4 * g .size) where
+  abbrev none : List ℕ
+  none = replicate (g .size) unreachable
+
+  abbrev d₀ : List ℕ
+  d₀ = set none a 0
+
+  abbrev work₀ : List ℕ
+  work₀ = set work 0 a
+
+  none-len : length none ≡ g .size
+  none-len = length-replicate (g .size) unreachable
+
+  at-a : entry d₀ a ≡ 0
+  at-a = getD-set-same none a 0 0 (omega (arith, none-len))
+
+  off-a : (u : ℕ) → u < g .size → (u ≡ a → ⊥) → entry d₀ u ≡ unreachable
+  off-a u h ne = getD-set-other none a u 0 0 ne ∙ getD-replicate (g .size) u unreachable 0 h
+
+  only-a : (u : ℕ) → u < g .size → entry d₀ u < unreachable → u ≡ a
+  only-a u h lt = ⊎-elim (λ e. e) (λ ne. absurd (omega (arith, off-a u h ne))) (eq-or-ne u a)
+
+  place-0 : (j : ℕ) → j < 1 → entry work₀ j ≡ a
+  place-0 j h = let e : j ≡ 0 = omega arith in ap (entry work₀) e ∙ getD-set-same work 0 a 0 (omega arith)
+
+  cost-0 : (j : ℕ) → j < 1 → entry d₀ (entry work₀ j) ≡ 0
+  cost-0 j h = ap (entry d₀) (place-0 j h) ∙ at-a
+
+  settled-start : Settled g a 1 d₀ work₀
+  settled-start = record {
+    few = few;
+    source = i;
+    d-len = length-set none a 0 ∙ none-len;
+    work-len = length-set work 0 a ∙ len;
+    counted =
+        let bare = getD-replicate (g .size) a unreachable 0 i in
+        let more = reached-set none a 0 (omega (arith, none-len)) bare (omega arith) in
+        omega (arith, reached-none (g .size), more);
+    ordered = record {
+      inside = λ j h. omega (arith, place-0 j h);
+      placed = λ j h. omega (arith, cost-0 j h);
+      found = λ u h lt. (0, omega arith, place-0 0 (omega arith) ∙ sym (only-a u h lt));
+      once = λ j k h l e. omega arith;
+      rising = λ j k le h. omega (arith, cost-0 j (omega arith), cost-0 k h);
+    };
+    at-most = λ u h.
+        ⊎-elim (λ e. omega (arith, ap (entry d₀) e, at-a)) (λ ne. omega (arith, off-a u h ne)) (eq-or-ne u a);
+    walked = λ u h lt. subst (λ z. HasWalk g (entry d₀ z) a z) (sym (only-a u h lt))
+        (subst (λ z. HasWalk g z a a) (sym at-a) (_, stop));
+    start = at-a;
+    bounded = λ j h. omega (arith, cost-0 j h);
+  }
+
+  pub merging-start : (l : List Class) (pos d : List ℕ) → d ≡ none → CostClasses g l
+      → ((k : ℕ) → k < 3 → classAt l k .first < g .moves → getD pos k 0 ≡ 0)
+      → Merging g a 1 l pos (set d a 0) work₀ work₀
+  merging-start l pos d e C firsts = rw e (record {
+    settled = settled-start;
+    classes = C;
+    passed = λ k h. record {
+      room = λ f. omega (arith, firsts k h f);
+      relaxed = λ j m w p M lt. absurd (omega (arith, M .at, firsts k h (omega (arith, M .at))));
+      pending = λ j h p. omega (arith, cost-0 j h);
+    };
+    rest = λ j h. refl;
+  })
+
+  -- past the order the working slice is as it was
+  pub start-rest : (j : ℕ) → g .size < j → entry work₀ j ≡ entry work j
+  start-rest j h = getD-set-other work 0 j a 0 (λ e. omega arith)
+
+pub three-first : (c₀ c₁ c₂ : Class) (count p q r : ℕ) → (c₀ .first < count → p ≡ 0) → (c₁ .first < count → q ≡ 0)
+    → (c₂ .first < count → r ≡ 0)
+    → (k : ℕ) → k < 3 → classAt (c₀ ∷ c₁ ∷ c₂ ∷ []) k .first < count → getD (p ∷ q ∷ r ∷ []) k 0 ≡ 0
+three-first c₀ c₁ c₂ count p q r x y z zero h f = x f
+three-first c₀ c₁ c₂ count p q r x y z (suc zero) h f = y f
+three-first c₀ c₁ c₂ count p q r x y z (suc (suc zero)) h f = z f
+three-first c₀ c₁ c₂ count p q r x y z (suc (suc (suc k))) h f = absurd (omega arith)
+
+-- the classes of an array, read one by one
+pub three-classes : {g : Graph} {l : List Class} → CostClasses g l
+    → CostClasses g (classAt l 0 ∷ classAt l 1 ∷ classAt l 2 ∷ [])
+three-classes {g} {l} C = record {
+  each = λ k h. subst (OneCost g) (sym (same k h)) (C .each k h);
+  covers = λ m lt. let q = C .covers m lt in
+      (q .0, q .1, subst (λ c. Member c m) (sym (same (q .0) (q .1))) (q .2));
+}
+  where
+    same : (k : ℕ) → k < 3 → classAt (classAt l 0 ∷ classAt l 1 ∷ classAt l 2 ∷ []) k ≡ classAt l k
+    same zero h = refl
+    same (suc zero) h = refl
+    same (suc (suc zero)) h = refl
+    same (suc (suc (suc k))) h = absurd (omega arith)

@@ -1,0 +1,268 @@
+-- One turn of the merge, and its end.
+--
+--   key-in, key-out       == the key of a place that is settled, and of one that is not
+--   keyed                 == the keys can be worked out
+--   masked-same           == masks past the order are as they were
+--   passed-same           == a position that stays
+--   passed-next           == the position that moves on by one
+--   Least ..              == position k has the least key
+--   least-of              == so has the one that `lowest` finds
+--   Turn ..               == what a turn of class k takes and leaves: the invariant again, and a lower measure
+--   turn                  == so is the turn of the least key
+--   filled                == at the end every position has passed every settled vertex, so the costs are the distances
+use Prim.Native.Nat.{ℕ, zero, suc, _+_, _*_, _≤_, _<_}
+use mathlib.Core.Path.{_≡_, sym, ap, _∙_, subst}
+use mathlib.Core.Logic.{⊎-elim}
+use mathlib.Core.Option.{some}
+use mathlib.Core.List.{List, [], _∷_}
+use native.Mathlib.Omega.{arith}
+use borrow.Author.Tests.{lt-ltb, le-ltb}
+use lib.Dec.{ltb}
+use lib.ListN.{length, getD, set}
+use lib.Seq.{getD-set-same, getD-set-other}
+use Rattle.basics.proofs.Order.{le-or-lt, eq-or-ne}
+use Rattle.basics.proofs.Lists.{tabulate-of}
+use Rattle.moves.specs.declared.Class.{Class}
+use Rattle.moves.specs.Classes.{Member, classAt}
+use Rattle.paths.specs.Graph.{Graph, Lawful}
+use Rattle.paths.specs.Distance.{unreachable, distance}
+use Rattle.paths.specs.Local.{entry}
+use Rattle.paths.proofs.More.{pick-yes, pick-no}
+use Rattle.paths.proofs.Costs.{walked-true}
+use Rattle.neighbours.specs.declared.Reach.{Reach}
+use Rattle.neighbours.specs.Reach.{readStep, Here}
+use Rattle.distances.specs.Order.{maskAt, Masked, SettledCosts}
+use Rattle.distances.specs.Merge.{keyOf, Keyed, tableOf, Table, OneCost, Settled, Ready, Grown, Relaxing, Relaxed}
+use Rattle.distances.specs.Merge.{Passed, Merging, remaining}
+use Rattle.distances.proofs.Store.{last, settled-le}
+
+-- ---- keys
+
+module _ (n p c : ℕ) (d work : List ℕ) where
+  pub key-in : p < n → keyOf n p c d work ≡ entry d (entry work p) + c
+  unfolding keyOf
+  key-in h = pick-yes (ltb p n) (entry d (entry work p) + c) unreachable (lt-ltb p n h)
+
+  pub key-out : n ≤ p → keyOf n p c d work ≡ unreachable
+  unfolding keyOf
+  key-out h = pick-no (ltb p n) (entry d (entry work p) + c) unreachable (le-ltb p n h)
+
+pub keyed : {g : Graph} {a n : ℕ} {d work : List ℕ} → Settled g a n d work → Keyed n d work
+keyed S = record {
+  room = omega (arith, settled-le S, S .work-len);
+  inside = λ i h. omega (arith, S .ordered .inside i h, S .d-len);
+  small = λ i h. omega (arith, S .bounded i h, settled-le S, S .few);
+}
+
+-- ---- the masks
+
+pub masked-same : {g : Graph} {t : Reach} {work₀ work : List ℕ} → Masked g t work₀
+    → ((i : ℕ) → g .size < i → entry work i ≡ entry work₀ i) → Masked g t work
+masked-same {g} {t} {work₀} {work} M same = record {
+  count = M .count;
+  here = λ u i. subst (λ z. Here (g .size) t z u) (sym (kept u i)) (M .here u i);
+  step = λ u m i lt. ap (λ z. readStep t z u m) (kept u i) ∙ M .step u m i lt;
+}
+  where
+    kept : (u : ℕ) → u < g .size → maskAt (g .size) work u ≡ maskAt (g .size) work₀ u
+    kept u i = same (2 * g .size + u) (omega arith)
+
+-- ---- the positions
+
+module _ {g : Graph} {a n r key : ℕ} {d d′ work work′ : List ℕ} (S : Settled g a n d work) (R : Ready g a r key d′ work′)
+    (G : Grown (g .size) n r key d d′ work work′) where
+  -- what stood before stands where it stood, at its cost
+  stays : (i : ℕ) → i < n → entry d′ (entry work′ i) ≡ entry d (entry work i)
+  stays i h = ap (entry d′) (G .same-order i h) ∙ G .same-cost (entry work i) (S .ordered .placed i h)
+
+  module _ {c : Class} {p : ℕ} (c-low : c .cost ≤ 4095) (P : Passed g n c p d work) where
+    relaxed-on : (i m w : ℕ) → i < p → Member c m → m < g .moves → g .step m (entry work′ i) ≡ some w
+        → entry d′ w ≤ entry d′ (entry work′ i) + c .cost
+    relaxed-on i m w h M lt st =
+        let l : i < n = omega (arith, P .room (omega (arith, M .at))) in
+        let was = P .relaxed i m w h M lt (ap (λ z. g .step m z) (sym (G .same-order i l)) ∙ st) in
+        let b = S .bounded i l in
+        let v = S .few in
+        let s = settled-le S in
+        omega (arith, stays i l, G .same-cost w (omega arith))
+
+    pub passed-same : key ≤ keyOf n p (c .cost) d work → Passed g r c p d′ work′
+    passed-same le = record {
+      room = λ f. omega (arith, P .room f, G .more);
+      relaxed = relaxed-on;
+      pending = λ i h k. let u = R .under i h in ⊎-elim
+          (λ l. omega (arith, stays p l, key-in n p (c .cost) d work l)) (λ l. omega (arith, G .fresh p (omega arith) k))
+          (le-or-lt (suc p) n);
+    }
+
+    pub passed-next : p < n → key ≡ entry d (entry work p) + c .cost
+        → ((m w : ℕ) → Member c m → m < g .moves → g .step m (entry work p) ≡ some w → entry d′ w ≤ key)
+        → Passed g r c (p + 1) d′ work′
+    passed-next lt is done = record {
+      room = λ f. omega (arith, G .more);
+      relaxed = λ i m w h M t st. ⊎-elim (λ q. relaxed-on i m w q M t st)
+          (λ q. let j : i < n = omega arith in
+          let o : entry work′ i ≡ entry work p = G .same-order i j ∙ ap (entry work) q in
+          let low = done m w M t (ap (λ z. g .step m z) (sym o) ∙ st) in
+          omega (arith, stays i j, ap (λ z. entry d (entry work z)) q)) (last i p h);
+      pending = λ i h k.
+          omega (arith, R .under i h, stays p lt, R .settled .ordered .rising p (p + 1) (omega arith) k);
+    }
+
+-- ---- the least key
+
+pub record Least (n k key : ℕ) (l : List Class) (pos d work : List ℕ) : Type 0 where
+  pub one : k < 3
+  pub is : key ≡ keyOf n (getD pos k 0) (classAt l k .cost) d work
+  pub least : (j : ℕ) → j < 3 → key ≤ keyOf n (getD pos j 0) (classAt l j .cost) d work
+
+-- The three keys, as the code works them out.
+pub record Keys (n k0 k1 k2 : ℕ) (l : List Class) (pos d work : List ℕ) : Type 0 where
+  pub at-0 : k0 ≡ keyOf n (getD pos 0 0) (classAt l 0 .cost) d work
+  pub at-1 : k1 ≡ keyOf n (getD pos 1 0) (classAt l 1 .cost) d work
+  pub at-2 : k2 ≡ keyOf n (getD pos 2 0) (classAt l 2 .cost) d work
+
+module _ {n k0 k1 k2 key : ℕ} {l : List Class} {pos d work : List ℕ} (K : Keys n k0 k1 k2 l pos d work) where
+  pub least-of : (k : ℕ) → k < 3 → key ≡ keyOf n (getD pos k 0) (classAt l k .cost) d work
+      → key ≤ k0 → key ≤ k1 → key ≤ k2 → Least n k key l pos d work
+  least-of k h is l0 l1 l2 = record { one = h; is = is; least = each }
+    where
+      each : (j : ℕ) → j < 3 → key ≤ keyOf n (getD pos j 0) (classAt l j .cost) d work
+      each zero h = omega (arith, K .at-0)
+      each (suc zero) h = omega (arith, K .at-1)
+      each (suc (suc zero)) h = omega (arith, K .at-2)
+      each (suc (suc (suc j))) h = absurd (omega arith)
+
+-- ---- the measure
+
+remaining-falls : (v : ℕ) (l : List ℕ) (k : ℕ) → k < length l → getD l k 0 < v
+    → remaining v (set l k (getD l k 0 + 1)) < remaining v l
+unfolding remaining
+remaining-falls v [] k h s = absurd (omega arith)
+remaining-falls v (x ∷ l) zero h s = omega arith
+remaining-falls v (x ∷ l) (suc k) h s = omega (arith, remaining-falls v l k (omega arith) s)
+
+-- ---- a turn
+
+-- What a turn of class k needs, and what it leaves.
+pub record Turn (g : Graph) (row up down : List ℕ) (a n k key : ℕ) (l : List Class) (pos d work₀ work : List ℕ)
+    : Type 0 where
+  pub relaxing : Relaxing g row up down (classAt l k) a (getD pos k 0) key n d work
+  pub small : getD pos k 0 < 16384
+  pub falls : remaining (g .size) (set pos k (getD pos k 0 + 1)) < remaining (g .size) pos
+  pub next : {r : ℕ} {d′ work′ : List ℕ}
+      → Relaxed g a (entry work (getD pos k 0)) (classAt l k) (g .moves) key n r d d′ work work′
+      → Merging g a r l (set pos k (getD pos k 0 + 1)) d′ work₀ work′
+
+module _ {g : Graph} {a n k key : ℕ} {l : List Class} {pos d work₀ work : List ℕ} (K : Merging g a n l pos d work₀ work)
+    (T : Least n k key l pos d work) where
+  module _ (low : key < unreachable) where
+    abbrev p : ℕ
+    p = getD pos k 0
+
+    abbrev c : Class
+    c = classAt l k
+
+    before-end : p < n
+    before-end =
+        ⊎-elim (λ h. h) (λ h. absurd (omega (arith, T .is, key-out n p (c .cost) d work (omega arith))))
+        (le-or-lt (suc p) n)
+
+    before-all : p < g .size
+    before-all = omega (arith, before-end, settled-le (K .settled))
+
+    key-is : key ≡ entry d (entry work p) + c .cost
+    key-is = T .is ∙ key-in n p (c .cost) d work before-end
+
+    one-cost : OneCost g c
+    one-cost = K .classes .each k (T .one)
+
+    relaxing : {row up down : List ℕ} → Table g row up down → Masked g (tableOf (g .moves) row up down) work₀
+        → Relaxing g row up down c a p key n d work
+    relaxing B M = let S = K .settled in let i = S .ordered .inside p before-end in record {
+      table = B;
+      masked = masked-same M (K .rest);
+      class = one-cost;
+      ready = record {
+        settled = S;
+        under = λ i h. omega (arith, key-is, K .passed k (T .one) .pending i h before-end);
+        small = omega (arith, key-is, before-end, S .bounded p before-end, one-cost .high);
+      };
+      place = before-end;
+      walk = record {
+        inside = i;
+        rest = entry d (entry work p);
+        total = sym key-is;
+        walk = S .walked (entry work p) i (S .ordered .placed p before-end);
+      };
+    }
+
+    merging-next : {r : ℕ} {d′ work′ : List ℕ} → length pos ≡ 3
+        → Relaxed g a (entry work p) c (g .moves) key n r d d′ work work′
+        → Merging g a r l (set pos k (p + 1)) d′ work₀ work′
+    merging-next {r} {d′} {work′} len P = record {
+      settled = P .ready .settled;
+      classes = K .classes;
+      passed = λ j h. ⊎-elim
+          (λ e. subst (λ z. Passed g r (classAt l z) (getD (set pos k (p + 1)) z 0) d′ work′) (sym e) moved)
+          (λ e. subst (λ z. Passed g r (classAt l j) z d′ work′) (sym (getD-set-other pos k j (p + 1) 0 e)) (stayed j h))
+          (eq-or-ne j k);
+      rest = λ i h. P .grown .same-rest i h ∙ K .rest i h;
+    }
+      where
+        moved : Passed g r c (getD (set pos k (p + 1)) k 0) d′ work′
+        moved = subst (λ z. Passed g r c z d′ work′) (sym (getD-set-same pos k (p + 1) 0 (omega (arith, T .one))))
+            (passed-next (K .settled) (P .ready) (P .grown) (one-cost .high) (K .passed k (T .one)) before-end key-is
+            (λ m w M lt. P .relaxed m w M lt))
+
+        stayed : (j : ℕ) → j < 3 → Passed g r (classAt l j) (getD pos j 0) d′ work′
+        stayed j h =
+            passed-same (K .settled) (P .ready) (P .grown) (K .classes .each j h .high) (K .passed j h) (T .least j h)
+
+    pub turn : {row up down : List ℕ} → Table g row up down → Masked g (tableOf (g .moves) row up down) work₀
+        → length pos ≡ 3 → Turn g row up down a n k key l pos d work₀ work
+    turn B M len = record {
+      relaxing = relaxing B M;
+      small = omega (arith, before-all, K .settled .few);
+      falls = remaining-falls (g .size) pos k (omega (arith, T .one)) before-all;
+      next = merging-next len;
+    }
+
+  -- ---- the end
+
+  module _ (end : key ≡ unreachable) where
+    all-passed : (j : ℕ) → j < 3 → n ≤ getD pos j 0
+    all-passed j h = ⊎-elim (λ le. le)
+        (λ lt. let S = K .settled in let q = getD pos j 0 in absurd (omega (
+          arith,
+          T .least j h,
+          key-in n q (classAt l j .cost) d work lt,
+          S .bounded q lt,
+          K .classes .each j h .high,
+          settled-le S,
+          S .few,
+        ))) (le-or-lt n (getD pos j 0))
+
+    relaxed-end : Lawful g → (m u w : ℕ) → m < g .moves → u < g .size → g .step m u ≡ some w
+        → entry d w ≤ entry d u + g .cost m
+    relaxed-end L m u w lt i st = ⊎-elim
+        (λ h. omega (arith, K .settled .at-most w (L .inside m u w lt i st)))
+        (λ h.
+        let q = K .classes .covers m lt in
+        let f = K .settled .ordered .found u i h in
+        let past : f .0 < getD pos (q .0) 0 = omega (arith, f .1, all-passed (q .0) (q .1)) in
+        let x = K .passed (q .0) (q .1) .relaxed (f .0) m w past (q .2) lt (ap (λ z. g .step m z) (f .2) ∙ st) in
+        omega (arith, x, ap (entry d) (f .2), K .classes .each (q .0) (q .1) .same m (q .2) lt))
+        (le-or-lt unreachable (entry d u))
+
+    pub filled : {start : List ℕ} → Lawful g → ((i : ℕ) → g .size < i → entry work₀ i ≡ entry start i)
+        → SettledCosts g a n d start work
+    filled {start} L same = let S = K .settled in record {
+      costs = tabulate-of (g .size) d (distance g a) (S .d-len)
+          (walked-true g L a (S .source) (entry d)
+          (record { start = S .start; at-most = S .at-most; relaxed = relaxed-end L }) (S .walked));
+      few = settled-le S;
+      work-len = S .work-len;
+      ordered = S .ordered;
+      rest = λ i h. K .rest i h ∙ same i h;
+    }

@@ -1,0 +1,176 @@
+-- The ordered merge: what its functions promise each other. Nobody has to believe these: they stand in contracts of
+-- private functions and in loop invariants.
+--
+--   by up down               == a change by up less down
+--   costGiven c key          == the cost c after key was offered: the key where there was none
+--   countGiven c             == how many vertices that adds to the settled
+--   Given ..                 == what an offer stores: the cost, and the vertex at the end of the order
+--   keyOf n p c d work       == the key of place p of the order for moves of cost c; `unreachable` past the n settled
+--   Keyed n d work           == the keys of the first n places can be worked out
+--   Lowest r k0 k1 k2        == r is the number of the least key; 3 where no key is below `unreachable`
+--   tableOf n row up down    == the table of n moves as the merge reads it: the costs stand in the classes
+--   Table g row up down      == the lists have a place for every move
+--   OneCost g c              == the moves of class c all have its cost
+--   CostClasses g l          == the three classes of l have every move of g
+--   reached l                == how many costs of the list l are below `unreachable`
+--   Settled g a n d work     == n vertices have a cost, each that of a walk from a; they stand in order
+--   Ready ..                 == they cost at most key, which may be given to more
+--   KeyWalk g a u c key      == a walk from a to u and a move of cost c from there cost key together
+--   Grown ..                 == from n settled vertices to r, those added at cost key; all else is as it was
+--   Relaxing ..              == what the relaxing of a class of moves takes
+--   Relaxed ..               == the far ends of the moves of class c from u, of those below m, cost at most key
+--   Passed ..                == what holds of one class and its position p in the order
+--   Merging ..               == what holds at each turn of the merge, of the classes l and their positions pos
+--   Mergeable ..             == what the merge takes
+--   remaining v pos          == what the positions have before them: the merge's measure
+use Prim.Native.Nat.{ℕ, _+_, _-_, _*_, _≤_, _<_}
+use mathlib.Core.Path.{_≡_}
+use mathlib.Core.Option.{some}
+use mathlib.Core.List.{List, [], _∷_}
+use lib.Dec.{ltb, eqb}
+use lib.ListN.{length, getD, set}
+use Rattle.basics.specs.Bounded.{pick}
+use Rattle.moves.specs.declared.Class.{Class}
+use Rattle.moves.specs.declared.Offset.{Offset}
+use Rattle.moves.specs.Classes.{Member, classAt}
+use Rattle.paths.specs.Graph.{Graph, Lawful}
+use Rattle.paths.specs.Distance.{unreachable}
+use Rattle.paths.specs.Local.{entry}
+use Rattle.paths.proofs.Listing.{HasWalk}
+use Rattle.neighbours.specs.declared.Reach.{Reach}
+use Rattle.distances.specs.Order.{Ordered, Masked}
+
+-- ---- one vertex
+
+abbrev pub by : ℕ → ℕ → Offset
+by up down = record { up = up; down = down }
+
+abbrev pub costGiven : ℕ → ℕ → ℕ
+costGiven c key = pick (eqb c unreachable) key c
+
+abbrev pub countGiven : ℕ → ℕ
+countGiven c = pick (eqb c unreachable) 1 0
+
+pub record Given (x key n r : ℕ) (d d′ work work′ : List ℕ) : Type 0 where
+  pub cost : d′ ≡ set d x (costGiven (entry d x) key)
+  pub place : work′ ≡ set work n x
+  pub count : r ≡ n + countGiven (entry d x)
+
+-- ---- keys
+
+unfoldable pub keyOf : ℕ → ℕ → ℕ → List ℕ → List ℕ → ℕ
+keyOf n p c d work = pick (ltb p n) (entry d (entry work p) + c) unreachable
+
+pub record Keyed (n : ℕ) (d work : List ℕ) : Type 0 where
+  pub room : n ≤ length work
+  pub inside : (i : ℕ) → i < n → entry work i < length d
+  pub small : (i : ℕ) → i < n → entry d (entry work i) + 4095 < unreachable
+
+pub record Lowest (r k0 k1 k2 : ℕ) : Type 0 where
+  pub none : r ≡ 3 → (k0 ≡ unreachable) × (k0 ≤ k1) × (k0 ≤ k2)
+  pub at-0 : r ≡ 0 → (k0 < unreachable) × (k0 ≤ k1) × (k0 ≤ k2)
+  pub at-1 : r ≡ 1 → (k1 < unreachable) × (k1 ≤ k0) × (k1 ≤ k2)
+  pub at-2 : (r ≡ 3 → ⊥) → (r ≡ 0 → ⊥) → (r ≡ 1 → ⊥) → (k2 < unreachable) × (k2 ≤ k0) × (k2 ≤ k1)
+
+-- ---- the moves
+
+abbrev pub tableOf : ℕ → List ℕ → List ℕ → List ℕ → Reach
+tableOf n row up down = record { count = n; row = row; up = up; down = down; cost = [] }
+
+pub record Table (g : Graph) (row up down : List ℕ) : Type 0 where
+  pub few : g .moves ≤ 8
+  pub rows : g .moves ≤ length row
+  pub ups : g .moves ≤ length up
+  pub downs : g .moves ≤ length down
+
+pub record OneCost (g : Graph) (c : Class) : Type 0 where
+  pub stride-pos : 1 ≤ c .stride
+  pub short : c .stride ≤ g .moves
+  pub high : c .cost ≤ 4095
+  pub same : (m : ℕ) → Member c m → m < g .moves → g .cost m ≡ c .cost
+
+pub record CostClasses (g : Graph) (l : List Class) : Type 0 where
+  pub each : (k : ℕ) → k < 3 → OneCost g (classAt l k)
+  pub covers : (m : ℕ) → m < g .moves → (k : ℕ) × (k < 3) × Member (classAt l k) m
+
+-- ---- the settled vertices
+
+unfoldable pub reached : List ℕ → ℕ
+reached [] = 0
+reached (x ∷ l) = pick (ltb x unreachable) 1 0 + reached l
+
+pub record Settled (g : Graph) (a n : ℕ) (d work : List ℕ) : Type 0 where
+  pub few : g .size ≤ 16384
+  pub source : a < g .size
+  pub d-len : length d ≡ g .size
+  pub work-len : length work ≡ 4 * g .size
+  pub counted : reached d ≡ n
+  pub ordered : Ordered (g .size) n (entry d) (entry work)
+  pub at-most : (u : ℕ) → u < g .size → entry d u ≤ unreachable
+  pub walked : (u : ℕ) → u < g .size → entry d u < unreachable → HasWalk g (entry d u) a u
+  pub start : entry d a ≡ 0
+  -- the vertex settled as number i costs at most i times the dearest move, so no sum overflows
+  pub bounded : (i : ℕ) → i < n → entry d (entry work i) ≤ i * 4095
+
+pub record Ready (g : Graph) (a n key : ℕ) (d work : List ℕ) : Type 0 where
+  pub settled : Settled g a n d work
+  pub under : (i : ℕ) → i < n → entry d (entry work i) ≤ key
+  pub small : key ≤ n * 4095
+
+pub record KeyWalk (g : Graph) (a u c key : ℕ) : Type 0 where
+  pub inside : u < g .size
+  pub rest : ℕ
+  pub total : rest + c ≡ key
+  pub walk : HasWalk g rest a u
+
+pub record Grown (v n r key : ℕ) (d d′ work work′ : List ℕ) : Type 0 where
+  pub more : n ≤ r
+  pub same-order : (i : ℕ) → i < n → entry work′ i ≡ entry work i
+  pub same-rest : (i : ℕ) → v < i → entry work′ i ≡ entry work i
+  pub same-cost : (u : ℕ) → entry d u < unreachable → entry d′ u ≡ entry d u
+  pub fresh : (i : ℕ) → n ≤ i → i < r → entry d′ (entry work′ i) ≡ key
+
+-- ---- one class of moves
+
+pub record Relaxing (g : Graph) (row up down : List ℕ) (c : Class) (a p key n : ℕ) (d work : List ℕ) : Type 0 where
+  pub table : Table g row up down
+  pub masked : Masked g (tableOf (g .moves) row up down) work
+  pub class : OneCost g c
+  pub ready : Ready g a n key d work
+  pub place : p < n
+  pub walk : KeyWalk g a (entry work p) (c .cost) key
+
+pub record Relaxed (g : Graph) (a u : ℕ) (c : Class) (m key n r : ℕ) (d d′ work work′ : List ℕ) : Type 0 where
+  pub ready : Ready g a r key d′ work′
+  pub grown : Grown (g .size) n r key d d′ work work′
+  pub relaxed : (k w : ℕ) → Member c k → k < m → g .step k u ≡ some w → entry d′ w ≤ key
+
+-- ---- the merge
+
+-- Before place p no move of the class gives a lower cost; from p on, no key is less than a cost that was given. (Where
+-- the class has no move, p may be anything.)
+pub record Passed (g : Graph) (n : ℕ) (c : Class) (p : ℕ) (d work : List ℕ) : Type 0 where
+  pub room : c .first < g .moves → p ≤ n
+  pub relaxed : (i m w : ℕ) → i < p → Member c m → m < g .moves → g .step m (entry work i) ≡ some w
+      → entry d w ≤ entry d (entry work i) + c .cost
+  pub pending : (i : ℕ) → i < n → p < n → entry d (entry work i) ≤ entry d (entry work p) + c .cost
+
+pub record Merging (g : Graph) (a n : ℕ) (l : List Class) (pos d work₀ work : List ℕ) : Type 0 where
+  pub settled : Settled g a n d work
+  pub classes : CostClasses g l
+  pub passed : (k : ℕ) → k < 3 → Passed g n (classAt l k) (getD pos k 0) d work
+  pub rest : (i : ℕ) → g .size < i → entry work i ≡ entry work₀ i
+
+pub record Mergeable (g : Graph) (row up down : List ℕ) (l : List Class) (a : ℕ) (d work : List ℕ) : Type 0 where
+  pub few : g .size ≤ 16384
+  pub lawful : Lawful g
+  pub table : Table g row up down
+  pub masked : Masked g (tableOf (g .moves) row up down) work
+  pub classes : CostClasses g l
+  pub source : a < g .size
+  pub d-len : length d ≡ g .size
+  pub work-len : length work ≡ 4 * g .size
+
+unfoldable pub remaining : ℕ → List ℕ → ℕ
+remaining v [] = 0
+remaining v (p ∷ l) = (v - p) + remaining v l

@@ -1,0 +1,119 @@
+-- A loop over the candidates for the next vertex that keeps the best, and what a move's far end has to meet to be one.
+--
+--   BestScan T c n k r x   == r is the best of the first k candidates of n, as the code answers it, and x its count
+use Prim.Native.Nat.{ℕ, _+_, _≤_, _<_}
+use mathlib.Core.Path.{_≡_, refl, sym, ap, _∙_}
+use mathlib.Core.Bool.{Bool, true, false, _&&_}
+use mathlib.Core.Option.{Option, none, some}
+use native.Mathlib.Omega.{arith}
+use native.Mathlib.Numerals.{add-one}
+use borrow.Author.Tests.{lt-ltb, le-ltb, eq-eqb, ne-eqb}
+use lib.Dec.{eqb}
+use Rattle.moves.specs.Steps.{stepOf}
+use Rattle.moves.specs.declared.Step.{Step}
+use Rattle.moves.specs.declared.Step.the-variants.{To, Off}
+use Rattle.paths.specs.Graph.{Graph}
+use Rattle.paths.specs.Distance.{unreachable}
+use Rattle.paths.specs.Route.{onShortest, candidate, better, best}
+use Rattle.paths.proofs.More.{none-some}
+use Rattle.neighbours.proofs.Steps.{stepOf-off, stepOf-to}
+
+abbrev pub toVertex : ℕ → Step
+toVertex w = To (record { 0 = w })
+
+pub record BestScan (T : ℕ → ℕ) (c : ℕ → Option ℕ) (n k : ℕ) (r : Step) (x : ℕ) : Type 0 where
+  pub within : k ≤ n
+  pub is : r ≡ stepOf (best T c k)
+  pub count : (w : ℕ) → best T c k ≡ some w → x ≡ T w
+
+best-next : (T : ℕ → ℕ) (c : ℕ → Option ℕ) (k : ℕ) → best T c (k + 1) ≡ better T (best T c k) (c k)
+unfolding best
+best-next T c k = rw add-one
+
+better-none : (T : ℕ → ℕ) (o : Option ℕ) → better T o none ≡ o
+unfolding better
+better-none T none = refl
+better-none T (some u) = refl
+
+module _ {T : ℕ → ℕ} {c : ℕ → Option ℕ} {n : ℕ} where
+  pub best-start : BestScan T c n 0 Off 0
+  unfolding best stepOf
+  best-start = record { within = omega arith; is = refl; count = λ w e. none-some e }
+
+  keep : {k x : ℕ} {r : Step} → BestScan T c n k r x → k < n → best T c (k + 1) ≡ best T c k → BestScan T c n
+      (k + 1) r x
+  keep {k} {x} {r} h l e = record {
+    within = omega arith;
+    is = rw e (h .is);
+    count = λ w q. h .count w (sym e ∙ q);
+  }
+
+  take : {k : ℕ} (w x : ℕ) → k < n → x ≡ T w → best T c (k + 1) ≡ some w → BestScan T c n (k + 1) (toVertex w) x
+  unfolding stepOf
+  take {k} w x l xe e = record {
+    within = omega arith;
+    is = rw e;
+    count = λ u q. let s : w ≡ u = cc in xe ∙ ap T s;
+  }
+
+  pub best-off : {k x : ℕ} {r : Step} → BestScan T c n k r x → k < n → c k ≡ none → BestScan T c n (k + 1) r x
+  best-off {k} h l e = keep h l (best-next T c k ∙ rw e (better-none T (best T c k)))
+
+  module _ {k h : ℕ} {r : Step} (w x : ℕ) (b : BestScan T c n k r h) (l : k < n) (is : c k ≡ some w)
+      (counts : x ≡ T w) where
+    pub best-first : r ≡ Off → BestScan T c n (k + 1) (toVertex w) x
+    unfolding better
+    best-first e =
+        let q : best T c k ≡ none = stepOf-off (best T c k) (sym (b .is) ∙ e) in
+        take w x l counts (best-next T c k ∙ rw (q, is))
+
+    module _ (u : ℕ) (to : r ≡ toVertex u) where
+      was : best T c k ≡ some u
+      was = stepOf-to (best T c k) u (sym (b .is) ∙ to)
+
+      pub best-higher : h < x → BestScan T c n (k + 1) (toVertex w) x
+      unfolding better
+      best-higher lt =
+          take w x l counts (best-next T c k ∙ rw (was, is)
+          (rw (lt-ltb (T u) (T w) (omega (arith, b .count u was)), better)))
+
+      pub best-lower : x ≤ h → BestScan T c n (k + 1) r h
+      unfolding better
+      best-lower ge =
+          keep b l (best-next T c k ∙ rw (was, is) (rw (le-ltb (T u) (T w) (omega (arith, b .count u was)), better)))
+
+  pub best-end : {k x : ℕ} {r : Step} → BestScan T c n k r x → n ≤ k → r ≡ stepOf (best T c n)
+  best-end {k} h l = let e : k ≡ n = omega (arith, h .within) in rw e at (h .is)
+
+-- ---- on the way, and candidates
+
+module _ (D E : ℕ → ℕ) (b v : ℕ) where
+  pub onShortest-none : D b ≡ unreachable → false ≡ onShortest D E b v
+  unfolding onShortest
+  onShortest-none e = rw (le-ltb (D b) unreachable (omega arith))
+
+  pub onShortest-sum : D b < unreachable → eqb (D v + E v) (D b) ≡ onShortest D E b v
+  unfolding onShortest
+  onShortest-sum l = rw (lt-ltb (D b) unreachable l)
+
+module _ (g : Graph) (on : ℕ → Bool) (D : ℕ → ℕ) (v m : ℕ) where
+  pub candidate-none : g .step m v ≡ none → Off ≡ stepOf (candidate g on D v m)
+  unfolding candidate stepOf
+  candidate-none e = rw (e, candidate)
+
+  module _ (w : ℕ) (goes : g .step m v ≡ some w) where
+    pub candidate-uneven : (D w ≡ D v + g .cost m → ⊥) → Off ≡ stepOf (candidate g on D v m)
+    unfolding candidate stepOf
+    candidate-uneven ne = rw (goes, ne-eqb (D w) (D v + g .cost m) ne, candidate) (cases (on w))
+      where
+        cases : (p : Bool) → Off ≡ stepOf (elim (p && false) [ true ↦ some w | false ↦ none ])
+        cases true = refl
+        cases false = refl
+
+    pub candidate-off : on w ≡ false → Off ≡ stepOf (candidate g on D v m)
+    unfolding candidate stepOf
+    candidate-off e = rw (goes, e, candidate)
+
+    pub candidate-on : D w ≡ D v + g .cost m → on w ≡ true → toVertex w ≡ stepOf (candidate g on D v m)
+    unfolding candidate stepOf
+    candidate-on q e = rw (goes, e, eq-eqb (D w) (D v + g .cost m) q, candidate)

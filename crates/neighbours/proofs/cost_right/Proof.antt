@@ -1,0 +1,163 @@
+-- `neighbours::cost_right` meets its contract: the moves passed are relaxed, and the flag says whether one was tight.
+-- Assumes nothing.
+use Prim.Native.Nat.{_-_, _<_}
+use mathlib.Core.Path.{_≡_, sym, _∙_}
+use mathlib.Core.Option.{some}
+use native.Mathlib.Omega.{arith}
+use lib.ListN.{length}
+use Rattle.paths.specs.Local.{entry}
+use Rattle.neighbours.specs.Reach.{star, readStep}
+use Rattle.neighbours.proofs.Costs.{
+  CostScan,
+  scan-start,
+  scan-off,
+  scan-slack,
+  scan-tight,
+  scan-fails,
+  scan-unreached,
+  scan-source,
+  scan-end,
+}
+use Rattle.neighbours.proofs.Steps.{stepOf-off, stepOf-to}
+use borrow.Author.Needs.{needs}
+use Rattle.neighbours.proofs.cost_right.Statement.{statement}
+use Rattle.neighbours.proofs.cost_right.Tie as tie
+
+abbrev Inv-loop : tie.InvT-loop
+Inv-loop t mask source d v here tight₀ m₀ m-end tight m = CostScan (star (length d) t mask) (entry d) v m tight
+
+abbrev μ-loop : tie.MeasureT-loop
+μ-loop t mask source d v here tight₀ m₀ m-end tight m = t .count - m
+
+-- the far end of the move, once it is known to be there
+goes : (c : tie.After-known-told Inv-loop μ-loop)
+    → let s = c .before .before .before .before .before .before .before .before .args in
+    readStep (s .t) (s .mask) (s .v) (c .before .before .before .before .before .loop .m) ≡ some
+    (c .before .w .given .0 .0 .0)
+goes c = stepOf-to _ _ (sym (c .before .before .before .neighbour .ensures) ∙ c .before .w .given .1)
+
+turn : (c : tie.In-loop Inv-loop μ-loop) → c .before .loop .m < c .before .before .before .before .args .t .count
+turn c = omega arith
+
+cost-at-requires : tie.Need-cost-at-requires Inv-loop μ-loop
+cost-at-requires c κs = search needs
+
+loop-holds : tie.Need-loop-holds Inv-loop μ-loop
+loop-holds c = scan-start
+
+neighbour-requires : tie.Need-neighbour-requires Inv-loop μ-loop
+neighbour-requires c κs = c .before .before .before .before .pre .readable (c .before .loop .m) (turn c)
+
+enum-known-w : tie.Need-enum-known-w Inv-loop μ-loop
+enum-known-w c = search needs
+
+enum-told : tie.Need-enum-told Inv-loop μ-loop
+enum-told c = search needs
+
+add-m : tie.Need-add-m Inv-loop μ-loop
+add-m c = search needs
+
+loop-less : tie.Need-loop-less Inv-loop μ-loop
+loop-less c = search needs
+
+loop-again : tie.Need-loop-again Inv-loop μ-loop
+loop-again c =
+    let l = c .before .before .before in
+    scan-off (l .before .loop .inv) (turn l) (stepOf-off _
+    (sym (c .before .before .neighbour .ensures) ∙ c .enum-told .given .1))
+
+cost-at-requires-2 : tie.Need-cost-at-requires-2 Inv-loop μ-loop
+cost-at-requires-2 c κs =
+    let l = c .before .before .before .before in
+    l .before .before .before .before .pre .inside (l .before .loop .m) (c .before .w .given .0 .0 .0) (turn l)
+    (goes c)
+
+move-cost-requires : tie.Need-move-cost-requires Inv-loop μ-loop
+move-cost-requires c κs = omega (
+  arith,
+  turn (c .before .before .before .before .before),
+  c .before .before .before .before .before .before .before .before .before .pre .few,
+)
+
+add-if1 : tie.Need-add-if1 Inv-loop μ-loop
+add-if1 c = search needs
+
+returns : tie.Need-returns Inv-loop μ-loop
+returns c =
+    let k = c .before .before .before in
+    let l = k .before .before .before .before in
+    scan-fails (k .before .w .given .0 .0 .0) (l .before .loop .inv) (turn l) (goes k)
+    (l .before .before .before .before .args .source) (omega arith)
+
+add-if2 : tie.Need-add-if2 Inv-loop μ-loop
+add-if2 c = search needs
+
+add-m-2 : tie.Need-add-m-2 Inv-loop μ-loop
+add-m-2 c = search needs
+
+loop-less-2 : tie.Need-loop-less-2 Inv-loop μ-loop
+loop-less-2 c = search needs
+
+loop-again-2 : tie.Need-loop-again-2 Inv-loop μ-loop
+loop-again-2 c =
+    let k = c .before .before .before .before in
+    let l = k .before .before .before .before in
+    scan-slack (k .before .w .given .0 .0 .0) (l .before .loop .inv) (turn l) (goes k) (omega arith)
+    (λ e. omega arith)
+
+add-m-3 : tie.Need-add-m-3 Inv-loop μ-loop
+add-m-3 c = search needs
+
+loop-less-3 : tie.Need-loop-less-3 Inv-loop μ-loop
+loop-less-3 c = search needs
+
+loop-again-3 : tie.Need-loop-again-3 Inv-loop μ-loop
+loop-again-3 c =
+    let k = c .before .before .before .before in
+    let l = k .before .before .before .before in
+    scan-tight (k .before .w .given .0 .0 .0) (l .before .loop .inv) (turn l) (goes k) (omega arith) (omega arith)
+
+returns-2 : tie.Need-returns-2 Inv-loop μ-loop
+returns-2 c =
+    let l = c .before .before in
+    scan-unreached (l .before .before .before .args .source) (l .loop .inv) (omega arith) (omega arith) (omega arith)
+
+returns-3 : tie.Need-returns-3 Inv-loop μ-loop
+returns-3 c =
+    let l = c .before .before .before in
+    scan-source (l .before .before .before .args .source) (l .loop .inv) (omega arith) (omega arith) (c .if4 .taken)
+
+returns-4 : tie.Need-returns-4 Inv-loop μ-loop
+returns-4 c =
+    let l = c .before .before .before in
+    scan-end (l .before .before .before .args .source) (l .loop .inv) (omega arith) (omega arith)
+    (λ e. omega arith) (c .if4 .left)
+
+pub cost-right-spec : {M : Type 1} → statement M
+cost-right-spec =
+    tie.close
+    (tie.spec
+    Inv-loop
+    μ-loop
+    cost-at-requires
+    loop-holds
+    neighbour-requires
+    enum-known-w
+    enum-told
+    add-m
+    loop-less
+    loop-again
+    cost-at-requires-2
+    move-cost-requires
+    add-if1
+    returns
+    add-if2
+    add-m-2
+    loop-less-2
+    loop-again-2
+    add-m-3
+    loop-less-3
+    loop-again-3
+    returns-2
+    returns-3
+    returns-4)

@@ -1,0 +1,218 @@
+// What the open moves of a vertex say of numbers that are kept for each vertex: costs, counts and the next vertex of
+// the central route.
+ghost use mathlib.Core.Path.{_≡_};
+ghost use Prim.Native.Nat.{_<_, _≤_, _^_};
+ghost use lib.ListN.{length};
+ghost use Rattle.moves.specs.Steps.{stepOf};
+ghost use Rattle.moves.specs.Table.{Listed};
+ghost use Rattle.paths.specs.Route.{onShortest};
+ghost use Rattle.paths.specs.Local.{entry, rightCost, inflow};
+ghost use Rattle.neighbours.specs.Reach.{readStep, star, Readable, Here, Built, sumOf};
+ghost use Rattle.neighbours.specs.Choice.{Choosing, Counted, candidateOf, traversalOf, nextOf};
+use floor::Vertex;
+use moves::Offset;
+use moves::Rows;
+use moves::Step;
+
+// The moves of a neighbourhood on floors of one width: of each its row in the table, which is its bit in a mask, how far
+// it leads up and how far down in vertex numbers, and its cost.
+pub struct Reach {
+    pub count: usize,
+    pub row: [usize; 8],
+    pub up: [usize; 8],
+    pub down: [usize; 8],
+    pub cost: [u32; 8],
+}
+
+// A sum of counts, where it fits 64 bits.
+pub enum Sum {
+    Is(u64),
+    Over,
+}
+
+// A cost in 64 bits, where a sum of two fits.
+fn wide(x: u32) -> u64
+    ensures { λ r. ⌜ (r ≡ x) × (r < 4294967296) ⌝ }
+{
+    x as u64
+}
+
+// The cost of vertex v, in 64 bits.
+fn cost_at(d: &[u32], v: usize) -> u64
+    requires { ⌜ v < length (now d) ⌝ }
+    ensures { λ r. ⌜ (r ≡ entry (now (d .entry)) v) × (r < 4294967296) ⌝ }
+{
+    wide(d[v])
+}
+
+// The cost of move m, in 64 bits.
+fn move_cost(t: Reach, m: usize) -> u64
+    requires { ⌜ m < 8 ⌝ }
+    ensures { λ r. ⌜ (r ≡ entry (t .cost) m) × (r < 4294967296) ⌝ }
+{
+    wide(t.cost[m])
+}
+
+// Where move m leads from v, by the mask of its open moves.
+pub fn neighbour(t: Reach, mask: u32, v: usize, m: usize) -> Step
+    requires { ⌜ Readable t mask v m ⌝ }
+    ensures { λ r. ⌜ r ≡ stepOf (readStep t mask v m) ⌝ }
+{
+    let row = t.row[m];
+    let by = Offset {
+        up: t.up[m],
+        down: t.down[m],
+    };
+    moves::masked_step(mask, Vertex(v), row, by)
+}
+
+// The moves of the rows of a neighbourhood on floors of width w.
+pub fn reach_of(w: usize, rows: Rows) -> Reach
+    requires { ⌜ (w ≤ 127) × Listed rows ⌝ }
+    ensures { λ r. ⌜ Built w rows r ⌝ }
+{
+    let mut t = Reach {
+        count: rows.count,
+        row: [0; 8],
+        up: [0; 8],
+        down: [0; 8],
+        cost: [0; 8],
+    };
+    for m in 0..rows.count {
+        let by = moves::offset_of(w, rows, m);
+        t.row[m] = moves::row_at(rows, m);
+        t.up[m] = by.up;
+        t.down[m] = by.down;
+        t.cost[m] = moves::move_at(rows, m).cost;
+    }
+    t
+}
+
+// The cost d(v) is right from the source, as far as v and its neighbours can tell.
+pub fn cost_right(t: Reach, mask: u32, source: usize, d: &[u32], v: usize) -> bool
+    requires { ⌜ Here (length (now d)) t mask v ⌝ }
+    ensures { λ r. ⌜ r ≡ rightCost (star (length (now (d .entry))) t mask) source (entry (now (d .entry))) v ⌝ }
+{
+    let here = cost_at(d, v);
+    let mut tight = false;
+    for m in 0..t.count {
+        let Step::To(w) = neighbour(t, mask, v, m) else {
+            continue;
+        };
+        let there = cost_at(d, w.0);
+        let c = move_cost(t, m);
+        if here + c < there {
+            return false;
+        }
+        if there + c != here {
+            continue;
+        }
+        tight = true;
+    }
+    if here == 4294967295 {
+        return true;
+    }
+    if v == source {
+        return true;
+    }
+    tight
+}
+
+// The sum of the counts f of the neighbours of v that lead to it cheapest, by the costs d.
+pub fn inflow_at(t: Reach, mask: u32, d: &[u32], f: &[u64], v: usize) -> Sum
+    requires { ⌜ Here (length (now d)) t mask v × (length (now f) ≡ length (now d)) ⌝ }
+    ensures { λ r. ⌜ r ≡ sumOf
+        (inflow (star (length (now (d .entry))) t mask) (entry (now (d .entry))) (entry (now (f .entry))) v) ⌝ }
+{
+    let here = cost_at(d, v);
+    let mut s: u64 = 0;
+    for m in 0..t.count {
+        let Step::To(w) = neighbour(t, mask, v, m) else {
+            continue;
+        };
+        if cost_at(d, w.0) + move_cost(t, m) != here {
+            continue;
+        }
+        let at = w.0;
+        let x = f[at];
+        if 18446744073709551615 - s < x {
+            return Sum::Over;
+        }
+        s += x;
+    }
+    Sum::Is(s)
+}
+
+// Whether v is on the way to the goal, by the costs d from the start and e to the goal.
+pub fn on_way(d: &[u32], e: &[u32], goal: usize, v: usize) -> bool
+    requires { ⌜ (goal < length (now d)) × (v < length (now d)) × (v < length (now e)) ⌝ }
+    ensures { λ r. ⌜ r ≡ onShortest (entry (now (d .entry))) (entry (now (e .entry))) goal v ⌝ }
+{
+    let total = cost_at(d, goal);
+    if total == 4294967295 {
+        return false;
+    }
+    cost_at(d, v) + cost_at(e, v) == total
+}
+
+// Where move m leads the route from v: a vertex on the way that costs just the move more than v.
+fn candidate_at(t: Reach, mask: u32, d: &[u32], e: &[u32], goal: usize, v: usize, m: usize) -> Step
+    requires { ⌜ Choosing t mask (now d) (now e) goal v × (m < t .count) ⌝ }
+    ensures { λ r. ⌜ r ≡ stepOf (candidateOf t mask (now (d .entry)) (now (e .entry)) goal v m) ⌝ }
+{
+    let Step::To(w) = neighbour(t, mask, v, m) else {
+        return Step::Off;
+    };
+    let at = w.0;
+    if cost_at(d, at) != cost_at(d, v) + move_cost(t, m) {
+        return Step::Off;
+    }
+    if on_way(d, e, goal, at) {
+        return Step::To(w);
+    }
+    Step::Off
+}
+
+// The traversal count of v.
+fn traversal_at(f: &[u64], b: &[u64], v: usize) -> u64
+    requires { ⌜ (v < length (now f)) × (v < length (now b)) × (traversalOf (now f) (now b) v < 2 ^ 64) ⌝ }
+    ensures { λ r. ⌜ r ≡ traversalOf (now (f .entry)) (now (b .entry)) v ⌝ }
+{
+    f[v] * b[v]
+}
+
+// Where the central route goes from v, by the costs d and e and the counts f and b; off the floor where it is stuck.
+pub fn next_at(
+    t: Reach,
+    mask: u32,
+    d: &[u32],
+    e: &[u32],
+    f: &[u64],
+    b: &[u64],
+    goal: usize,
+    v: usize,
+) -> Step
+    requires { ⌜ Choosing t mask (now d) (now e) goal v × Counted (length (now d)) (now f) (now b) ⌝ }
+    ensures { λ r. ⌜ r ≡ stepOf
+        (nextOf t mask (now (d .entry)) (now (e .entry)) (now (f .entry)) (now (b .entry)) goal v) ⌝ }
+{
+    let mut best = Step::Off;
+    let mut high: u64 = 0;
+    for m in 0..t.count {
+        let Step::To(w) = candidate_at(t, mask, d, e, goal, v, m) else {
+            continue;
+        };
+        let x = traversal_at(f, b, w.0);
+        let Step::To(_) = best else {
+            best = Step::To(w);
+            high = x;
+            continue;
+        };
+        if x <= high {
+            continue;
+        }
+        best = Step::To(w);
+        high = x;
+    }
+    best
+}

@@ -1,0 +1,201 @@
+-- The parts put together: from the costs from a, those to b with their order, and the masks, to counts and route.
+--
+--   found-few, found-sized, found-readied, found-known == what the counting passes take
+--   found-walkable              == what the walk of the route takes, where the total fits
+--   found-many, found-route     == the two ways to end
+--   finish-none                 == the whole, where no walk joins the ends
+--   finish-findable             == where one does, a route can be looked for
+--   finish-cleared              == and the working slice is cleared
+use Prim.Native.Nat.{ℕ, _*_, _≤_, _<_}
+use mathlib.Core.Path.{_≡_, refl, sym, ap, _∙_, subst}
+use mathlib.Core.Bool.{Bool, true, false}
+use mathlib.Core.List.{List}
+use native.Mathlib.Omega.{arith}
+use lib.ListN.{length, length-replicate}
+use Rattle.basics.specs.Lists.{tabulate, zeros}
+use Rattle.basics.proofs.Lists.{length-tabulate, getD-tabulate, tabulate-cong}
+use Rattle.floor.specs.Floor.{floorOf, vertices}
+use Rattle.floor.specs.declared.Refusal.the-variants.{NoRoute, TooMany}
+use Rattle.moves.specs.declared.Rows.{Rows}
+use Rattle.moves.proofs.Table.{listed-lawful}
+use Rattle.paths.specs.Graph.{Graph, Lawful}
+use Rattle.paths.specs.Distance.{unreachable, distance, pathCount}
+use Rattle.paths.specs.Route.{countFrom}
+use Rattle.paths.specs.Local.{entry}
+use Rattle.paths.proofs.Distance.{distance-le}
+use Rattle.paths.proofs.Reverse.{distance-sym}
+use Rattle.paths.proofs.Way.{way-end, countFrom-way}
+use Rattle.paths.proofs.Sheets.{fits-total}
+use Rattle.grid.specs.Grid.{floorGraph}
+use Rattle.grid.proofs.Lawful.{floor-lawful, size-le}
+use Rattle.neighbours.specs.declared.Reach.{Reach}
+use Rattle.neighbours.specs.Reach.{Built}
+use Rattle.distances.specs.Order.{OrderedCosts, Masked}
+use Rattle.counts.specs.Passes.{Priced, Readied, Known, Filled}
+use Rattle.planner.specs.declared.Planned.{Planned}
+use Rattle.planner.specs.declared.Planned.the-variants.{Found, Refused}
+use Rattle.planner.specs.Plan.{slicesOf}
+use Rattle.planner.specs.Parts.{Finishable, Findable, Finished, Walkable, Routed}
+use Rattle.planner.proofs.Finishing.{finished-none, finished-many, finished-route}
+
+module _ {w h : ℕ} {map : List ℕ} {rows : Rows} {a b : ℕ} {d e f back route work : List ℕ}
+    (F : Findable w h map rows a b d e f back route work) where
+  abbrev g : Graph
+  g = floorGraph (floorOf w h map) rows
+
+  few : g .size ≤ 16384
+  few = size-le (floorOf w h map) (F .finishable .job .sized .wide) (F .finishable .job .sized .high) rows
+
+  lawful : Lawful g
+  lawful = floor-lawful (floorOf w h map) rows (listed-lawful (F .finishable .job .listed))
+
+  d-len : length d ≡ g .size
+  d-len = F .finishable .lent .d-len
+
+  pub found-few : length d ≤ 16384
+  found-few = omega (arith, d-len, few)
+
+  pub found-sized : (a < length d) × (b < length d) × (f ≡ zeros (length d)) × (back ≡ zeros (length d))
+  found-sized = (
+    omega (arith, d-len, F .finishable .job .start-in),
+    omega (arith, d-len, F .finishable .job .goal-in),
+    F .f-blank ∙ ap zeros (sym d-len),
+    F .back-blank ∙ ap zeros (sym d-len),
+  )
+
+  module _ {n : ℕ} {t : Reach} {e′ work′ : List ℕ} (C : OrderedCosts (floorOf w h map) rows b n e′ work′)
+      (B : Built w rows t) where
+    e-true : e′ ≡ tabulate (g .size) (λ v. distance g v b)
+    e-true =
+        C .costs
+        ∙ tabulate-cong (g .size) (distance g b) _ (λ v i. distance-sym g lawful b v (F .finishable .job .goal-in) i)
+
+    e-len : length e′ ≡ g .size
+    e-len = ap length e-true ∙ length-tabulate (g .size) _
+
+    masked : Masked g t work′
+    masked = C .masked t B
+
+    priced : Priced g t
+    priced = record { cost = λ m l. B .move m (omega (arith, B .count)) .cost }
+
+    pub found-readied : Readied t n d e′ work′
+    found-readied = record {
+      few = omega (arith, few, d-len);
+      e-len = e-len ∙ sym d-len;
+      work-len = omega (arith, C .work-len, d-len);
+      short = omega (arith, C .few, d-len);
+      vertex = rw d-len (C .ordered .inside);
+      here = rw d-len (masked .here);
+    }
+
+    pub found-known : Known g t a b n true d e′ work′
+    found-known = record {
+      lawful = lawful;
+      start-in = F .finishable .job .start-in;
+      goal-in = F .finishable .job .goal-in;
+      reached = F .reached;
+      costs-from = F .finishable .costs;
+      costs-to = e-true;
+      masked = masked;
+      priced = priced;
+      ordered = C .ordered;
+    }
+
+    module _ {r : Bool} {f′ back′ : List ℕ} (filled : Filled g a b r f′ back′) where
+      pub found-many : r ≡ false
+          → Finished g a b (Refused TooMany) (slicesOf d e′ f′ back′ route (zeros (4 * vertices w h)))
+      found-many over =
+          let K = subst (λ z. Filled g a b z f′ back′) over filled in
+          finished-many (F .finishable .costs) refl (F .reached) e-true (sym (K .answer)) (K .f-left) (K .back-left)
+          (F .route-blank)
+
+      module _ (fit : r ≡ true) where
+        K : Filled g a b true f′ back′
+        K = subst (λ z. Filled g a b z f′ back′) fit filled
+
+        pub found-walkable : Walkable g t a b d e′ f′ back′ work′ route
+        found-walkable = record {
+          few = few;
+          lawful = lawful;
+          start-in = F .finishable .job .start-in;
+          goal-in = F .finishable .job .goal-in;
+          reached = F .reached;
+          total = fits-total g a b (sym (K .answer));
+          d-true = F .finishable .costs;
+          e-true = e-true;
+          f-true = K .f-left;
+          back-true = K .back-left;
+          masked = masked;
+          priced = priced;
+          work-len = C .work-len;
+          blank = F .route-blank;
+        }
+
+        cost-at : entry d b ≡ distance g a b
+        cost-at =
+            ap (λ l. entry l b) (F .finishable .costs)
+            ∙ getD-tabulate (g .size) b (distance g a) (F .finishable .job .goal-in)
+
+        -- The count from a at b is the total.
+        total-at : entry f′ b ≡ pathCount g a b
+        total-at =
+            ap (λ l. entry l b) (K .f-left)
+            ∙ getD-tabulate (g .size) b (countFrom g a b) (F .finishable .job .goal-in)
+            ∙ countFrom-way g a b b (way-end g lawful a b (F .reached))
+
+        pub found-route : {route′ : List ℕ} (k : ℕ) → Routed g a b route′ k
+            → Finished g a b (Found (entry d b) (entry f′ b) k) (slicesOf d e′ f′ back′ route′ (zeros (4 * vertices w h)))
+        found-route k R =
+            finished-route (F .finishable .costs) refl (F .reached) e-true (entry d b) (entry f′ b) k (sym (K .answer))
+            cost-at total-at (R .points) (K .f-left) (K .back-left) (R .list)
+
+-- ---- from a job of good shape and the costs from a
+
+module _ {w h : ℕ} {map : List ℕ} {rows : Rows} {a b : ℕ} {d e f back route work f′ back′ route′ : List ℕ}
+    (P : Finishable w h map rows a b d e f back route work) (f-blank : f′ ≡ zeros (length f))
+    (back-blank : back′ ≡ zeros (length back)) (route-blank : route′ ≡ zeros (length route)) where
+  abbrev graph : Graph
+  graph = floorGraph (floorOf w h map) rows
+
+  goal-cost : entry d b ≡ distance graph a b
+  goal-cost = ap (λ l. entry l b) (P .costs) ∙ getD-tabulate (vertices w h) b (distance graph a) (P .job .goal-in)
+
+  pub finish-none : {e′ work′ : List ℕ} → entry d b ≡ unreachable → e′ ≡ zeros (length e) → work′ ≡ zeros (length work)
+      → Finished graph a b (Refused NoRoute) (slicesOf d e′ f′ back′ route′ work′)
+  finish-none far e-blank work-blank =
+      finished-none (P .costs) (work-blank ∙ ap zeros (P .lent .work-len)) (sym goal-cost ∙ far)
+      (e-blank ∙ ap zeros (P .lent .e-len)) (f-blank ∙ ap zeros (P .lent .f-len))
+      (back-blank ∙ ap zeros (P .lent .back-len)) (route-blank ∙ ap zeros (P .lent .route-len))
+
+  pub finish-findable : (entry d b ≡ unreachable → ⊥) → Findable w h map rows a b d e f′ back′ route′ work
+  finish-findable near = record {
+    finishable = record {
+      job = P .job;
+      lent = record {
+        d-len = P .lent .d-len;
+        e-len = P .lent .e-len;
+        f-len = length-of f f-blank ∙ P .lent .f-len;
+        back-len = length-of back back-blank ∙ P .lent .back-len;
+        route-len = length-of route route-blank ∙ P .lent .route-len;
+        work-len = P .lent .work-len;
+      };
+      costs = P .costs;
+    };
+    reached = omega (arith, goal-cost, distance-le graph a b, near-ne);
+    f-blank = f-blank ∙ ap zeros (P .lent .f-len);
+    back-blank = back-blank ∙ ap zeros (P .lent .back-len);
+    route-blank = route-blank ∙ ap zeros (P .lent .route-len);
+  }
+    where
+      length-of : {l′ : List ℕ} (l : List ℕ) → l′ ≡ zeros (length l) → length l′ ≡ length l
+      length-of l q = ap length q ∙ length-replicate (length l) 0
+
+      near-ne : distance graph a b ≡ unreachable → ⊥
+      near-ne q = near (goal-cost ∙ q)
+
+-- What stood in the working slice does not matter: it is cleared.
+pub finish-cleared : {g : Graph} {a b : ℕ} {r : Planned} {d e f back route work work′ : List ℕ}
+    → Finished g a b r (slicesOf d e f back route work) → work′ ≡ work
+    → Finished g a b r (slicesOf d e f back route work′)
+finish-cleared F q = rw q F

@@ -1,0 +1,4 @@
+pub mod Walking
+pub mod Finishing
+pub mod Finding
+pub mod Shaped

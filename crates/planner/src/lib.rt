@@ -1,0 +1,264 @@
+// The planner: costs, counts and the central route of a job.
+mod route; // route.rt: the central route, written as it is walked
+
+ghost use mathlib.Core.Path.{_≡_};
+ghost use Prim.Native.Nat.{_*_, _≤_};
+ghost use Rattle.basics.specs.Lists.{zeros};
+ghost use Rattle.floor.specs.Floor.{floorOf, vertices};
+ghost use Rattle.grid.specs.Grid.{floorGraph};
+ghost use Rattle.planner.specs.Plan.{planNumber, planCost, planTotal, planPoints, slicesOf, Plans};
+ghost use Rattle.planner.specs.Parts.{lengthsGood, GoodJob, Finishable, Findable, Finished, PlansJob};
+use floor::Refusal;
+use floor::Vertex;
+use grid::Job;
+use moves::Rows;
+
+// The answer: a route's cost, the number of cheapest routes and the number of its points, or a refusal.
+pub enum Planned {
+    Found {
+        cost: u32,
+        total: u64,
+        points: usize,
+    },
+    Refused(Refusal),
+}
+
+// Document 01's number of an answer.
+pub fn plan_number(p: Planned) -> u8
+    ensures { λ r. ⌜ r ≡ planNumber p ⌝ }
+{
+    match p {
+        Planned::Found {
+            cost: _,
+            total: _,
+            points: _,
+        } => 0,
+        Planned::Refused(r) => floor::refusal_number(r),
+    }
+}
+
+// The cost of the route that was found; 0 on a refusal.
+pub fn plan_cost(p: Planned) -> u32
+    ensures { λ r. ⌜ r ≡ planCost p ⌝ }
+{
+    match p {
+        Planned::Found {
+            cost: c,
+            total: _,
+            points: _,
+        } => c,
+        Planned::Refused(_) => 0,
+    }
+}
+
+// The number of cheapest routes; 0 on a refusal.
+pub fn plan_total(p: Planned) -> u64
+    ensures { λ r. ⌜ r ≡ planTotal p ⌝ }
+{
+    match p {
+        Planned::Found {
+            cost: _,
+            total: t,
+            points: _,
+        } => t,
+        Planned::Refused(_) => 0,
+    }
+}
+
+// The number of points of the route that was found; 0 on a refusal.
+pub fn plan_points(p: Planned) -> usize
+    ensures { λ r. ⌜ r ≡ planPoints p ⌝ }
+{
+    match p {
+        Planned::Found {
+            cost: _,
+            total: _,
+            points: n,
+        } => n,
+        Planned::Refused(_) => 0,
+    }
+}
+
+// Refusal 6 does not apply: slices of these lengths have the places that a floor of v vertices needs.
+fn lengths_good(
+    v: usize,
+    d: usize,
+    e: usize,
+    f: usize,
+    back: usize,
+    route: usize,
+    work: usize,
+) -> bool
+    requires { ⌜ v ≤ 16384 ⌝ }
+    ensures { λ r. ⌜ r ≡ lengthsGood v d e f back route work ⌝ }
+{
+    if d != v {
+        return false;
+    }
+    if e != v {
+        return false;
+    }
+    if f != v {
+        return false;
+    }
+    if back != v {
+        return false;
+    }
+    if route != v {
+        return false;
+    }
+    work == 4 * v
+}
+
+// The route of a job whose ends a walk joins, from the costs d from a: fills e, and then counts and route, which are
+// all 0, or refuses and leaves them so. What it leaves in the working slice is nobody's.
+fn find_route(
+    w: usize,
+    h: usize,
+    map: &[u8],
+    rows: Rows,
+    a: Vertex,
+    b: Vertex,
+    d: &[u32],
+    e: &mut [u32],
+    f: &mut [u64],
+    back: &mut [u64],
+    route: &mut [u16],
+    work: &mut [u32],
+) -> Planned
+    requires { ⌜ Findable w h (now map) rows (a .0) (b .0) (now d) (now e) (now f) (now back) (now route) (now work) ⌝ }
+    ensures { λ r. ⌜ Finished (floorGraph (floorOf w h (now (map .entry))) rows) (a .0) (b .0) r
+        (slicesOf (now (d .entry)) (now (e .exit)) (now (f .exit)) (now (back .exit)) (now (route .exit))
+        (zeros (4 * vertices w h))) ⌝ }
+{
+    let n = distances::costs_and_order(w, h, map, rows, b, e, work);
+    let t = neighbours::reach_of(w, rows);
+    let start = a.0;
+    let goal = b.0;
+    if !counts::fill_counts(t, start, goal, n, d, e, work, f, back) {
+        return Planned::Refused(Refusal::TooMany);
+    }
+    let points = route::write_route(t, start, goal, d, e, f, back, work, route);
+    Planned::Found {
+        cost: d[goal],
+        total: f[goal],
+        points: points,
+    }
+}
+
+// Finishes a job of good shape from the costs d from a: answers 0, 7 or 8, and leaves the other slices as document 01
+// says. It relies on nothing that stands in them.
+pub fn finish(
+    w: usize,
+    h: usize,
+    map: &[u8],
+    rows: Rows,
+    a: Vertex,
+    b: Vertex,
+    d: &[u32],
+    e: &mut [u32],
+    f: &mut [u64],
+    back: &mut [u64],
+    route: &mut [u16],
+    work: &mut [u32],
+) -> Planned
+    requires { ⌜ Finishable w h (now map) rows (a .0) (b .0) (now d) (now e) (now f) (now back) (now route) (now work) ⌝ }
+    ensures { λ r. ⌜ Finished (floorGraph (floorOf w h (now (map .entry))) rows) (a .0) (b .0) r
+        (slicesOf (now (d .entry)) (now (e .exit)) (now (f .exit)) (now (back .exit)) (now (route .exit))
+        (now (work .exit))) ⌝ }
+{
+    basics::clear_u64(f);
+    basics::clear_u64(back);
+    basics::clear_u16(route);
+    let goal = b.0;
+    if d[goal] == paths::UNREACHABLE {
+        basics::fill_u32(e, 0);
+        basics::fill_u32(work, 0);
+        return Planned::Refused(Refusal::NoRoute);
+    }
+    let found = find_route(w, h, map, rows, a, b, d, e, f, back, route, work);
+    basics::fill_u32(work, 0);
+    found
+}
+
+// Plans a job whose floor, neighbourhood and ends have a good shape: refusal 6, or the answer and slices of the job.
+fn plan_job(
+    w: usize,
+    h: usize,
+    map: &[u8],
+    rows: Rows,
+    a: Vertex,
+    b: Vertex,
+    d: &mut [u32],
+    e: &mut [u32],
+    f: &mut [u64],
+    back: &mut [u64],
+    route: &mut [u16],
+    work: &mut [u32],
+) -> Planned
+    requires { ⌜ GoodJob w h (now map) rows (a .0) (b .0) ⌝ }
+    ensures { λ r. ⌜ PlansJob w h (now (map .entry)) rows (a .0) (b .0)
+        (slicesOf (now (d .entry)) (now (e .entry)) (now (f .entry)) (now (back .entry)) (now (route .entry))
+        (now (work .entry))) r
+        (slicesOf (now (d .exit)) (now (e .exit)) (now (f .exit)) (now (back .exit)) (now (route .exit))
+        (now (work .exit))) ⌝ }
+{
+    let v = floor::vertex_count(w, h);
+    if !lengths_good(
+        v,
+        d.len(),
+        e.len(),
+        f.len(),
+        back.len(),
+        route.len(),
+        work.len(),
+    ) {
+        return Planned::Refused(Refusal::SliceLength);
+    }
+    distances::fill_costs(w, h, map, rows, a, d, work);
+    finish(w, h, map, rows, a, b, d, e, f, back, route, work)
+}
+
+// The planner. For every input it gives document 01's answer, and leaves every lent slice as document 01 says: answers
+// 1 to 6 touch nothing.
+//
+// Lent are the sheet's slices d, e, f, back (document 01's b) and route, of V places each, and a working slice of 4 * V.
+pub fn plan(
+    w: usize,
+    h: usize,
+    map: &[u8],
+    nb: usize,
+    a: usize,
+    b: usize,
+    d: &mut [u32],
+    e: &mut [u32],
+    f: &mut [u64],
+    back: &mut [u64],
+    route: &mut [u16],
+    work: &mut [u32],
+) -> Planned
+    ensures { λ r. ⌜ Plans w h (now (map .entry)) nb a b
+        (slicesOf (now (d .entry)) (now (e .entry)) (now (f .entry)) (now (back .entry)) (now (route .entry))
+        (now (work .entry))) r
+        (slicesOf (now (d .exit)) (now (e .exit)) (now (f .exit)) (now (back .exit)) (now (route .exit))
+        (now (work .exit))) ⌝ }
+{
+    let job = grid::job_of(w, h, map, nb, a, b);
+    match job {
+        Job::Unfit(r) => Planned::Refused(r),
+        Job::Fit(rows) => plan_job(
+            w,
+            h,
+            map,
+            rows,
+            Vertex(a),
+            Vertex(b),
+            d,
+            e,
+            f,
+            back,
+            route,
+            work,
+        ),
+    }
+}
