@@ -1,12 +1,17 @@
 /* Lurfanzi: verified route planning for carts on a floor of cells.
  *
  * Every function is total: any numbers and any bytes may be handed in. It ends, reads and writes nothing but the memory
- * it is lent, and answers with one of the numbers below. What each answer means for all inputs is proved of the code
- * (crates/capi); the proofs do not cover this header, which tests/c holds to the code.
+ * it is lent, and answers with one of the numbers below. What each answer means, and what each lent number is afterwards,
+ * is proved of the code for all inputs (crates/capi). The proofs do not cover this header; tests/c holds it to the code.
+ *
+ * The floor. width and height are its sides in cells, 1 to 127; map has width * height bytes, row by row, 0 open and
+ * 1 blocked. Vertices are the cell corners: the one in column x and row y has number x + y * (width + 1), and there are
+ * V = (width + 1) * (height + 1) of them. neighbourhood is 4 or 8.
  *
  * Memory. A slice is a pointer and the number of its elements. The pointer of a slice with elements must be valid for
- * them and aligned for their type; the pointer of a slice of length 0 may be anything, null included, and is not read.
- * No two slices of one call may overlap.
+ * all of them and aligned for their type; the pointer of a slice of length 0 may be anything, null included, and is
+ * not used. A slice that a call writes may overlap no other slice of the call: a list must not be thinned onto itself.
+ * Numbers are 32 bits wide or a size_t, so that none is cut down on its way in.
  */
 #ifndef LURFANZI_H
 #define LURFANZI_H
@@ -18,32 +23,84 @@
 extern "C" {
 #endif
 
-/* Refusals, by the numbers of the rules. A call gives the first that applies. */
+/* The answers. A call gives the first refusal that applies, in the order of these numbers. */
 enum {
+    LURFANZI_OK = 0,
     LURFANZI_BAD_SIZE = 1,          /* a side is not 1 to 127 */
-    LURFANZI_BAD_MAP_LENGTH = 2,    /* the map has not W * H bytes */
+    LURFANZI_BAD_MAP_LENGTH = 2,    /* the map has not width * height bytes */
     LURFANZI_BAD_MAP_BYTE = 3,      /* a map byte is above 1 */
     LURFANZI_BAD_NEIGHBOURHOOD = 4, /* the neighbourhood is not 4 or 8 */
-    LURFANZI_BAD_END = 5,           /* an end is not below V = (W + 1) * (H + 1) */
-    LURFANZI_BAD_SLICE_LENGTH = 6   /* a lent slice has another length than asked */
+    LURFANZI_BAD_END = 5,           /* an end is not below V */
+    LURFANZI_BAD_SLICE_LENGTH = 6,  /* a lent slice has another length than asked */
+    LURFANZI_NO_ROUTE = 7,          /* no open walk joins the ends */
+    LURFANZI_TOO_MANY = 8,          /* the cheapest routes number more than 2^64 - 1 */
+    LURFANZI_FALSE_SHEET = 9,       /* the sheet is not a true one */
+    LURFANZI_NOT_JOINED = 10        /* the list is not a joined list of vertices */
 };
 
-/* The sight question's own answers. Only 0 says that the way is clear. */
+/* The sight question's own answers. Only LURFANZI_SIGHT_YES says that the way is clear. */
 enum {
     LURFANZI_SIGHT_YES = 0,
     LURFANZI_SIGHT_NO = 100
 };
 
+/* The cost where no open walk joins two vertices. */
+#define LURFANZI_UNREACHABLE UINT32_C(4294967295)
+
 /* Do the vertices a and b see each other?
  *
- * width, height   the floor's sides in cells, 1 to 127
- * map             width * height bytes, row by row, 0 open and 1 blocked; read only
- * a, b            vertex numbers, column + row * (width + 1), below V
- *
- * Answers LURFANZI_SIGHT_YES or LURFANZI_SIGHT_NO, or refuses with 1, 2, 3 or 5, in this order.
- * Writes nothing.
+ * Answers LURFANZI_SIGHT_YES or LURFANZI_SIGHT_NO, or refuses with 1, 2, 3 or 5. Writes nothing.
  */
 uint8_t lurfanzi_sight(uint32_t width, uint32_t height, const uint8_t *map, size_t map_length, uint32_t a, uint32_t b);
+
+typedef struct {
+    uint64_t total;  /* the number of cheapest routes */
+    size_t points;   /* the number of vertices of the central route, its ends among them */
+    uint32_t cost;   /* its cost */
+    uint8_t answer;  /* 0, or a refusal 1 to 8; the other members are 0 at a refusal */
+} lurfanzi_plan_result;
+
+/* Plans the central route from vertex a to vertex b, and fills its sheet.
+ *
+ * d, e       V costs: d from a, e to b
+ * f, back    V counts of cheapest walks: f from a, back to b; 0 off the cheapest routes
+ * route      V vertices: the points of the route, then 0
+ * work       4 * V numbers of working memory; what it holds at entry does not matter
+ *
+ * answer     d          e          f, back    route      work
+ * 0          true       true       true       true       0
+ * 1 to 6     untouched  untouched  untouched  untouched  untouched
+ * 7          true       0          0          0          0
+ * 8          true       true       0          0          0
+ */
+lurfanzi_plan_result lurfanzi_plan(
+    uint32_t width, uint32_t height, const uint8_t *map, size_t map_length, uint32_t neighbourhood, uint32_t a, uint32_t b,
+    uint32_t *d, size_t d_length, uint32_t *e, size_t e_length, uint64_t *f, size_t f_length,
+    uint64_t *back, size_t back_length, uint16_t *route, size_t route_length, uint32_t *work, size_t work_length);
+
+/* Checks a filled sheet from any planner, with n the number of its route's points. Writes nothing.
+ *
+ * Answers 0 exactly when every slice and n are the true route sheet, LURFANZI_NO_ROUTE exactly when they are the true
+ * no-route sheet (d true, all else 0), and LURFANZI_FALSE_SHEET for every other sheet; or refuses with 1 to 6.
+ */
+uint8_t lurfanzi_check(
+    uint32_t width, uint32_t height, const uint8_t *map, size_t map_length, uint32_t neighbourhood, uint32_t a, uint32_t b,
+    const uint32_t *d, size_t d_length, const uint32_t *e, size_t e_length, const uint64_t *f, size_t f_length,
+    const uint64_t *back, size_t back_length, const uint16_t *route, size_t route_length, size_t n);
+
+typedef struct {
+    size_t kept;     /* how many positions are kept; 0 at a refusal */
+    uint8_t answer;  /* 0, or a refusal: 1, 2, 3, 6 or 10 */
+} lurfanzi_thin_result;
+
+/* Thins the first n vertices of list to the positions that a cart needs: each kept vertex sees the next.
+ *
+ * list       at most 16,384 vertices; places past n are not read
+ * out        as long as list: at answer 0 the kept positions in list, then 0; untouched at a refusal
+ */
+lurfanzi_thin_result lurfanzi_thin(
+    uint32_t width, uint32_t height, const uint8_t *map, size_t map_length,
+    const uint16_t *list, size_t list_length, uint16_t *out, size_t out_length, size_t n);
 
 #ifdef __cplusplus
 }

@@ -1,0 +1,154 @@
+//! Holds the programs to each other: same answers, same slices.
+
+use crate::floors::{Case, Kind, Random, KINDS};
+use crate::lurfanzi::{Floor, Job, Plan, Refusal, Verdict};
+use crate::programs::{Program, Slices, PROGRAMS, TEXTBOOK};
+
+/// What the textbook program makes of a job.
+struct Truth {
+    planned: Result<Plan, Refusal>,
+    slices: Slices,
+    verdict: Verdict,
+    kept: Vec<u16>,
+}
+
+impl Truth {
+    fn points(&self) -> usize {
+        self.planned.map_or(0, |plan| plan.points)
+    }
+}
+
+fn truth_of(floor: Floor, job: Job) -> Truth {
+    let mut slices = Slices::new(floor.vertices(), 0);
+    let planned = slices.plan(&TEXTBOOK, floor, job);
+    let verdict = match planned {
+        Ok(_) => Verdict::Route,
+        Err(Refusal::NoRoute) => Verdict::NoRoute,
+        Err(_) => Verdict::FalseSheet,
+    };
+    let mut kept = vec![0; slices.route.len()];
+    let points = planned.map_or(0, |plan| plan.points);
+    _ = (TEXTBOOK.thin)(floor, &slices.route, &mut kept, points);
+    Truth { planned, slices, verdict, kept }
+}
+
+fn agree_on(program: &Program, floor: Floor, job: Job, truth: &Truth, random: &mut Random) {
+    let name = program.name;
+    let mut slices = Slices::new(floor.vertices(), random.below(256) as u8);
+    assert_eq!(slices.plan(program, floor, job), truth.planned, "plan: {name}");
+    assert!(slices == truth.slices, "plan: the slices of {name}");
+
+    let points = truth.points();
+    assert_eq!((program.check)(floor, job, slices.sheet(points)), Ok(truth.verdict), "check: {name}");
+    assert_eq!((program.check)(floor, job, slices.sheet(points + 1)), Ok(Verdict::FalseSheet), "check: n, {name}");
+    for _ in 0..8 {
+        let mut altered = slices.clone();
+        alter(&mut altered, random);
+        let verdict = (program.check)(floor, job, altered.sheet(points));
+        assert_eq!(verdict, Ok(Verdict::FalseSheet), "check: altered, {name}");
+    }
+
+    let mut kept = vec![9; slices.route.len()];
+    let count = (program.thin)(floor, &slices.route, &mut kept, points);
+    if points > 0 {
+        assert_eq!(kept, truth.kept, "thin: {name}");
+        assert_eq!(count, (TEXTBOOK.thin)(floor, &slices.route, &mut kept, points), "thin: {name}");
+    } else {
+        assert_eq!(count, Err(Refusal::NotJoined), "thin: {name}");
+    }
+}
+
+/// Changes one number of the sheet.
+fn alter(slices: &mut Slices, random: &mut Random) {
+    let v = random.below(slices.d.len());
+    let by = [1, 408, 577, 0x4000_0000, 0x8000_0000, u32::MAX][random.below(6)];
+    match random.below(5) {
+        0 => slices.d[v] = slices.d[v].wrapping_add(by),
+        1 => slices.e[v] = slices.e[v].wrapping_add(by),
+        2 => slices.f[v] ^= 1 << random.below(64),
+        3 => slices.back[v] ^= 1 << random.below(64),
+        _ => slices.route[v] ^= 1 << random.below(16),
+    }
+}
+
+/// All vertex pairs of small floors, some of large ones, and lists of any vertices.
+fn agree_on_sight(program: &Program, floor: Floor, random: &mut Random) {
+    let vertices = floor.vertices();
+    for _ in 0..vertices.min(200) {
+        let (a, b) = (random.below(vertices + 1) as u32, random.below(vertices) as u32);
+        let seen = (TEXTBOOK.sight)(floor, a, b);
+        assert_eq!((program.sight)(floor, a, b), seen, "sight: {} from {a} to {b}", program.name);
+    }
+    let list: Vec<u16> = (0..8).map(|_| random.below(vertices) as u16).collect();
+    let (mut kept, mut wanted) = ([7; 8], [7; 8]);
+    let count = (TEXTBOOK.thin)(floor, &list, &mut wanted, 8);
+    assert_eq!((program.thin)(floor, &list, &mut kept, 8), count, "thin: {}", program.name);
+    assert_eq!(kept, wanted, "thin: {}", program.name);
+}
+
+/// Sight as its definition has it, cell by cell.
+fn sees_by_definition(floor: Floor, a: u32, b: u32) -> bool {
+    let (width, height) = (floor.width as i32, floor.height as i32);
+    let point = |v: u32| (v as i32 % (width + 1), v as i32 / (width + 1));
+    let blocked = |i: i32, j: i32| {
+        let inside = 0 <= i && i < width && 0 <= j && j < height;
+        !inside || floor.map[(j * width + i) as usize] == 1
+    };
+    let ((x0, y0), (x1, y1)) = (point(a), point(b));
+    let (columns, rows) = (x0.min(x1)..x0.max(x1), y0.min(y1)..y0.max(y1));
+    let side = |p: i32, q: i32| (x1 - x0) * (q - y0) - (y1 - y0) * (p - x0);
+    let enters = |i: i32, j: i32| {
+        let sides = [side(i, j), side(i + 1, j), side(i, j + 1), side(i + 1, j + 1)];
+        sides.iter().any(|&side| side > 0) && sides.iter().any(|&side| side < 0)
+    };
+    let entered = rows.clone().any(|j| columns.clone().any(|i| blocked(i, j) && enters(i, j)));
+    let shut_row = y0 == y1 && columns.clone().any(|i| blocked(i, y0 - 1) && blocked(i, y0));
+    let shut_column = x0 == x1 && rows.clone().any(|j| blocked(x0 - 1, j) && blocked(x0, j));
+    !entered && !shut_row && !shut_column
+}
+
+/// One random floor of any sides, with any ends: answers 0, 7 and 8 all occur.
+fn agree_on_random_floor(random: &mut Random) {
+    let limit = [3, 8, 40][random.below(3)];
+    let (width, height) = (1 + random.below(limit), 1 + random.below(limit));
+    let share = [0, 10, 30, 50][random.below(4)];
+    let map: Vec<u8> = (0..width * height).map(|_| u8::from(random.below(100) < share)).collect();
+    let floor = Floor { width: width as u32, height: height as u32, map: &map };
+    let vertices = floor.vertices();
+    let (a, b) = (random.below(vertices) as u32, random.below(vertices) as u32);
+    let job = Job { neighbourhood: [4, 8][random.below(2)], a, b };
+    assert_eq!((TEXTBOOK.sight)(floor, a, b), Ok(sees_by_definition(floor, a, b)), "sight: textbook");
+    let truth = truth_of(floor, job);
+    for program in &PROGRAMS {
+        agree_on(program, floor, job, &truth, random);
+        agree_on_sight(program, floor, random);
+    }
+}
+
+pub fn agree_on_case(case: &Case) {
+    let mut random = Random::new(1);
+    let truth = truth_of(case.floor(), case.job);
+    assert!(truth.planned.is_ok(), "the job has a route");
+    for program in &PROGRAMS {
+        agree_on(program, case.floor(), case.job, &truth, &mut random);
+        agree_on_sight(program, case.floor(), &mut random);
+    }
+}
+
+/// The programs agree on the benchmark's smaller floors, on jobs with too many routes, and on random floors.
+pub fn agree(floors: usize) {
+    let mut random = Random::new(2);
+    for _ in 0..floors {
+        agree_on_random_floor(&mut random);
+    }
+    for (kind, neighbourhood) in KINDS.into_iter().flat_map(|kind| [(kind, 4), (kind, 8)]) {
+        agree_on_case(&Case::new(kind, 16, neighbourhood));
+    }
+    let open = Case::new(Kind::Open, 127, 4);
+    let corners = Job { neighbourhood: 4, a: 0, b: 16_383 };
+    let truth = truth_of(open.floor(), corners);
+    assert_eq!(truth.planned, Err(Refusal::TooMany));
+    for program in &PROGRAMS {
+        agree_on(program, open.floor(), corners, &truth, &mut random);
+    }
+}

@@ -1,0 +1,116 @@
+//! The floors, and the jobs on them.
+
+use crate::lurfanzi::{Floor, Job, UNREACHABLE};
+use crate::textbook;
+
+/// A linear congruential generator: the same floors in every run.
+pub struct Random(u64);
+
+impl Random {
+    pub fn new(seed: u64) -> Random {
+        Random(seed)
+    }
+
+    pub fn below(&mut self, limit: usize) -> usize {
+        self.0 = self.0.wrapping_mul(6364136223846793005).wrapping_add(1442695040888963407);
+        (self.0 >> 33) as usize % limit
+    }
+}
+
+#[derive(Clone, Copy, Debug, PartialEq, Eq)]
+pub enum Kind {
+    Open,
+    Random,
+    Ward,
+    Serpentine,
+}
+
+pub const KINDS: [Kind; 4] = [Kind::Open, Kind::Random, Kind::Ward, Kind::Serpentine];
+
+impl Kind {
+    pub fn name(self) -> &'static str {
+        match self {
+            Kind::Open => "open",
+            Kind::Random => "random",
+            Kind::Ward => "ward",
+            Kind::Serpentine => "serpentine",
+        }
+    }
+
+    fn blocked(self, random: &mut Random, side: usize, i: usize, j: usize) -> bool {
+        match self {
+            Kind::Open => false,
+            Kind::Random => random.below(100) < 20,
+            Kind::Ward => ward(i, j),
+            Kind::Serpentine => serpentine(side, i, j),
+        }
+    }
+}
+
+/// Rooms of seven by seven cells with walls of one cell and a door of one cell in every wall.
+fn ward(i: usize, j: usize) -> bool {
+    let (room, wall) = (8, 7);
+    let door = |along: usize, across: usize| Random::new((along * 97 + across * 31) as u64).below(wall);
+    match (i % room == wall, j % room == wall) {
+        (true, true) => true,
+        (true, false) => j % room != door(2 * (i / room), j / room),
+        (false, true) => i % room != door(2 * (j / room) + 1, i / room),
+        (false, false) => false,
+    }
+}
+
+/// Halls of one cell, joined at alternate ends.
+fn serpentine(side: usize, i: usize, j: usize) -> bool {
+    j % 2 == 1 && i != if j % 4 == 1 { side - 1 } else { 0 }
+}
+
+/// A job on a square floor, whose answer is 0.
+pub struct Case {
+    pub side: usize,
+    pub map: Vec<u8>,
+    pub job: Job,
+}
+
+impl Case {
+    /// The start is in the middle of the left side. The other end is the dearest vertex that the start reaches by at most
+    /// 2^64 - 1 cheapest routes.
+    pub fn new(kind: Kind, side: usize, neighbourhood: u32) -> Case {
+        (1..).find_map(|seed| Case::from_seed(kind, side, neighbourhood, seed)).expect("a floor of which half is joined")
+    }
+
+    fn from_seed(kind: Kind, side: usize, neighbourhood: u32, seed: u64) -> Option<Case> {
+        let mut random = Random::new(seed);
+        let mut map = vec![0; side * side];
+        for (cell, byte) in map.iter_mut().enumerate() {
+            *byte = u8::from(kind.blocked(&mut random, side, cell % side, cell / side));
+        }
+        let a = ((side + 1) * (side / 2)) as u32;
+        let floor = Floor { width: side as u32, height: side as u32, map: &map };
+        let reached = textbook::reached(floor, neighbourhood, a);
+        if reached.iter().filter(|reach| reach.cost != UNREACHABLE).count() * 2 < reached.len() {
+            return None;
+        }
+        let fits = |&v: &usize| reached[v].cost != UNREACHABLE && reached[v].count.is_some();
+        let b = (0..reached.len()).filter(fits).max_by_key(|&v| (reached[v].cost, reached[v].count))?;
+        Some(Case { side, map, job: Job { neighbourhood, a, b: b as u32 } })
+    }
+
+    pub fn floor(&self) -> Floor<'_> {
+        Floor { width: self.side as u32, height: self.side as u32, map: &self.map }
+    }
+
+    /// Pairs of vertices: at most eight apart in column and row, or at least half the side apart in one of the two.
+    pub fn segments(&self, long: bool) -> Vec<(u32, u32)> {
+        let columns = self.side + 1;
+        let mut random = Random::new(self.side as u64);
+        let mut pairs = Vec::new();
+        while pairs.len() < 64 {
+            let (a, b) = (random.below(columns * columns), random.below(columns * columns));
+            let apart = (a % columns).abs_diff(b % columns).max((a / columns).abs_diff(b / columns));
+            if if long { apart >= self.side / 2 } else { apart <= 8 } {
+                pairs.push((a as u32, b as u32));
+            }
+        }
+        pairs
+    }
+}

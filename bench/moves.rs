@@ -1,0 +1,98 @@
+//! The open moves of a vertex as a mask, a bit for each move in move order, from the four cells at the vertex; and what the
+//! hand-tuned planner and checker both do with it.
+
+use crate::lurfanzi::Floor;
+
+/// The bits of the cardinal moves.
+pub const CARDINAL: u8 = 0x55;
+
+/// The offsets of the moves in move order.
+pub fn offsets(columns: usize) -> [isize; 8] {
+    let c = columns as isize;
+    [1, c + 1, c, c - 1, -1, -c - 1, -c, -c + 1]
+}
+
+/// A row of cells with a blocked cell at either side.
+pub type Cells = [u8; 129];
+
+/// The masks of one row of vertices, from the rows of cells above and below it.
+pub fn row_masks(above: &Cells, below: &Cells, masks: &mut [u8]) {
+    let columns = masks.len();
+    let left = above[..columns].iter().zip(&below[..columns]);
+    let right = above[1..=columns].iter().zip(&below[1..=columns]);
+    for (mask, ((nw, sw), (ne, se))) in masks.iter_mut().zip(left.zip(right)) {
+        let shut = (ne & se) | se << 1 | (sw & se) << 2 | sw << 3 | (nw & sw) << 4 | nw << 5 | (nw & ne) << 6 | ne << 7;
+        *mask = !shut;
+    }
+}
+
+/// Calls `take` with the number of each row of vertices and the cells above and below it, until it answers false; whether
+/// it never did.
+pub fn all_rows(floor: Floor, mut take: impl FnMut(usize, &Cells, &Cells) -> bool) -> bool {
+    let (width, height) = (floor.width as usize, floor.height as usize);
+    let (mut above, mut below) = ([1; 129], [1; 129]);
+    (0..=height).all(|y| {
+        if y < height {
+            below[1..=width].copy_from_slice(&floor.map[y * width..][..width]);
+        } else {
+            below = [1; 129];
+        }
+        let go_on = take(y, &above, &below);
+        above = below;
+        go_on
+    })
+}
+
+pub fn fill_masks(floor: Floor, masks: &mut [u8]) {
+    let columns = floor.width as usize + 1;
+    all_rows(floor, |y, above, below| {
+        row_masks(above, below, &mut masks[y * columns..][..columns]);
+        true
+    });
+}
+
+/// The mask of one vertex.
+pub fn mask_at(floor: Floor, v: usize) -> u8 {
+    let (width, height) = (floor.width as usize, floor.height as usize);
+    let (x, y) = (v % (width + 1), v / (width + 1));
+    // The cell whose lower right corner is in column i and row j.
+    let cell = |i: usize, j: usize| {
+        let inside = 1 <= i && i <= width && 1 <= j && j <= height;
+        if inside { floor.map[(j - 1) * width + i - 1] } else { 1 }
+    };
+    let (mut above, mut below, mut mask) = ([1; 129], [1; 129], [0]);
+    (above[0], above[1], below[0], below[1]) = (cell(x, y), cell(x + 1, y), cell(x, y + 1), cell(x + 1, y + 1));
+    row_masks(&above, &below, &mut mask);
+    mask[0]
+}
+
+/// The sum of the counts of the neighbours that are one open move nearer, and whether it passed 64 bits. STEP is 1 for all
+/// moves, 2 for the cardinal ones. The mask is that of v, whose cost is not M, and both slices have a place for each vertex.
+#[inline(always)]
+pub fn sum<const STEP: usize>(v: usize, mask: u8, offsets: &[isize; 8], d: &[u32], count: &[u64]) -> (u64, bool) {
+    let (mut sum, mut over) = (0u64, false);
+    for k in (0..8).step_by(STEP) {
+        // SAFETY: an open move leads to a vertex; a shut one is taken to lead to v, which is not nearer.
+        unsafe {
+            let u = v.wrapping_add_signed(offsets[k] & -((mask >> k & 1) as isize));
+            let nearer = *d.get_unchecked(u) + if k % 2 == 0 { 408 } else { 577 } == *d.get_unchecked(v);
+            let (next, carry) = sum.overflowing_add(if nearer { *count.get_unchecked(u) } else { 0 });
+            sum = next;
+            over |= carry;
+        }
+    }
+    (sum, over)
+}
+
+/// The next vertex of the central route after u, by the mask of u; the counts are 0 off the way.
+pub fn next(u: usize, mask: u8, offsets: &[isize; 8], d: &[u32], f: &[u64], back: &[u64]) -> Option<usize> {
+    let (mut best, mut next) = (0, None);
+    for k in (0..8).filter(|k| mask >> k & 1 != 0) {
+        let w = u.wrapping_add_signed(offsets[k]);
+        let count = f[w] * back[w];
+        if d[u] + if k % 2 == 0 { 408 } else { 577 } == d[w] && count > best {
+            (best, next) = (count, Some(w));
+        }
+    }
+    next
+}

@@ -1,0 +1,153 @@
+//! The programs, and one operation of one program on one job.
+
+use crate::floors::Case;
+use crate::lurfanzi::{self, Floor, Job, Plan, Refusal, Sheet, SheetMut, Verdict};
+use crate::{textbook, tuned, tuned_check, tuned_sight};
+use std::hint::black_box;
+
+/// A program: the operations of the header.
+pub struct Program {
+    pub name: &'static str,
+    pub plan: fn(Floor, Job, &mut SheetMut, &mut [u32]) -> Result<Plan, Refusal>,
+    pub check: fn(Floor, Job, Sheet) -> Result<Verdict, Refusal>,
+    pub thin: fn(Floor, &[u16], &mut [u16], usize) -> Result<usize, Refusal>,
+    pub sight: fn(Floor, u32, u32) -> Result<bool, Refusal>,
+}
+
+pub const LIBRARY: Program = Program {
+    name: "library",
+    plan: lurfanzi::plan,
+    check: lurfanzi::check,
+    thin: lurfanzi::thin,
+    sight: lurfanzi::sight,
+};
+
+pub const TEXTBOOK: Program = Program {
+    name: "textbook",
+    plan: textbook::plan,
+    check: textbook::check,
+    thin: textbook::thin,
+    sight: textbook::sight,
+};
+
+pub const TUNED: Program = Program {
+    name: "tuned",
+    plan: tuned::plan,
+    check: tuned_check::check,
+    thin: tuned_sight::thin,
+    sight: tuned_sight::sight,
+};
+
+pub const PROGRAMS: [Program; 3] = [LIBRARY, TEXTBOOK, TUNED];
+
+#[derive(Clone, Copy, Debug, PartialEq, Eq)]
+pub enum Operation {
+    Plan,
+    Check,
+    Thin,
+    ShortSight,
+    LongSight,
+}
+
+pub const OPERATIONS: [Operation; 5] =
+    [Operation::Plan, Operation::Check, Operation::Thin, Operation::ShortSight, Operation::LongSight];
+
+impl Operation {
+    pub fn name(self) -> &'static str {
+        match self {
+            Operation::Plan => "plan",
+            Operation::Check => "check",
+            Operation::Thin => "thin",
+            Operation::ShortSight => "short-sight",
+            Operation::LongSight => "long-sight",
+        }
+    }
+
+    /// Whether the neighbourhood matters to it.
+    pub fn has_neighbourhood(self) -> bool {
+        !matches!(self, Operation::ShortSight | Operation::LongSight)
+    }
+}
+
+/// The slices that a planner is lent.
+#[derive(Clone, PartialEq, Eq)]
+pub struct Slices {
+    pub d: Vec<u32>,
+    pub e: Vec<u32>,
+    pub f: Vec<u64>,
+    pub back: Vec<u64>,
+    pub route: Vec<u16>,
+    pub work: Vec<u32>,
+}
+
+impl Slices {
+    pub fn new(vertices: usize, fill: u8) -> Slices {
+        let (narrow, wide) = (u32::from_ne_bytes([fill; 4]), u64::from_ne_bytes([fill; 8]));
+        Slices {
+            d: vec![narrow; vertices],
+            e: vec![narrow; vertices],
+            f: vec![wide; vertices],
+            back: vec![wide; vertices],
+            route: vec![u16::from_ne_bytes([fill; 2]); vertices],
+            work: vec![narrow; 4 * vertices],
+        }
+    }
+
+    pub fn plan(&mut self, program: &Program, floor: Floor, job: Job) -> Result<Plan, Refusal> {
+        let Slices { d, e, f, back, route, work } = self;
+        (program.plan)(floor, job, &mut SheetMut { d, e, f, back, route }, work)
+    }
+
+    pub fn sheet(&self, points: usize) -> Sheet<'_> {
+        Sheet { d: &self.d, e: &self.e, f: &self.f, back: &self.back, route: &self.route, points }
+    }
+}
+
+/// A job, its true sheet, and memory for the operations. The memory is not cleared between runs.
+pub struct Bench<'a> {
+    pub case: &'a Case,
+    pub truth: Slices,
+    pub points: usize,
+    segments: [Vec<(u32, u32)>; 2],
+    slices: Slices,
+    out: Vec<u16>,
+}
+
+impl<'a> Bench<'a> {
+    pub fn new(case: &'a Case) -> Bench<'a> {
+        let vertices = case.floor().vertices();
+        let mut truth = Slices::new(vertices, 0);
+        let points = truth.plan(&TEXTBOOK, case.floor(), case.job).map_or(0, |plan| plan.points);
+        let segments = [case.segments(false), case.segments(true)];
+        Bench { case, truth, points, segments, slices: Slices::new(vertices, 0xFF), out: vec![0xFFFF; vertices] }
+    }
+
+    /// How many operations a run has.
+    pub fn count(&self, operation: Operation) -> usize {
+        match operation {
+            Operation::ShortSight => self.segments[0].len(),
+            Operation::LongSight => self.segments[1].len(),
+            _ => 1,
+        }
+    }
+
+    pub fn run(&mut self, program: &Program, operation: Operation) {
+        let (floor, job) = black_box((self.case.floor(), self.case.job));
+        match operation {
+            Operation::Plan => {
+                _ = black_box(self.slices.plan(program, floor, job));
+                black_box(&self.slices.route);
+            }
+            Operation::Check => _ = black_box((program.check)(floor, job, self.truth.sheet(self.points))),
+            Operation::Thin => {
+                _ = black_box((program.thin)(floor, &self.truth.route, &mut self.out, self.points));
+                black_box(&self.out);
+            }
+            Operation::ShortSight | Operation::LongSight => {
+                for &(a, b) in &self.segments[usize::from(operation == Operation::LongSight)] {
+                    _ = black_box((program.sight)(floor, a, b));
+                }
+            }
+        }
+    }
+}

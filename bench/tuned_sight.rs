@@ -1,0 +1,127 @@
+//! The hand-tuned line of sight and thinning: a segment's cells as one run in each row.
+
+use crate::lurfanzi::{Floor, Refusal};
+use crate::shape;
+
+fn is_clear(run: &[u8]) -> bool {
+    if run.len() < 8 {
+        return run.iter().fold(0, |all, cell| all | cell) == 0;
+    }
+    let mut eights = run.chunks_exact(8);
+    eights.all(|eight| eight == [0; 8]) && eights.remainder().iter().all(|&cell| cell == 0)
+}
+
+/// Whether no step along a grid line is between two blocked cells; a missing side is outside, and blocked.
+fn is_passable(one: Option<&[u8]>, other: Option<&[u8]>) -> bool {
+    match (one, other) {
+        (Some(one), Some(other)) => one.iter().zip(other).fold(0, |shut, (one, other)| shut | (one & other)) == 0,
+        (Some(one), None) | (None, Some(one)) => is_clear(one),
+        (None, None) => false,
+    }
+}
+
+fn sees_along_row(floor: Floor, y: usize, left: usize, right: usize) -> bool {
+    let (width, height) = (floor.width as usize, floor.height as usize);
+    let row = |j: usize| &floor.map[j * width + left..j * width + right];
+    is_passable((y > 0).then(|| row(y - 1)), (y < height).then(|| row(y)))
+}
+
+fn sees_along_column(floor: Floor, x: usize, top: usize, bottom: usize) -> bool {
+    let width = floor.width as usize;
+    floor.map[top * width..bottom * width].chunks_exact(width).all(|row| {
+        let left_is_open = x > 0 && row[x - 1] == 0;
+        let right_is_open = x < width && row[x] == 0;
+        left_is_open || right_is_open
+    })
+}
+
+/// Quotient and remainder of numbers below 2^32: the narrow division is the quicker one.
+fn quotient(number: usize, by: usize) -> (usize, usize) {
+    let (number, by) = (number as u32, by as u32);
+    ((number / by) as usize, (number % by) as usize)
+}
+
+/// A vertex's column and row.
+fn point(v: usize, columns: usize) -> (usize, usize) {
+    let (y, x) = quotient(v, columns);
+    (x, y)
+}
+
+#[inline]
+fn sees(floor: Floor, a: usize, b: usize) -> bool {
+    let (width, columns) = (floor.width as usize, floor.width as usize + 1);
+    let ((x0, y0), (x1, y1)) = (point(a.min(b), columns), point(a.max(b), columns));
+    if y0 == y1 {
+        return x0 == x1 || sees_along_row(floor, y0, x0, x1);
+    }
+    if x0 == x1 {
+        return sees_along_column(floor, x0, y0, y1);
+    }
+    let (dx, dy) = (x0.abs_diff(x1), y1 - y0);
+    let cell = y0 * width + x0;
+    if dx == dy {
+        let (first, step) = if x0 < x1 { (cell, width + 1) } else { (cell - 1, (width - 1).max(1)) };
+        return floor.map[first..].iter().step_by(step).take(dx).all(|&cell| cell == 0);
+    }
+    // In each row the segment starts `from + rest / dy` columns beside x0.
+    let (mut from, mut rest) = (0, 0);
+    let (whole, part) = if dx < dy { (0, dx) } else { quotient(dx, dy) };
+    floor.map[y0 * width..y1 * width].chunks_exact(width).all(|row| {
+        let first = from;
+        from += whole;
+        rest += part;
+        if rest >= dy {
+            rest -= dy;
+            from += 1;
+        }
+        let last = from + usize::from(rest > 0);
+        let run = if x0 < x1 { &row[x0 + first..x0 + last] } else { &row[x0 - last..x0 - first] };
+        is_clear(run)
+    })
+}
+
+pub fn sight(floor: Floor, a: u32, b: u32) -> Result<bool, Refusal> {
+    shape::of_floor(floor)?;
+    shape::of_end(floor, a)?;
+    shape::of_end(floor, b)?;
+    Ok(sees(floor, a as usize, b as usize))
+}
+
+/// Whether the step from q to r goes on in the direction of the one from p to q.
+fn goes_on(columns: usize, p: usize, q: usize, r: usize) -> bool {
+    let signed = |v: usize| {
+        let (x, y) = point(v, columns);
+        (x as i32, y as i32)
+    };
+    let ((px, py), (qx, qy), (rx, ry)) = (signed(p), signed(q), signed(r));
+    let ((ax, ay), (bx, by)) = ((qx - px, qy - py), (rx - qx, ry - qy));
+    ax * by == ay * bx && ax * bx + ay * by >= 0
+}
+
+pub fn thin(floor: Floor, list: &[u16], out: &mut [u16], n: usize) -> Result<usize, Refusal> {
+    shape::of_floor(floor)?;
+    shape::of_lists(list, out)?;
+    let vertices = floor.vertices();
+    let used = list.get(..n).filter(|used| !used.is_empty()).ok_or(Refusal::NotJoined)?;
+    let vertex = |k: usize| usize::from(used[k]);
+    let on_floor = used.iter().all(|&v| usize::from(v) < vertices);
+    if !on_floor || !(1..n).all(|k| sees(floor, vertex(k - 1), vertex(k))) {
+        return Err(Refusal::NotJoined);
+    }
+    out.fill(0);
+    let (mut i, mut kept) = (0, 1);
+    let columns = floor.width as usize + 1;
+    while i < n - 1 {
+        let mut k = i + 1;
+        // A vertex further on in the same direction is seen: each part of the segment is clear.
+        while k + 1 < n
+            && (goes_on(columns, vertex(i), vertex(k), vertex(k + 1)) || sees(floor, vertex(i), vertex(k + 1)))
+        {
+            k += 1;
+        }
+        i = k;
+        out[kept] = i as u16;
+        kept += 1;
+    }
+    Ok(kept)
+}

@@ -1,0 +1,339 @@
+//! Safe Rust over the C interface of include/lurfanzi.h.
+//!
+//! Every function is total, as in C: any numbers and any slices may be handed in, and a fault of theirs is an `Err`. A
+//! slice that a call writes is borrowed mutably, so that it overlaps no other slice of the call.
+
+/// The cost where no open walk joins two vertices.
+pub const UNREACHABLE: u32 = u32::MAX;
+
+/// A floor: its sides in cells, and `width * height` bytes, row by row, 0 open and 1 blocked.
+#[derive(Clone, Copy, Debug)]
+pub struct Floor<'a> {
+    pub width: u32,
+    pub height: u32,
+    pub map: &'a [u8],
+}
+
+/// What is asked on a floor: the neighbourhood, 4 or 8, and the vertices at the ends.
+#[derive(Clone, Copy, Debug)]
+pub struct Job {
+    pub neighbourhood: u32,
+    pub a: u32,
+    pub b: u32,
+}
+
+/// The five slices of a sheet, to be filled. Each has a place for every vertex.
+#[derive(Debug)]
+pub struct SheetMut<'a> {
+    pub d: &'a mut [u32],
+    pub e: &'a mut [u32],
+    pub f: &'a mut [u64],
+    pub back: &'a mut [u64],
+    pub route: &'a mut [u16],
+}
+
+/// A filled sheet, to be read, with the number of points of its route.
+#[derive(Clone, Copy, Debug)]
+pub struct Sheet<'a> {
+    pub d: &'a [u32],
+    pub e: &'a [u32],
+    pub f: &'a [u64],
+    pub back: &'a [u64],
+    pub route: &'a [u16],
+    pub points: usize,
+}
+
+/// A planned route: its cost, the number of cheapest routes, and how many vertices it has.
+#[derive(Clone, Copy, Debug, PartialEq, Eq)]
+pub struct Plan {
+    pub cost: u32,
+    pub total: u64,
+    pub points: usize,
+}
+
+/// What a sheet of good shape is.
+#[derive(Clone, Copy, Debug, PartialEq, Eq)]
+pub enum Verdict {
+    Route,
+    NoRoute,
+    FalseSheet,
+}
+
+/// The refusals of the header, by its numbers.
+#[derive(Clone, Copy, Debug, PartialEq, Eq)]
+pub enum Refusal {
+    BadSize,
+    BadMapLength,
+    BadMapByte,
+    BadNeighbourhood,
+    BadEnd,
+    BadSliceLength,
+    NoRoute,
+    TooMany,
+    NotJoined,
+    /// A number that the header does not list for the call. The library gives none.
+    Unlisted(u8),
+}
+
+impl Refusal {
+    fn from_number(number: u8) -> Refusal {
+        match number {
+            1 => Refusal::BadSize,
+            2 => Refusal::BadMapLength,
+            3 => Refusal::BadMapByte,
+            4 => Refusal::BadNeighbourhood,
+            5 => Refusal::BadEnd,
+            6 => Refusal::BadSliceLength,
+            7 => Refusal::NoRoute,
+            8 => Refusal::TooMany,
+            10 => Refusal::NotJoined,
+            other => Refusal::Unlisted(other),
+        }
+    }
+
+    pub fn number(self) -> u8 {
+        match self {
+            Refusal::BadSize => 1,
+            Refusal::BadMapLength => 2,
+            Refusal::BadMapByte => 3,
+            Refusal::BadNeighbourhood => 4,
+            Refusal::BadEnd => 5,
+            Refusal::BadSliceLength => 6,
+            Refusal::NoRoute => 7,
+            Refusal::TooMany => 8,
+            Refusal::NotJoined => 10,
+            Refusal::Unlisted(number) => number,
+        }
+    }
+}
+
+impl std::fmt::Display for Refusal {
+    fn fmt(&self, to: &mut std::fmt::Formatter<'_>) -> std::fmt::Result {
+        let meaning = match self {
+            Refusal::BadSize => "a side is not 1 to 127",
+            Refusal::BadMapLength => "the map has not width * height bytes",
+            Refusal::BadMapByte => "a map byte is above 1",
+            Refusal::BadNeighbourhood => "the neighbourhood is not 4 or 8",
+            Refusal::BadEnd => "an end is not a vertex",
+            Refusal::BadSliceLength => "a slice has another length than asked",
+            Refusal::NoRoute => "no open walk joins the ends",
+            Refusal::TooMany => "the cheapest routes number more than 2^64 - 1",
+            Refusal::NotJoined => "the list is not a joined list of vertices",
+            Refusal::Unlisted(_) => "an answer that the header does not list",
+        };
+        write!(to, "{meaning} ({})", self.number())
+    }
+}
+
+impl std::error::Error for Refusal {}
+
+impl Floor<'_> {
+    /// The number of vertices, V, for sides within 1 to 127; some number for others.
+    pub fn vertices(&self) -> usize {
+        (self.width as usize).saturating_add(1).saturating_mul((self.height as usize).saturating_add(1))
+    }
+}
+
+impl SheetMut<'_> {
+    /// The sheet as it stands, for `check`.
+    pub fn read(&self, points: usize) -> Sheet<'_> {
+        Sheet { d: self.d, e: self.e, f: self.f, back: self.back, route: self.route, points }
+    }
+}
+
+/// Whether the vertices `a` and `b` see each other.
+pub fn sight(floor: Floor, a: u32, b: u32) -> Result<bool, Refusal> {
+    match call::sight(floor, a, b) {
+        0 => Ok(true),
+        100 => Ok(false),
+        number => Err(Refusal::from_number(number)),
+    }
+}
+
+/// Plans the central route and fills its sheet; `work` has four places for every vertex. The header says what each
+/// slice holds at each refusal.
+pub fn plan(floor: Floor, job: Job, sheet: &mut SheetMut, work: &mut [u32]) -> Result<Plan, Refusal> {
+    let result = call::plan(floor, job, sheet, work);
+    match result.answer {
+        0 => Ok(Plan { cost: result.cost, total: result.total, points: result.points }),
+        number => Err(Refusal::from_number(number)),
+    }
+}
+
+/// Checks a sheet from any planner.
+pub fn check(floor: Floor, job: Job, sheet: Sheet) -> Result<Verdict, Refusal> {
+    match call::check(floor, job, sheet) {
+        0 => Ok(Verdict::Route),
+        7 => Ok(Verdict::NoRoute),
+        9 => Ok(Verdict::FalseSheet),
+        number => Err(Refusal::from_number(number)),
+    }
+}
+
+/// Thins the first `n` vertices of `list`: the number of kept positions, which are at the front of `out`.
+pub fn thin(floor: Floor, list: &[u16], out: &mut [u16], n: usize) -> Result<usize, Refusal> {
+    let result = call::thin(floor, list, out, n);
+    match result.answer {
+        0 => Ok(result.kept),
+        number => Err(Refusal::from_number(number)),
+    }
+}
+
+/// The calls themselves: the only unsafe code.
+///
+/// Why they are sound: the header asks that a slice's pointer be valid for its length, aligned, and that no written slice
+/// overlap another slice of the call. Each pointer and length are those of one Rust slice, shared for `*const` and
+/// exclusive for `*mut`, and the borrows last as long as the call. The library reads and writes nothing else, keeps no
+/// pointer, and every number it may write is a value of the slice's type.
+mod call {
+    use super::{Floor, Job, Sheet, SheetMut};
+
+    #[repr(C)]
+    pub struct PlanResult {
+        pub total: u64,
+        pub points: usize,
+        pub cost: u32,
+        pub answer: u8,
+    }
+
+    #[repr(C)]
+    pub struct ThinResult {
+        pub kept: usize,
+        pub answer: u8,
+    }
+
+    extern "C" {
+        fn lurfanzi_sight(width: u32, height: u32, map: *const u8, map_length: usize, a: u32, b: u32) -> u8;
+
+        fn lurfanzi_plan(
+            width: u32, height: u32, map: *const u8, map_length: usize, neighbourhood: u32, a: u32, b: u32,
+            d: *mut u32, d_length: usize, e: *mut u32, e_length: usize, f: *mut u64, f_length: usize,
+            back: *mut u64, back_length: usize, route: *mut u16, route_length: usize, work: *mut u32, work_length: usize,
+        ) -> PlanResult;
+
+        fn lurfanzi_check(
+            width: u32, height: u32, map: *const u8, map_length: usize, neighbourhood: u32, a: u32, b: u32,
+            d: *const u32, d_length: usize, e: *const u32, e_length: usize, f: *const u64, f_length: usize,
+            back: *const u64, back_length: usize, route: *const u16, route_length: usize, n: usize,
+        ) -> u8;
+
+        fn lurfanzi_thin(
+            width: u32, height: u32, map: *const u8, map_length: usize,
+            list: *const u16, list_length: usize, out: *mut u16, out_length: usize, n: usize,
+        ) -> ThinResult;
+    }
+
+    pub fn sight(floor: Floor, a: u32, b: u32) -> u8 {
+        // SAFETY: the map is a shared slice; nothing is written.
+        unsafe { lurfanzi_sight(floor.width, floor.height, floor.map.as_ptr(), floor.map.len(), a, b) }
+    }
+
+    pub fn plan(floor: Floor, job: Job, sheet: &mut SheetMut, work: &mut [u32]) -> PlanResult {
+        // SAFETY: the map is a shared slice, the six others are exclusive ones.
+        unsafe {
+            lurfanzi_plan(
+                floor.width, floor.height, floor.map.as_ptr(), floor.map.len(), job.neighbourhood, job.a, job.b,
+                sheet.d.as_mut_ptr(), sheet.d.len(), sheet.e.as_mut_ptr(), sheet.e.len(),
+                sheet.f.as_mut_ptr(), sheet.f.len(), sheet.back.as_mut_ptr(), sheet.back.len(),
+                sheet.route.as_mut_ptr(), sheet.route.len(), work.as_mut_ptr(), work.len(),
+            )
+        }
+    }
+
+    pub fn check(floor: Floor, job: Job, sheet: Sheet) -> u8 {
+        // SAFETY: all are shared slices; nothing is written.
+        unsafe {
+            lurfanzi_check(
+                floor.width, floor.height, floor.map.as_ptr(), floor.map.len(), job.neighbourhood, job.a, job.b,
+                sheet.d.as_ptr(), sheet.d.len(), sheet.e.as_ptr(), sheet.e.len(),
+                sheet.f.as_ptr(), sheet.f.len(), sheet.back.as_ptr(), sheet.back.len(),
+                sheet.route.as_ptr(), sheet.route.len(), sheet.points,
+            )
+        }
+    }
+
+    pub fn thin(floor: Floor, list: &[u16], out: &mut [u16], n: usize) -> ThinResult {
+        // SAFETY: the map and the list are shared slices, the output is an exclusive one.
+        unsafe {
+            lurfanzi_thin(
+                floor.width, floor.height, floor.map.as_ptr(), floor.map.len(),
+                list.as_ptr(), list.len(), out.as_mut_ptr(), out.len(), n,
+            )
+        }
+    }
+}
+
+#[cfg(test)]
+mod tests {
+    use super::*;
+
+    const OPEN: Floor = Floor { width: 2, height: 1, map: &[0, 0] };
+    const SHUT: Floor = Floor { width: 2, height: 1, map: &[0, 1] };
+    const JOB: Job = Job { neighbourhood: 8, a: 0, b: 5 };
+
+    type Answers = (Result<Plan, Refusal>, Result<Verdict, Refusal>);
+
+    /// Slices of the given lengths, planned on: the answer, and the checker's for the same slices.
+    fn plan_and_check(floor: Floor, job: Job, length: usize, work: usize) -> Answers {
+        let (mut d, mut e, mut f) = (vec![7; length], vec![7; length], vec![7; length]);
+        let (mut back, mut route, mut work) = (vec![7; length], vec![7; length], vec![7; work]);
+        let mut sheet = SheetMut { d: &mut d, e: &mut e, f: &mut f, back: &mut back, route: &mut route };
+        let planned = plan(floor, job, &mut sheet, &mut work);
+        let points = planned.map_or(0, |route| route.points);
+        (planned, check(floor, job, sheet.read(points)))
+    }
+
+    fn refused(floor: Floor, job: Job, length: usize, refusal: Refusal) {
+        assert_eq!(plan_and_check(floor, job, length, 4 * length), (Err(refusal), Err(refusal)));
+    }
+
+    #[test]
+    fn routes() {
+        let plan = Plan { cost: 985, total: 2, points: 3 };
+        assert_eq!(plan_and_check(OPEN, JOB, 6, 24), (Ok(plan), Ok(Verdict::Route)));
+        assert_eq!(plan_and_check(SHUT, JOB, 6, 24), (Err(Refusal::NoRoute), Ok(Verdict::NoRoute)));
+        let largest = Floor { width: 127, height: 127, map: &[0; 127 * 127] };
+        let corners = Job { neighbourhood: 4, a: 0, b: 16_383 };
+        assert_eq!(plan_and_check(largest, corners, 16_384, 65_536), (Err(Refusal::TooMany), Ok(Verdict::FalseSheet)));
+    }
+
+    #[test]
+    fn refusals() {
+        refused(Floor { width: 0, ..OPEN }, JOB, 6, Refusal::BadSize);
+        refused(Floor { height: u32::MAX, ..OPEN }, JOB, 6, Refusal::BadSize);
+        refused(Floor { map: &[], ..OPEN }, JOB, 6, Refusal::BadMapLength);
+        refused(Floor { map: &[0, 2], ..OPEN }, JOB, 6, Refusal::BadMapByte);
+        refused(OPEN, Job { neighbourhood: 260, ..JOB }, 6, Refusal::BadNeighbourhood);
+        refused(OPEN, Job { a: 6, ..JOB }, 6, Refusal::BadEnd);
+        refused(OPEN, Job { b: u32::MAX, ..JOB }, 6, Refusal::BadEnd);
+        refused(OPEN, JOB, 5, Refusal::BadSliceLength);
+        refused(OPEN, JOB, 0, Refusal::BadSliceLength);
+        assert_eq!(plan_and_check(OPEN, JOB, 6, 23).0, Err(Refusal::BadSliceLength));
+    }
+
+    #[test]
+    fn sights() {
+        assert_eq!(sight(OPEN, 0, 5), Ok(true));
+        assert_eq!(sight(SHUT, 0, 5), Ok(false));
+        assert_eq!(sight(SHUT, 0, 6), Err(Refusal::BadEnd));
+        assert_eq!(sight(Floor { width: 0, height: 0, map: &[] }, 0, 0), Err(Refusal::BadSize));
+    }
+
+    #[test]
+    fn thinned() {
+        let mut out = [9; 4];
+        assert_eq!(thin(OPEN, &[0, 1, 5, 6], &mut out, 3), Ok(2));
+        assert_eq!(out, [0, 2, 0, 0]);
+        assert_eq!(thin(OPEN, &[0, 1, 5, 6], &mut out, 4), Err(Refusal::NotJoined));
+        assert_eq!(thin(OPEN, &[0, 1, 5, 6], &mut out, usize::MAX), Err(Refusal::NotJoined));
+        assert_eq!(thin(OPEN, &[0, 1, 5], &mut out, 3), Err(Refusal::BadSliceLength));
+        assert_eq!(thin(OPEN, &[], &mut [], 0), Err(Refusal::NotJoined));
+    }
+
+    #[test]
+    fn numbers() {
+        for number in 1..=u8::MAX {
+            assert_eq!(Refusal::from_number(number).number(), number);
+        }
+    }
+}

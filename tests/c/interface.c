@@ -1,0 +1,681 @@
+/* Holds lurfanzi.h to the code: planner, checker and thinning, called as a user in C calls them.
+ *
+ * Every slice is lent between guard bytes. After each call the guards and all that the call may not write are compared
+ * byte for byte with what they were. The expected numbers are those of the floors a to l, worked by hand in the rules;
+ * where a floor's text leaves a number out, it follows from the rule named beside it.
+ */
+#include <stdio.h>
+#include <stdlib.h>
+#include <string.h>
+#include "lurfanzi.h"
+
+#define M LURFANZI_UNREACHABLE
+
+/* The layout that a caller in another language relies on. */
+_Static_assert(sizeof(size_t) == 8, "a size_t has 64 bits");
+_Static_assert(sizeof(lurfanzi_plan_result) == 24, "size of the planner's result");
+_Static_assert(offsetof(lurfanzi_plan_result, total) == 0, "place of total");
+_Static_assert(offsetof(lurfanzi_plan_result, points) == 8, "place of points");
+_Static_assert(offsetof(lurfanzi_plan_result, cost) == 16, "place of cost");
+_Static_assert(offsetof(lurfanzi_plan_result, answer) == 20, "place of answer");
+_Static_assert(sizeof(lurfanzi_thin_result) == 16, "size of the thinning's result");
+_Static_assert(offsetof(lurfanzi_thin_result, kept) == 0, "place of kept");
+_Static_assert(offsetof(lurfanzi_thin_result, answer) == 8, "place of the thinning's answer");
+_Static_assert(LURFANZI_OK == 0 && LURFANZI_BAD_SIZE == 1 && LURFANZI_BAD_MAP_LENGTH == 2, "answers 0 to 2");
+_Static_assert(LURFANZI_BAD_MAP_BYTE == 3 && LURFANZI_BAD_NEIGHBOURHOOD == 4 && LURFANZI_BAD_END == 5, "answers 3 to 5");
+_Static_assert(LURFANZI_BAD_SLICE_LENGTH == 6 && LURFANZI_NO_ROUTE == 7 && LURFANZI_TOO_MANY == 8, "answers 6 to 8");
+_Static_assert(LURFANZI_FALSE_SHEET == 9 && LURFANZI_NOT_JOINED == 10, "answers 9 and 10");
+_Static_assert(LURFANZI_UNREACHABLE == 4294967295, "the cost of no walk");
+
+static int failures = 0;
+static int provoked[11]; /* how often each answer was given and was the expected one */
+
+static void fail(const char *where, const char *what, const char *fault)
+{
+    printf("%s: %s %s\n", where, what, fault);
+    failures++;
+}
+
+static void expect(const char *where, const char *what, unsigned long long is, unsigned long long wanted)
+{
+    if (is != wanted) {
+        printf("%s: %s is %llu, not %llu\n", where, what, is, wanted);
+        failures++;
+    }
+}
+
+static void expect_answer(const char *where, unsigned answer, unsigned wanted)
+{
+    expect(where, "the answer", answer, wanted);
+    if (answer == wanted && wanted <= 10) provoked[wanted]++;
+}
+
+/* A slice lent to a call: its bytes between two guards, a copy of both guards and bytes, and the pointer that is handed
+ * in. With no bytes the pointer is null, or one that no read would survive. */
+enum { GUARD = 64 };
+
+typedef struct {
+    size_t size;
+    unsigned char *block, *copy;
+    void *p;
+} lent;
+
+static lent lend(size_t size, unsigned char fill)
+{
+    lent s = {size, malloc(size + 2 * GUARD), malloc(size + 2 * GUARD), NULL};
+    if (s.block == NULL || s.copy == NULL) abort();
+    for (size_t k = 0; k < GUARD; k++) {
+        s.block[k] = (unsigned char)(0xA0 ^ k);
+        s.block[GUARD + size + k] = (unsigned char)(0x50 ^ k);
+    }
+    memset(s.block + GUARD, fill, size);
+    s.p = size != 0 ? s.block + GUARD : fill % 2 == 0 ? NULL : (void *)64;
+    return s;
+}
+
+static lent lend_copy(const void *from, size_t size)
+{
+    lent s = lend(size, 0);
+    if (size != 0) memcpy(s.p, from, size);
+    return s;
+}
+
+static void before_call(lent *s)
+{
+    memcpy(s->copy, s->block, s->size + 2 * GUARD);
+}
+
+static void expect_guards(const char *where, const char *what, const lent *s)
+{
+    if (memcmp(s->block, s->copy, GUARD) != 0) fail(where, what, "was written before its first byte");
+    if (memcmp(s->block + GUARD + s->size, s->copy + GUARD + s->size, GUARD) != 0)
+        fail(where, what, "was written past its last byte");
+}
+
+static void expect_untouched(const char *where, const char *what, const lent *s)
+{
+    if (memcmp(s->block + GUARD, s->copy + GUARD, s->size) != 0) fail(where, what, "was touched");
+}
+
+static void expect_zeros(const char *where, const char *what, const lent *s)
+{
+    for (size_t k = 0; k < s->size; k++)
+        if (s->block[GUARD + k] != 0) {
+            fail(where, what, "is not all 0");
+            break;
+        }
+}
+
+static void give_back(lent *s)
+{
+    free(s->block);
+    free(s->copy);
+}
+
+/* A job for planner or checker: every number of the call, and the sheet's slices. */
+enum { D, E, F, BACK, ROUTE, WORK, SLICES };
+static const char *const slice_name[SLICES] = {"d", "e", "f", "back", "route", "work"};
+static const size_t element[SLICES] = {4, 4, 8, 8, 2, 4};
+
+typedef struct {
+    uint32_t width, height, neighbourhood, a, b;
+    const uint8_t *map;
+    size_t map_length;
+    size_t length[SLICES];
+    size_t n; /* the checker's */
+} job;
+
+static size_t vertices(uint32_t width, uint32_t height)
+{
+    return ((size_t)width + 1) * ((size_t)height + 1);
+}
+
+/* A job whose slices have the right lengths. */
+static job make_job(uint32_t width, uint32_t height, const uint8_t *map, uint32_t neighbourhood, uint32_t a, uint32_t b)
+{
+    job j = {width, height, neighbourhood, a, b, map, (size_t)width * height, {0}, 0};
+    for (int k = 0; k < SLICES; k++) j.length[k] = vertices(width, height) * (k == WORK ? 4 : 1);
+    return j;
+}
+
+typedef struct {
+    lurfanzi_plan_result result;
+    lent slice[SLICES];
+} planned;
+
+static void give_back_sheet(planned *p)
+{
+    for (int k = 0; k < SLICES; k++) give_back(&p->slice[k]);
+}
+
+/* Plans with slices that hold `fill` in every byte, and tests all that holds at every answer. */
+static planned plan(const char *where, const job *j, unsigned char fill)
+{
+    planned p;
+    lent map = lend_copy(j->map, j->map_length);
+    before_call(&map);
+    for (int k = 0; k < SLICES; k++) {
+        p.slice[k] = lend(j->length[k] * element[k], fill);
+        before_call(&p.slice[k]);
+    }
+    lent *s = p.slice;
+    p.result = lurfanzi_plan(
+        j->width, j->height, map.p, j->map_length, j->neighbourhood, j->a, j->b,
+        s[D].p, j->length[D], s[E].p, j->length[E], s[F].p, j->length[F],
+        s[BACK].p, j->length[BACK], s[ROUTE].p, j->length[ROUTE], s[WORK].p, j->length[WORK]);
+    expect_guards(where, "the map", &map);
+    expect_untouched(where, "the map", &map);
+    for (int k = 0; k < SLICES; k++) expect_guards(where, slice_name[k], &s[k]);
+    unsigned answer = p.result.answer;
+    if (answer > 8) fail(where, "the planner", "gave an answer above 8");
+    if (answer != 0) {
+        expect(where, "cost", p.result.cost, 0);
+        expect(where, "total", p.result.total, 0);
+        expect(where, "points", p.result.points, 0);
+    }
+    if (1 <= answer && answer <= 6)
+        for (int k = 0; k < SLICES; k++) expect_untouched(where, slice_name[k], &s[k]);
+    else
+        expect_zeros(where, "work", &s[WORK]);
+    if (answer == 7) expect_zeros(where, "e", &s[E]);
+    if (answer == 7 || answer == 8)
+        for (int k = F; k <= ROUTE; k++) expect_zeros(where, slice_name[k], &s[k]);
+    give_back(&map);
+    return p;
+}
+
+static void expect_plan(const char *where, const job *j, unsigned wanted)
+{
+    const unsigned char fills[] = {0x00, 0x01, 0xFF};
+    for (size_t k = 0; k < sizeof fills; k++) {
+        planned p = plan(where, j, fills[k]);
+        expect_answer(where, p.result.answer, wanted);
+        give_back_sheet(&p);
+    }
+}
+
+/* Asks the checker about the sheet as the slices hold it. */
+static unsigned check(const char *where, const job *j, const void *const sheet[5])
+{
+    lent s[5], map = lend_copy(j->map, j->map_length);
+    before_call(&map);
+    for (int k = 0; k < 5; k++) {
+        s[k] = sheet[k] == NULL ? lend(j->length[k] * element[k], 0xFF) : lend_copy(sheet[k], j->length[k] * element[k]);
+        before_call(&s[k]);
+    }
+    unsigned answer = lurfanzi_check(
+        j->width, j->height, map.p, j->map_length, j->neighbourhood, j->a, j->b,
+        s[D].p, j->length[D], s[E].p, j->length[E], s[F].p, j->length[F],
+        s[BACK].p, j->length[BACK], s[ROUTE].p, j->length[ROUTE], j->n);
+    expect_guards(where, "the map", &map);
+    expect_untouched(where, "the map", &map);
+    for (int k = 0; k < 5; k++) {
+        expect_guards(where, slice_name[k], &s[k]);
+        expect_untouched(where, slice_name[k], &s[k]);
+        give_back(&s[k]);
+    }
+    give_back(&map);
+    return answer;
+}
+
+/* A list for the thinning. */
+typedef struct {
+    uint32_t width, height;
+    const uint8_t *map;
+    size_t map_length;
+    const uint16_t *list;
+    size_t list_length, out_length, n;
+} trail;
+
+static lurfanzi_thin_result thin(const char *where, const trail *t, uint16_t *kept)
+{
+    lent map = lend_copy(t->map, t->map_length);
+    lent list = lend_copy(t->list, t->list_length * sizeof(uint16_t));
+    lent out = lend(t->out_length * sizeof(uint16_t), 0xFF);
+    before_call(&map), before_call(&list), before_call(&out);
+    lurfanzi_thin_result r = lurfanzi_thin(
+        t->width, t->height, map.p, t->map_length, list.p, t->list_length, out.p, t->out_length, t->n);
+    expect_guards(where, "the map", &map);
+    expect_untouched(where, "the map", &map);
+    expect_guards(where, "the list", &list);
+    expect_untouched(where, "the list", &list);
+    expect_guards(where, "the output", &out);
+    if (r.answer != 0) {
+        expect_untouched(where, "the output", &out);
+        expect(where, "kept", r.kept, 0);
+    } else if (kept != NULL)
+        memcpy(kept, out.p, out.size);
+    give_back(&map), give_back(&list), give_back(&out);
+    return r;
+}
+
+static void expect_thin(const char *where, const trail *t, unsigned wanted)
+{
+    expect_answer(where, thin(where, t, NULL).answer, wanted);
+}
+
+/* ---- The worked floors. ---- */
+
+enum { PLACES = 9 };
+
+/* A floor with its whole sheet. A number that the floor's text leaves out follows from the move costs and the counts. */
+typedef struct {
+    const char *name;
+    uint32_t width, height;
+    uint8_t map[4];
+    uint32_t neighbourhood, a, b;
+    unsigned answer;
+    uint32_t cost;
+    uint64_t total;
+    uint32_t d[PLACES], e[PLACES];
+    uint64_t f[PLACES], back[PLACES];
+    size_t points;
+    uint16_t route[PLACES];
+    size_t kept;
+    uint16_t positions[PLACES];
+} worked;
+
+static const worked floors[] = {
+    {"floor a", 1, 1, {0}, 8, 0, 3, 0, 577, 1, {0, 408, 408, 577}, {577, 408, 408, 0}, {1, 0, 0, 1}, {1, 0, 0, 1},
+     2, {0, 3}, 2, {0, 1}},
+    {"floor b", 1, 1, {0}, 4, 0, 3, 0, 816, 2, {0, 408, 408, 816}, {816, 408, 408, 0}, {1, 1, 1, 2}, {2, 1, 1, 1},
+     3, {0, 1, 3}, 2, {0, 2}},
+    {"floor c", 1, 1, {1}, 8, 0, 3, 7, 0, 0, {0, M, M, M}, {0}, {0}, {0}, 0, {0}, 0, {0}},
+    {"floor d", 1, 1, {1}, 8, 0, 0, 0, 0, 1, {0, M, M, M}, {0, M, M, M}, {1}, {1}, 1, {0}, 1, {0}},
+    {"floor e", 2, 1, {0, 0}, 8, 0, 5, 0, 985, 2, {0, 408, 816, 408, 577, 985}, {985, 577, 408, 816, 408, 0},
+     {1, 1, 0, 0, 1, 2}, {2, 1, 0, 0, 1, 1}, 3, {0, 1, 5}, 2, {0, 2}},
+    {"floor f", 2, 1, {0, 1}, 8, 0, 5, 7, 0, 0, {0, 408, M, 408, 577, M}, {0}, {0}, {0}, 0, {0}, 0, {0}},
+    {"floor g", 2, 2, {1, 0, 0, 1}, 8, 2, 6, 0, 1154, 1, {M, 408, 0, 985, 577, 408, 1154, 985, M},
+     {M, 985, 1154, 408, 577, 985, 0, 408, M}, {0, 0, 1, 0, 1, 0, 1}, {0, 0, 1, 0, 1, 0, 1}, 3, {2, 4, 6}, 2, {0, 2}},
+    {"floor h", 2, 2, {0, 0, 0, 0}, 4, 0, 8, 0, 1632, 6, {0, 408, 816, 408, 816, 1224, 816, 1224, 1632},
+     {1632, 1224, 816, 1224, 816, 408, 816, 408, 0}, {1, 1, 1, 1, 2, 3, 1, 3, 6}, {6, 3, 1, 3, 2, 1, 1, 1, 1},
+     5, {0, 1, 4, 5, 8}, 2, {0, 4}},
+};
+
+static job job_of(const worked *w)
+{
+    return make_job(w->width, w->height, w->map, w->neighbourhood, w->a, w->b);
+}
+
+static void expect_slice(const char *where, const char *what, const lent *s, const void *wanted)
+{
+    if (memcmp(s->p, wanted, s->size) != 0) fail(where, what, "is not the worked one");
+}
+
+/* Plans the floor over slices that hold anything, and compares the whole sheet with the worked one. */
+static void plan_worked(const worked *w)
+{
+    const unsigned char fills[] = {0x00, 0x01, 0xFF};
+    const job j = job_of(w);
+    for (size_t k = 0; k < sizeof fills; k++) {
+        planned p = plan(w->name, &j, fills[k]);
+        expect_answer(w->name, p.result.answer, w->answer);
+        expect(w->name, "cost", p.result.cost, w->cost);
+        expect(w->name, "total", p.result.total, w->total);
+        expect(w->name, "points", p.result.points, w->points);
+        expect_slice(w->name, "d", &p.slice[D], w->d);
+        expect_slice(w->name, "e", &p.slice[E], w->e);
+        expect_slice(w->name, "f", &p.slice[F], w->f);
+        expect_slice(w->name, "back", &p.slice[BACK], w->back);
+        expect_slice(w->name, "route", &p.slice[ROUTE], w->route);
+        give_back_sheet(&p);
+    }
+}
+
+/* Checks the worked sheet, then each sheet that differs from it in one number or one bit: all of those are false. */
+static void check_worked(const worked *w)
+{
+    worked altered = *w;
+    job j = job_of(w);
+    j.n = w->points;
+    void *const slices[5] = {altered.d, altered.e, altered.f, altered.back, altered.route};
+    const void *const sheet[5] = {altered.d, altered.e, altered.f, altered.back, altered.route};
+    expect_answer(w->name, check(w->name, &j, sheet), w->answer);
+    for (int k = 0; k < 5; k++)
+        for (size_t byte = 0; byte < j.length[k] * element[k]; byte++)
+            for (int bit = 0; bit < 8; bit += 7) {
+                unsigned char *at = (unsigned char *)slices[k] + byte;
+                *at ^= (unsigned char)(1u << bit);
+                expect_answer(w->name, check(w->name, &j, sheet), LURFANZI_FALSE_SHEET);
+                *at ^= (unsigned char)(1u << bit);
+            }
+    const size_t v = vertices(w->width, w->height);
+    const size_t counts[] = {0, 1, w->points + 1, v, v + 1, 65536 + w->points, SIZE_MAX};
+    for (size_t k = 0; k < sizeof counts / sizeof counts[0]; k++) {
+        if (counts[k] == w->points) continue;
+        j.n = counts[k];
+        expect_answer(w->name, check(w->name, &j, sheet), LURFANZI_FALSE_SHEET);
+    }
+    const void *const turned_costs[5] = {w->e, w->d, w->f, w->back, w->route};
+    const void *const turned_counts[5] = {w->d, w->e, w->back, w->f, w->route};
+    j.n = w->points;
+    if (memcmp(w->d, w->e, sizeof w->d) != 0)
+        expect_answer(w->name, check(w->name, &j, turned_costs), LURFANZI_FALSE_SHEET);
+    if (memcmp(w->f, w->back, sizeof w->f) != 0)
+        expect_answer(w->name, check(w->name, &j, turned_counts), LURFANZI_FALSE_SHEET);
+}
+
+static trail trail_of(const worked *w)
+{
+    const size_t v = vertices(w->width, w->height);
+    return (trail){w->width, w->height, w->map, (size_t)w->width * w->height, w->route, v, v, w->points};
+}
+
+static void thin_worked(const worked *w)
+{
+    uint16_t kept[PLACES];
+    trail t = trail_of(w);
+    if (w->answer != 0) return;
+    lurfanzi_thin_result r = thin(w->name, &t, kept);
+    expect_answer(w->name, r.answer, 0);
+    expect(w->name, "kept", r.kept, w->kept);
+    if (memcmp(kept, w->positions, t.out_length * sizeof kept[0]) != 0)
+        fail(w->name, "the output", "is not the worked one");
+}
+
+static void worked_floors(void)
+{
+    for (size_t k = 0; k < sizeof floors / sizeof floors[0]; k++) {
+        plan_worked(&floors[k]);
+        check_worked(&floors[k]);
+        thin_worked(&floors[k]);
+    }
+    const worked *h = &floors[7];
+    expect(h->name, "the traversal count of vertex 4", h->f[4] * h->back[4], 4);
+}
+
+/* Floor j: an open floor, corner to corner with neighbourhood 4, where a cost is 408 for each unit step. */
+static void expect_unit_steps(const char *where, const lent *s, int width, int height, int x0, int y0)
+{
+    const uint32_t *cost = s->p;
+    for (int y = 0; y <= height; y++)
+        for (int x = 0; x <= width; x++) {
+            int steps = abs(x - x0) + abs(y - y0);
+            expect(where, "a cost", cost[x + y * (width + 1)], 408ull * (unsigned)steps);
+        }
+}
+
+static void floor_j(void)
+{
+    static const uint8_t map[34 * 34];
+    job fits = make_job(33, 34, map, 4, 0, 34 * 35 - 1);
+    planned p = plan("floor j, 33 by 34", &fits, 0xFF);
+    expect_answer("floor j, 33 by 34", p.result.answer, 0);
+    expect("floor j, 33 by 34", "cost", p.result.cost, 67 * 408);
+    expect("floor j, 33 by 34", "total: the ways to place 33 steps among 67", p.result.total, 14226520737620288370u);
+    expect("floor j, 33 by 34", "points", p.result.points, 68);
+    expect_unit_steps("floor j, 33 by 34", &p.slice[D], 33, 34, 0, 0);
+    expect_unit_steps("floor j, 33 by 34", &p.slice[E], 33, 34, 33, 34);
+    const void *const sheet[5] = {p.slice[D].p, p.slice[E].p, p.slice[F].p, p.slice[BACK].p, p.slice[ROUTE].p};
+    fits.n = 68;
+    expect_answer("floor j, 33 by 34", check("floor j, 33 by 34", &fits, sheet), 0);
+    give_back_sheet(&p);
+
+    job many = make_job(34, 34, map, 4, 0, 35 * 35 - 1);
+    p = plan("floor j, 34 by 34", &many, 0xFF);
+    expect_answer("floor j, 34 by 34", p.result.answer, LURFANZI_TOO_MANY);
+    expect_unit_steps("floor j, 34 by 34", &p.slice[D], 34, 34, 0, 0);
+    expect_unit_steps("floor j, 34 by 34", &p.slice[E], 34, 34, 34, 34);
+    const void *const refused[5] = {p.slice[D].p, p.slice[E].p, p.slice[F].p, p.slice[BACK].p, p.slice[ROUTE].p};
+    expect_answer("floor j, 34 by 34", check("floor j, 34 by 34", &many, refused), LURFANZI_FALSE_SHEET);
+    give_back_sheet(&p);
+}
+
+static const uint8_t largest[127 * 127 + 1];
+
+/* Floor k: the largest floor, open. */
+static void floor_k(void)
+{
+    job j = make_job(127, 127, largest, 4, 0, 1);
+    planned p = plan("floor k", &j, 0xFF);
+    const uint16_t *route = p.slice[ROUTE].p;
+    expect_answer("floor k", p.result.answer, 0);
+    expect("floor k", "cost", p.result.cost, 408);
+    expect("floor k", "total", p.result.total, 1);
+    expect("floor k", "points", p.result.points, 2);
+    expect("floor k", "the first vertex", route[0], 0);
+    expect("floor k", "the second vertex", route[1], 1);
+    expect_unit_steps("floor k", &p.slice[D], 127, 127, 0, 0);
+    expect_unit_steps("floor k", &p.slice[E], 127, 127, 1, 0);
+    const void *const sheet[5] = {p.slice[D].p, p.slice[E].p, p.slice[F].p, p.slice[BACK].p, p.slice[ROUTE].p};
+    j.n = 2;
+    expect_answer("floor k", check("floor k", &j, sheet), 0);
+    give_back_sheet(&p);
+}
+
+/* ---- The limits of every number (floor l), on floor e, whose numbers 2, 1, 8, 0, 5 all differ. ---- */
+
+static const worked *const e_floor = &floors[4];
+static const void *const anything[5] = {NULL, NULL, NULL, NULL, NULL};
+
+/* Planner and checker refuse the job alike. */
+static void expect_refused(const char *where, const job *j, unsigned wanted)
+{
+    expect_plan(where, j, wanted);
+    expect_answer(where, check(where, j, anything), wanted);
+}
+
+static void limits_of_numbers(void)
+{
+    const uint32_t sizes[] = {0, 128, 257, 258, 65537, 4294967295u};
+    for (size_t k = 0; k < sizeof sizes / sizeof sizes[0]; k++) {
+        job j = job_of(e_floor);
+        j.width = sizes[k];
+        expect_refused("a bad width", &j, LURFANZI_BAD_SIZE);
+        j = job_of(e_floor);
+        j.height = sizes[k];
+        expect_refused("a bad height", &j, LURFANZI_BAD_SIZE);
+    }
+    for (int wide = 0; wide < 2; wide++) {
+        job j = wide ? make_job(127, 1, largest, 4, 0, 127) : make_job(1, 127, largest, 4, 0, 254);
+        planned p = plan("a side of 127", &j, 0xFF);
+        expect_answer("a side of 127", p.result.answer, 0);
+        expect("a side of 127", "cost", p.result.cost, 127 * 408);
+        give_back_sheet(&p);
+    }
+    for (size_t length = 0; length <= 4; length++) {
+        job j = job_of(e_floor);
+        j.map_length = length;
+        if (length != 2) expect_refused("a bad map length", &j, LURFANZI_BAD_MAP_LENGTH);
+    }
+    for (int cell = 0; cell < 2; cell++)
+        for (int byte = 2; byte < 256; byte++) {
+            uint8_t map[2] = {0, 0};
+            map[cell] = (uint8_t)byte;
+            job j = make_job(2, 1, map, 8, 0, 5);
+            expect_refused("a bad map byte", &j, LURFANZI_BAD_MAP_BYTE);
+        }
+    const uint32_t neighbourhoods[] = {0, 1, 2, 3, 5, 6, 7, 9, 12, 16, 260, 264, 65540, 4294967295u};
+    for (size_t k = 0; k < sizeof neighbourhoods / sizeof neighbourhoods[0]; k++) {
+        job j = job_of(e_floor);
+        j.neighbourhood = neighbourhoods[k];
+        expect_refused("a bad neighbourhood", &j, LURFANZI_BAD_NEIGHBOURHOOD);
+    }
+    for (uint32_t neighbourhood = 4; neighbourhood <= 8; neighbourhood += 4) {
+        job j = job_of(e_floor);
+        j.neighbourhood = neighbourhood;
+        expect_plan("a good neighbourhood", &j, 0);
+    }
+    const uint32_t ends[] = {6, 7, 256 + 5, 65536 + 0, 65536 + 5, 4294967295u};
+    for (size_t k = 0; k < sizeof ends / sizeof ends[0]; k++) {
+        job j = job_of(e_floor);
+        j.a = ends[k];
+        expect_refused("a bad first end", &j, LURFANZI_BAD_END);
+        j = job_of(e_floor);
+        j.b = ends[k];
+        expect_refused("a bad second end", &j, LURFANZI_BAD_END);
+    }
+    job back = job_of(e_floor);
+    back.a = 5, back.b = 0;
+    expect_plan("the last vertex as first end", &back, 0);
+}
+
+/* Each slice one place short, one place long, empty, and longer by a number that a narrow type would lose. */
+static void limits_of_slices(void)
+{
+    for (int slice = 0; slice < SLICES; slice++) {
+        const size_t length = job_of(e_floor).length[slice];
+        const size_t bad[] = {length - 1, length + 1, 0, 2 * length, 256 + length, 65536 + length};
+        for (size_t k = 0; k < sizeof bad / sizeof bad[0]; k++) {
+            job j = job_of(e_floor);
+            j.length[slice] = bad[k];
+            expect_plan(slice_name[slice], &j, LURFANZI_BAD_SLICE_LENGTH);
+            if (slice == WORK) continue;
+            expect_answer(slice_name[slice], check(slice_name[slice], &j, anything), LURFANZI_BAD_SLICE_LENGTH);
+        }
+    }
+    job empty = job_of(e_floor);
+    memset(empty.length, 0, sizeof empty.length);
+    expect_refused("every slice empty", &empty, LURFANZI_BAD_SLICE_LENGTH);
+    empty.map_length = 0;
+    expect_refused("the map empty too", &empty, LURFANZI_BAD_MAP_LENGTH);
+    empty.width = empty.height = 0;
+    expect_refused("all empty on a floor without cells", &empty, LURFANZI_BAD_SIZE);
+}
+
+/* Of two faults the one with the lower number is answered. */
+static void spoil(job *j, unsigned fault)
+{
+    static const uint8_t bad_byte[3] = {0, 2, 0};
+    if (fault == 1) j->height = 128;
+    if (fault == 2) j->map_length = 3;
+    if (fault == 3) j->map = bad_byte;
+    if (fault == 4) j->neighbourhood = 6;
+    if (fault == 5) j->b = 6;
+    if (fault == 6) j->length[ROUTE] = 7;
+}
+
+static void order_of_refusals(void)
+{
+    static const uint8_t open[3];
+    for (unsigned first = 1; first <= 6; first++)
+        for (unsigned second = first; second <= 6; second++) {
+            job j = make_job(2, 1, open, 8, 0, 5);
+            spoil(&j, second);
+            spoil(&j, first);
+            expect_refused("two faults", &j, first);
+        }
+    /* Refusals 1 to 6 come before 7 and 9, and n is not looked at before them. */
+    job no_route = job_of(&floors[5]);
+    no_route.length[WORK] = 23;
+    expect_plan("no route, and a short slice", &no_route, LURFANZI_BAD_SLICE_LENGTH);
+    job false_sheet = job_of(e_floor);
+    false_sheet.n = SIZE_MAX;
+    false_sheet.neighbourhood = 0;
+    const char *const where = "a false sheet, and a bad neighbourhood";
+    expect_answer(where, check(where, &false_sheet, anything), LURFANZI_BAD_NEIGHBOURHOOD);
+}
+
+/* ---- The thinning. ---- */
+
+static void limits_of_thinning(void)
+{
+    static const uint16_t zeros[16385];
+    const uint16_t list[7] = {0, 1, 5, 4, 65535, 6, 65535};
+    const uint8_t open[2] = {0, 0}, wall[2] = {0, 1}, bad[2] = {0, 2};
+    const trail good = {2, 1, open, 2, list, 7, 7, 3};
+    uint16_t kept[7];
+    trail t;
+
+    expect_thin("three of seven places", &good, 0);
+    /* All vertices of an open floor see each other: only the ends are kept, and places past n are not read. */
+    const size_t lengths[] = {1, 2, 3, 4};
+    for (size_t k = 0; k < 4; k++) {
+        t = good, t.n = lengths[k];
+        lurfanzi_thin_result r = thin("an open floor", &t, kept);
+        expect_answer("an open floor", r.answer, 0);
+        expect("an open floor", "kept", r.kept, t.n == 1 ? 1 : 2);
+        expect("an open floor", "the first position", kept[0], 0);
+        expect("an open floor", "the second position", kept[1], t.n - 1);
+        for (size_t place = 2; place < 7; place++) expect("an open floor", "a place past the kept ones", kept[place], 0);
+    }
+    /* The slice that is used whole, with n = V places. */
+    const uint16_t whole[6] = {0, 1, 2, 5, 4, 3};
+    t = (trail){2, 1, open, 2, whole, 6, 6, 6};
+    expect_thin("n as long as the list", &t, 0);
+    const size_t counts[] = {0, 7, 65536 + 3, (size_t)4294967296 + 3, SIZE_MAX};
+    for (size_t k = 0; k < sizeof counts / sizeof counts[0]; k++) {
+        t.n = counts[k];
+        expect_thin("a bad n", &t, LURFANZI_NOT_JOINED);
+    }
+    t = good, t.n = 5;
+    expect_thin("the number 65535 in the list", &t, LURFANZI_NOT_JOINED);
+    const uint16_t at_v[2] = {5, 6};
+    t = (trail){2, 1, open, 2, at_v, 2, 2, 2};
+    expect_thin("V in the list", &t, LURFANZI_NOT_JOINED);
+    const uint16_t apart[2] = {0, 5};
+    t = (trail){2, 1, wall, 2, apart, 2, 2, 2};
+    expect_thin("two that do not see each other", &t, LURFANZI_NOT_JOINED);
+
+    const uint32_t sizes[] = {0, 128, 257, 258, 4294967295u};
+    for (size_t k = 0; k < sizeof sizes / sizeof sizes[0]; k++) {
+        t = good, t.width = sizes[k];
+        expect_thin("a bad width", &t, LURFANZI_BAD_SIZE);
+        t = good, t.height = sizes[k];
+        expect_thin("a bad height", &t, LURFANZI_BAD_SIZE);
+    }
+    t = good, t.map_length = 1;
+    expect_thin("a short map", &t, LURFANZI_BAD_MAP_LENGTH);
+    t = good, t.map = bad;
+    expect_thin("a bad map byte", &t, LURFANZI_BAD_MAP_BYTE);
+    const size_t outputs[] = {0, 6, 8, 256 + 7, 65536 + 7};
+    for (size_t k = 0; k < sizeof outputs / sizeof outputs[0]; k++) {
+        t = good, t.out_length = outputs[k];
+        expect_thin("an output of another length", &t, LURFANZI_BAD_SLICE_LENGTH);
+    }
+    t = (trail){2, 1, open, 2, zeros, 16384, 16384, 16384};
+    expect_thin("the longest list", &t, 0);
+    t = (trail){2, 1, open, 2, zeros, 16385, 16385, 1};
+    expect_thin("a list that is too long", &t, LURFANZI_BAD_SLICE_LENGTH);
+    t = (trail){2, 1, open, 2, NULL, 0, 0, 0};
+    expect_thin("an empty list", &t, LURFANZI_NOT_JOINED);
+    t = (trail){2, 1, open, 2, NULL, 0, 1, 1};
+    expect_thin("an empty list, with an output", &t, LURFANZI_BAD_SLICE_LENGTH);
+    t = (trail){0, 0, NULL, 0, NULL, 0, 0, 0};
+    expect_thin("nothing at all", &t, LURFANZI_BAD_SIZE);
+}
+
+static void spoil_trail(trail *t, unsigned fault)
+{
+    static const uint8_t bad_byte[3] = {0, 2, 0};
+    if (fault == 1) t->width = 0;
+    if (fault == 2) t->map_length = 3;
+    if (fault == 3) t->map = bad_byte;
+    if (fault == 6) t->out_length = 5;
+    if (fault == 10) t->n = 5;
+}
+
+static void order_of_thinning_refusals(void)
+{
+    static const uint8_t open[3];
+    static const uint16_t list[4] = {0, 1, 5};
+    const unsigned faults[] = {1, 2, 3, 6, 10};
+    for (size_t first = 0; first < 5; first++)
+        for (size_t second = first; second < 5; second++) {
+            trail t = {2, 1, open, 2, list, 4, 4, 3};
+            spoil_trail(&t, faults[second]);
+            spoil_trail(&t, faults[first]);
+            expect_thin("two faults of a list", &t, faults[first]);
+        }
+}
+
+int main(void)
+{
+    setbuf(stdout, NULL); /* so that a crash loses no line */
+    worked_floors();
+    floor_j();
+    floor_k();
+    limits_of_numbers();
+    limits_of_slices();
+    order_of_refusals();
+    limits_of_thinning();
+    order_of_thinning_refusals();
+    for (int answer = 0; answer <= 10; answer++)
+        if (provoked[answer] == 0) {
+            printf("answer %d was never given\n", answer);
+            failures++;
+        }
+    if (failures != 0) printf("c: interface: %d failed\n", failures);
+    else printf("c: interface as expected\n");
+    return failures != 0;
+}
