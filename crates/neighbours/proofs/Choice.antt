@@ -16,6 +16,7 @@ use Rattle.paths.specs.Graph.{Graph}
 use Rattle.paths.specs.Distance.{unreachable}
 use Rattle.paths.specs.Route.{onShortest, candidate, better, best}
 use Rattle.paths.proofs.More.{none-some}
+use Rattle.neighbours.specs.Choice.{followsBy}
 use Rattle.neighbours.proofs.Steps.{stepOf-off, stepOf-to}
 
 abbrev pub toVertex : ℕ → Step
@@ -96,24 +97,33 @@ module _ (D E : ℕ → ℕ) (b v : ℕ) where
   unfolding onShortest
   onShortest-sum l = rw (lt-ltb (D b) unreachable l)
 
+module _ (on : ℕ → Bool) (D : ℕ → ℕ) (v w c : ℕ) where
+  pub follows-uneven : (D w ≡ D v + c → ⊥) → false ≡ followsBy on D v w c
+  unfolding followsBy
+  follows-uneven ne = rw (ne-eqb (D w) (D v + c) ne) (and-false (on w))
+    where
+      and-false : (p : Bool) → false ≡ (p && false)
+      and-false true = refl
+      and-false false = refl
+
+  pub follows-even : D w ≡ D v + c → on w ≡ followsBy on D v w c
+  unfolding followsBy
+  follows-even e = rw (eq-eqb (D w) (D v + c) e) (and-true (on w))
+    where
+      and-true : (p : Bool) → p ≡ (p && true)
+      and-true true = refl
+      and-true false = refl
+
 module _ (g : Graph) (on : ℕ → Bool) (D : ℕ → ℕ) (v m : ℕ) where
-  pub candidate-none : g .step m v ≡ none → Off ≡ stepOf (candidate g on D v m)
-  unfolding candidate stepOf
+  pub candidate-none : g .step m v ≡ none → candidate g on D v m ≡ none
+  unfolding candidate
   candidate-none e = rw (e, candidate)
 
   module _ (w : ℕ) (goes : g .step m v ≡ some w) where
-    pub candidate-uneven : (D w ≡ D v + g .cost m → ⊥) → Off ≡ stepOf (candidate g on D v m)
-    unfolding candidate stepOf
-    candidate-uneven ne = rw (goes, ne-eqb (D w) (D v + g .cost m) ne, candidate) (cases (on w))
-      where
-        cases : (p : Bool) → Off ≡ stepOf (elim (p && false) [ true ↦ some w | false ↦ none ])
-        cases true = refl
-        cases false = refl
+    pub candidate-off : followsBy on D v w (g .cost m) ≡ false → candidate g on D v m ≡ none
+    unfolding candidate followsBy
+    candidate-off e = rw (goes, candidate) (rw e)
 
-    pub candidate-off : on w ≡ false → Off ≡ stepOf (candidate g on D v m)
-    unfolding candidate stepOf
-    candidate-off e = rw (goes, e, candidate)
-
-    pub candidate-on : D w ≡ D v + g .cost m → on w ≡ true → toVertex w ≡ stepOf (candidate g on D v m)
-    unfolding candidate stepOf
-    candidate-on q e = rw (goes, e, eq-eqb (D w) (D v + g .cost m) q, candidate)
+    pub candidate-on : followsBy on D v w (g .cost m) ≡ true → candidate g on D v m ≡ some w
+    unfolding candidate followsBy
+    candidate-on e = rw (goes, candidate) (rw e)

@@ -2,6 +2,7 @@
 -- each move in vertex numbers. Nobody has to believe these: what a loop finds is stated by the definitions of paths,
 -- over the graph `star`, whose steps from a vertex are those that its mask lets through.
 --
+--   by up down            == a change of a vertex number by up less down
 --   offsetIn t m          == by how much move m changes a vertex number
 --   readStep t mask v m   == the far end of move m from v by its mask, if the move is open
 --   star n t mask         == the graph of n vertices with these steps
@@ -28,6 +29,9 @@ use Rattle.paths.specs.Local.{given, if-there, is-there, when-eq, entry}
 use Rattle.neighbours.specs.declared.Reach.{Reach}
 use Rattle.neighbours.specs.declared.Sum.{Sum}
 use Rattle.neighbours.specs.declared.Sum.the-variants.{Is, Over}
+
+abbrev pub by : ℕ → ℕ → Offset
+by u d = record { up = u; down = d }
 
 abbrev pub offsetIn : Reach → ℕ → Offset
 offsetIn t m = record { up = entry (t .up) m; down = entry (t .down) m }

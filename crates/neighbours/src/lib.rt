@@ -4,11 +4,12 @@ ghost use mathlib.Core.Path.{_≡_};
 ghost use Prim.Native.Nat.{_<_, _≤_, _^_};
 ghost use lib.ListN.{length};
 ghost use Rattle.moves.specs.Steps.{stepOf};
+ghost use Rattle.moves.specs.Masks.{Movable, maskedEnd};
 ghost use Rattle.moves.specs.Table.{Listed};
 ghost use Rattle.paths.specs.Route.{onShortest};
 ghost use Rattle.paths.specs.Local.{entry, rightCost, inflow};
-ghost use Rattle.neighbours.specs.Reach.{readStep, star, Readable, Here, Built, sumOf};
-ghost use Rattle.neighbours.specs.Choice.{Choosing, Counted, candidateOf, traversalOf, nextOf};
+ghost use Rattle.neighbours.specs.Reach.{by, star, Here, Built, sumOf};
+ghost use Rattle.neighbours.specs.Choice.{Choosing, Counted, followsBy, traversalOf, nextOf};
 use floor::Vertex;
 use moves::Offset;
 use moves::Rows;
@@ -45,25 +46,13 @@ fn cost_at(d: &[u32], v: usize) -> u64
     wide(d[v])
 }
 
-// The cost of move m, in 64 bits.
-fn move_cost(t: Reach, m: usize) -> u64
-    requires { ⌜ m < 8 ⌝ }
-    ensures { λ r. ⌜ (r ≡ entry (t .cost) m) × (r < 4294967296) ⌝ }
+// Where the move of a row leads from v, by the mask of v's open moves and how far it leads up and down. The loops below
+// read these numbers themselves: a Reach passed by value would be copied at each turn.
+fn neighbour(mask: u32, v: usize, row: usize, up: usize, down: usize) -> Step
+    requires { ⌜ Movable mask v row (by up down) ⌝ }
+    ensures { λ r. ⌜ r ≡ stepOf (maskedEnd mask v row (by up down)) ⌝ }
 {
-    wide(t.cost[m])
-}
-
-// Where move m leads from v, by the mask of its open moves.
-pub fn neighbour(t: Reach, mask: u32, v: usize, m: usize) -> Step
-    requires { ⌜ Readable t mask v m ⌝ }
-    ensures { λ r. ⌜ r ≡ stepOf (readStep t mask v m) ⌝ }
-{
-    let row = t.row[m];
-    let by = Offset {
-        up: t.up[m],
-        down: t.down[m],
-    };
-    moves::masked_step(mask, Vertex(v), row, by)
+    moves::masked_step(mask, Vertex(v), row, Offset { up: up, down: down })
 }
 
 // The moves of the rows of a neighbourhood on floors of width w.
@@ -96,11 +85,11 @@ pub fn cost_right(t: Reach, mask: u32, source: usize, d: &[u32], v: usize) -> bo
     let here = cost_at(d, v);
     let mut tight = false;
     for m in 0..t.count {
-        let Step::To(w) = neighbour(t, mask, v, m) else {
+        let Step::To(w) = neighbour(mask, v, t.row[m], t.up[m], t.down[m]) else {
             continue;
         };
         let there = cost_at(d, w.0);
-        let c = move_cost(t, m);
+        let c = wide(t.cost[m]);
         if here + c < there {
             return false;
         }
@@ -127,10 +116,10 @@ pub fn inflow_at(t: Reach, mask: u32, d: &[u32], f: &[u64], v: usize) -> Sum
     let here = cost_at(d, v);
     let mut s: u64 = 0;
     for m in 0..t.count {
-        let Step::To(w) = neighbour(t, mask, v, m) else {
+        let Step::To(w) = neighbour(mask, v, t.row[m], t.up[m], t.down[m]) else {
             continue;
         };
-        if cost_at(d, w.0) + move_cost(t, m) != here {
+        if cost_at(d, w.0) + wide(t.cost[m]) != here {
             continue;
         }
         let at = w.0;
@@ -155,22 +144,17 @@ pub fn on_way(d: &[u32], e: &[u32], goal: usize, v: usize) -> bool
     cost_at(d, v) + cost_at(e, v) == total
 }
 
-// Where move m leads the route from v: a vertex on the way that costs just the move more than v.
-fn candidate_at(t: Reach, mask: u32, d: &[u32], e: &[u32], goal: usize, v: usize, m: usize) -> Step
-    requires { ⌜ Choosing t mask (now d) (now e) goal v × (m < t .count) ⌝ }
-    ensures { λ r. ⌜ r ≡ stepOf (candidateOf t mask (now (d .entry)) (now (e .entry)) goal v m) ⌝ }
+// Whether the route may go from v to w by a move that costs c: w is on the way and costs just the move more than v.
+fn follows(d: &[u32], e: &[u32], goal: usize, v: usize, w: usize, c: u32) -> bool
+    requires { ⌜ (goal < length (now d)) × (v < length (now d)) × (w < length (now d))
+        × (length (now e) ≡ length (now d)) ⌝ }
+    ensures { λ r. ⌜ r ≡ followsBy
+        (onShortest (entry (now (d .entry))) (entry (now (e .entry))) goal) (entry (now (d .entry))) v w c ⌝ }
 {
-    let Step::To(w) = neighbour(t, mask, v, m) else {
-        return Step::Off;
-    };
-    let at = w.0;
-    if cost_at(d, at) != cost_at(d, v) + move_cost(t, m) {
-        return Step::Off;
+    if cost_at(d, w) != cost_at(d, v) + wide(c) {
+        return false;
     }
-    if on_way(d, e, goal, at) {
-        return Step::To(w);
-    }
-    Step::Off
+    on_way(d, e, goal, w)
 }
 
 // The traversal count of v.
@@ -199,9 +183,12 @@ pub fn next_at(
     let mut best = Step::Off;
     let mut high: u64 = 0;
     for m in 0..t.count {
-        let Step::To(w) = candidate_at(t, mask, d, e, goal, v, m) else {
+        let Step::To(w) = neighbour(mask, v, t.row[m], t.up[m], t.down[m]) else {
             continue;
         };
+        if !follows(d, e, goal, v, w.0, t.cost[m]) {
+            continue;
+        }
         let x = traversal_at(f, b, w.0);
         let Step::To(_) = best else {
             best = Step::To(w);

@@ -1,4 +1,9 @@
 // The planner: costs, counts and the central route of a job.
+//
+//     plan        the operation of document 01, for every input
+//     plan_job    the same where none of refusals 1 to 5 applies
+//     finish      the same from given costs from the start: answers 0, 7 and 8
+//     find_route  the same where a walk joins the ends: answers 0 and 8
 mod route; // route.rt: the central route, written as it is walked
 
 ghost use mathlib.Core.Path.{_≡_};

@@ -141,11 +141,16 @@ module _ (c : Case) (fit : Fits c) where
 routes-true : Each RouteHolds routes
 unfolding jobOf floorShape endShape neighbourhoodOf shaped routeTest bounded-opened lists-opened floor-opened sight-opened
     steps-opened route-opened local-opened thinning-opened
-routes-true =
-    (route-holds floorA refl refl,
-    (route-holds floorB refl refl,
-    (route-holds floorD refl refl,
-    (route-holds floorE refl refl, (route-holds floorG refl refl, (route-holds floorH refl refl, tt))))))
+routes-true = (
+  route-holds floorA refl refl,
+  (
+    route-holds floorB refl refl,
+    (
+      route-holds floorD refl refl,
+      (route-holds floorE refl refl, (route-holds floorG refl refl, (route-holds floorH refl refl, tt))),
+    ),
+  ),
+)
 
 noRoutes-true : Each NoRouteHolds noRoutes
 unfolding jobOf floorShape endShape neighbourhoodOf shaped noRouteTest bounded-opened lists-opened floor-opened sight-opened

@@ -13,28 +13,35 @@ use Rattle.neighbours.proofs.inflow_at.Statement.{statement}
 use Rattle.neighbours.proofs.inflow_at.Tie as tie
 
 abbrev Inv-loop : tie.InvT-loop
-Inv-loop t mask d f v here s₀ m₀ m-end s m = SumScan (star (length d) t mask) (entry d) (entry f) v m s
+Inv-loop mask d f v t here s₀ m₀ m-end s m = SumScan (star (length d) t mask) (entry d) (entry f) v m s
 
 abbrev μ-loop : tie.MeasureT-loop
-μ-loop t mask d f v here s₀ m₀ m-end s m = t .count - m
+μ-loop mask d f v t here s₀ m₀ m-end s m = t .count - m
 
 abbrev start : tie.In-loop Inv-loop μ-loop → tie.Start Inv-loop μ-loop
 start c = c .before .before .before .before .before
 
--- the far end of the move, once it is known to be there
-goes : (c : tie.After-known-told Inv-loop μ-loop)
-    → let l = c .before .before .before .before in
-    let a = start l .args in readStep (a .t) (a .mask) (a .v) (l .before .loop .m) ≡ some
-    (c .before .w .given .0 .0 .0)
-goes c = stepOf-to _ _ (sym (c .before .before .before .neighbour .ensures) ∙ c .before .w .given .1)
+-- the turn of the loop in which a far end is known
+abbrev turn-of : tie.After-known-told Inv-loop μ-loop → tie.In-loop Inv-loop μ-loop
+turn-of c = c .before .before .before .before .before .before .before
 
-turn : (c : tie.In-loop Inv-loop μ-loop) → c .before .loop .m < start c .args .t .count
+turn : (c : tie.In-loop Inv-loop μ-loop) → c .before .loop .m < start c .args .t1 .count
 turn c = omega arith
 
+below : (c : tie.In-loop Inv-loop μ-loop) → c .before .loop .m < 8
+below c = omega (arith, turn c, start c .pre .0 .few)
+
+-- the far end of the move, once it is known to be there
+goes : (c : tie.After-known-told Inv-loop μ-loop)
+    → let a = start (turn-of c) .args in
+    readStep (a .t1) (a .mask) (a .v) (turn-of c .before .loop .m) ≡ some (c .before .w .given .0 .0 .0)
+unfolding readStep
+goes c = stepOf-to _ _ (sym (c .before .before .before .neighbour .ensures) ∙ c .before .w .given .1)
+
 inside : (c : tie.After-known-told Inv-loop μ-loop)
-    → c .before .w .given .0 .0 .0 < length (start (c .before .before .before .before) .args .d .now)
+    → c .before .w .given .0 .0 .0 < length (start (turn-of c) .args .d .now)
 inside c =
-    let l = c .before .before .before .before in
+    let l = turn-of c in
     start l .pre .0 .inside (l .before .loop .m) (c .before .w .given .0 .0 .0) (turn l) (goes c)
 
 cost-at-requires : tie.Need-cost-at-requires Inv-loop μ-loop
@@ -43,8 +50,27 @@ cost-at-requires c κs = search needs
 loop-holds : tie.Need-loop-holds Inv-loop μ-loop
 loop-holds c = sum-start
 
+mul-neighbour : tie.Need-mul-neighbour Inv-loop μ-loop
+mul-neighbour c = omega (arith, below c)
+
+element-copy-out-neighbour : tie.Need-element-copy-out-neighbour Inv-loop μ-loop
+element-copy-out-neighbour c = below c
+
+mul-neighbour-2 : tie.Need-mul-neighbour-2 Inv-loop μ-loop
+mul-neighbour-2 c = omega (arith, below (c .before))
+
+element-copy-out-neighbour-2 : tie.Need-element-copy-out-neighbour-2 Inv-loop μ-loop
+element-copy-out-neighbour-2 c = below (c .before)
+
+mul-neighbour-3 : tie.Need-mul-neighbour-3 Inv-loop μ-loop
+mul-neighbour-3 c = omega (arith, below (c .before .before))
+
+element-copy-out-neighbour-3 : tie.Need-element-copy-out-neighbour-3 Inv-loop μ-loop
+element-copy-out-neighbour-3 c = below (c .before .before)
+
 neighbour-requires : tie.Need-neighbour-requires Inv-loop μ-loop
-neighbour-requires c κs = start c .pre .0 .readable (c .before .loop .m) (turn c)
+neighbour-requires c κs =
+    let l = c .before .before .before in start l .pre .0 .readable (l .before .loop .m) (turn l) .movable
 
 enum-known-w : tie.Need-enum-known-w Inv-loop μ-loop
 enum-known-w c = search needs
@@ -59,17 +85,23 @@ loop-less : tie.Need-loop-less Inv-loop μ-loop
 loop-less c = search needs
 
 loop-again : tie.Need-loop-again Inv-loop μ-loop
+unfolding readStep
 loop-again c =
-    let l = c .before .before .before in
+    let l = c .before .before .before .before .before .before in
     sum-off (l .before .loop .inv) (turn l) (stepOf-off _
     (sym (c .before .before .neighbour .ensures) ∙ c .enum-told .given .1))
 
 cost-at-requires-2 : tie.Need-cost-at-requires-2 Inv-loop μ-loop
 cost-at-requires-2 c κs = inside c
 
-move-cost-requires : tie.Need-move-cost-requires Inv-loop μ-loop
-move-cost-requires c κs = let l = c .before .before .before .before .before in omega
-    (arith, turn l, start l .pre .0 .few)
+mul-wide : tie.Need-mul-wide Inv-loop μ-loop
+mul-wide c = omega (arith, below (turn-of (c .before)))
+
+element-copy-out-wide : tie.Need-element-copy-out-wide Inv-loop μ-loop
+element-copy-out-wide c = below (turn-of (c .before))
+
+wide-requires : tie.Need-wide-requires Inv-loop μ-loop
+wide-requires c κs = search needs
 
 add-if1 : tie.Need-add-if1 Inv-loop μ-loop
 add-if1 c = search needs
@@ -82,24 +114,24 @@ loop-less-2 c = search needs
 
 loop-again-2 : tie.Need-loop-again-2 Inv-loop μ-loop
 loop-again-2 c =
-    let k = c .before .before .before in
-    let l = k .before .before .before .before in
+    let k = c .before .before .before .before in
+    let l = turn-of k in
     sum-slack (k .before .w .given .0 .0 .0) (l .before .loop .inv) (turn l) (goes k)
     (λ e. omega arith)
 
 mul-x : tie.Need-mul-x Inv-loop μ-loop
-mul-x c = omega (arith, inside (c .before .before .before))
+mul-x c = omega (arith, inside (c .before .before .before .before))
 
 shared-slice-read-x : tie.Need-shared-slice-read-x Inv-loop μ-loop
-shared-slice-read-x c = omega (arith, inside (c .before .before .before .before))
+shared-slice-read-x c = omega (arith, inside (c .before .before .before .before .before))
 
 sub-if2 : tie.Need-sub-if2 Inv-loop μ-loop
 sub-if2 c = search needs
 
 returns : tie.Need-returns Inv-loop μ-loop
 returns c =
-    let k = c .before .before .before .before .before in
-    let l = k .before .before .before .before in
+    let k = c .before .before .before .before .before .before in
+    let l = turn-of k in
     sum-passes (k .before .w .given .0 .0 .0) (l .before .loop .inv) (turn l) (goes k) (omega arith) (omega arith)
 
 add-s : tie.Need-add-s Inv-loop μ-loop
@@ -113,8 +145,8 @@ loop-less-3 c = search needs
 
 loop-again-3 : tie.Need-loop-again-3 Inv-loop μ-loop
 loop-again-3 c =
-    let k = c .before .before .before .before .before in
-    let l = k .before .before .before .before in
+    let k = c .before .before .before .before .before .before in
+    let l = turn-of k in
     sum-tight (k .before .w .given .0 .0 .0) (l .before .loop .inv) (turn l) (goes k) (omega arith) (omega arith)
 
 returns-2 : tie.Need-returns-2 Inv-loop μ-loop
@@ -128,6 +160,12 @@ inflow-at-spec =
     μ-loop
     cost-at-requires
     loop-holds
+    mul-neighbour
+    element-copy-out-neighbour
+    mul-neighbour-2
+    element-copy-out-neighbour-2
+    mul-neighbour-3
+    element-copy-out-neighbour-3
     neighbour-requires
     enum-known-w
     enum-told
@@ -135,7 +173,9 @@ inflow-at-spec =
     loop-less
     loop-again
     cost-at-requires-2
-    move-cost-requires
+    mul-wide
+    element-copy-out-wide
+    wide-requires
     add-if1
     add-m-2
     loop-less-2

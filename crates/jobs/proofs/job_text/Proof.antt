@@ -1,0 +1,124 @@
+-- `jobs::job_text` meets its contract: the planner's answer is that of the job, and where it is a route, the route
+-- slice holds a list that can be thinned. Assumes nothing.
+use Rattle.jobs.proofs.Telling.{plans-as, routable, told-refused, told-route}
+use borrow.Author.Needs.{needs}
+use Rattle.jobs.proofs.job_text.Statement.{statement}
+use Rattle.jobs.proofs.job_text.Tie as tie
+
+abbrev plan-of : tie.After-slice-known14 → tie.After-plan
+plan-of c = c .before .before .before .before .before .before .before .before .before .before .before .before
+
+abbrev start : tie.After-plan → tie.Start
+start c =
+    c .before .before .before .before .before .before .before .before .before .before .before .before .before .before
+    .before .before
+
+plan-requires : tie.Need-plan-requires
+plan-requires c κs = search needs
+
+enum-known-answer : tie.Need-enum-known-answer
+enum-known-answer c = search needs
+
+refusal-number-requires : tie.Need-refusal-number-requires
+refusal-number-requires c κs = search needs
+
+put-refused-requires : tie.Need-put-refused-requires
+put-refused-requires c κs = search needs
+
+enum-known-answer-2 : tie.Need-enum-known-answer-2
+enum-known-answer-2 c = search needs
+
+route-text-requires : tie.Need-route-text-requires
+route-text-requires c κs =
+    let a = c .before .before .before .before in
+    let p = plan-of (a .before .before) in
+    routable (start p .args .job) (start p .pre) (plans-as (a .answer2 .given .1) (p .plan .ensures))
+
+same-length : tie.Need-same-length
+same-length c = search needs
+
+same-length-2 : tie.Need-same-length-2
+same-length-2 c = search needs
+
+same-length-3 : tie.Need-same-length-3
+same-length-3 c = search needs
+
+same-length-4 : tie.Need-same-length-4
+same-length-4 c = search needs
+
+same-length-5 : tie.Need-same-length-5
+same-length-5 c = search needs
+
+same-length-6 : tie.Need-same-length-6
+same-length-6 c = search needs
+
+same-length-7 : tie.Need-same-length-7
+same-length-7 c = search needs
+
+returns : tie.Need-returns
+returns c =
+    let t = c .before .before in
+    let a = t .before .before .before .before in
+    let p = plan-of (a .before .before) in
+    told-refused (start p .args .job) (start p .pre) (plans-as (a .answer .given .1) (p .plan .ensures))
+    (t .before .refusal-number .ensures) (t .put-refused .ensures)
+
+same-length-8 : tie.Need-same-length-8
+same-length-8 c = search needs
+
+same-length-9 : tie.Need-same-length-9
+same-length-9 c = search needs
+
+same-length-10 : tie.Need-same-length-10
+same-length-10 c = search needs
+
+same-length-11 : tie.Need-same-length-11
+same-length-11 c = search needs
+
+same-length-12 : tie.Need-same-length-12
+same-length-12 c = search needs
+
+same-length-13 : tie.Need-same-length-13
+same-length-13 c = search needs
+
+same-length-14 : tie.Need-same-length-14
+same-length-14 c = search needs
+
+same-length-15 : tie.Need-same-length-15
+same-length-15 c = search needs
+
+returns-2 : tie.Need-returns-2
+returns-2 c =
+    let t = c .before .before .before .before in
+    let a = t .before .before .before .before .before in
+    let p = plan-of (a .before .before) in
+    told-route (start p .args .job) (start p .pre) (plans-as (a .answer2 .given .1) (p .plan .ensures))
+    (t .route-text .ensures)
+
+pub job-text-spec : {M : Type 1} → statement M
+job-text-spec =
+    tie.close
+    (tie.spec
+    plan-requires
+    enum-known-answer
+    refusal-number-requires
+    put-refused-requires
+    enum-known-answer-2
+    route-text-requires
+    same-length
+    same-length-2
+    same-length-3
+    same-length-4
+    same-length-5
+    same-length-6
+    same-length-7
+    returns
+    same-length-8
+    same-length-9
+    same-length-10
+    same-length-11
+    same-length-12
+    same-length-13
+    same-length-14
+    same-length-15
+    returns-2)

@@ -1,0 +1,146 @@
+// One job of the office program, planned, thinned and written as lines, and one turn of the program.
+ghost use mathlib.Core.Path.{_≡_};
+ghost use Prim.Native.Nat.{_≤_};
+ghost use Rattle.floor.specs.Floor.{floorOf};
+ghost use Rattle.planner.specs.Plan.{slicesOf};
+ghost use Rattle.records.specs.Format.{cellsOf};
+ghost use Rattle.jobs.specs.Contract.{Ready, Told, Routable, RouteTold, CellsIn, bytesOf, TurnTold};
+use planner::Planned;
+use records::lines;
+use records::stream::Cursor;
+use records::stream::JobRecord;
+use records::stream::MapRecord;
+use records::stream::Record;
+
+// What a turn wrote: so many bytes, and where the program goes on, or that they are the last.
+pub enum Turn {
+    More(usize, Cursor),
+    Last(usize),
+}
+
+// The number of bytes that a turn wrote.
+pub fn bytes_of(t: Turn) -> usize
+    ensures { λ r. ⌜ r ≡ bytesOf t ⌝ }
+{
+    match t {
+        Turn::More(n, _) => n,
+        Turn::Last(n) => n,
+    }
+}
+
+// The two lines of a route: thins the first n places of the list `points` and writes what is kept.
+fn route_text(
+    w: usize,
+    h: usize,
+    map: &[u8],
+    number: usize,
+    cost: u32,
+    total: u64,
+    n: usize,
+    points: &[u16],
+    kept: &mut [u16],
+    out: &mut [u8],
+) -> usize
+    requires { ⌜ Routable w h (now map) (now points) n (now kept) (now out) ⌝ }
+    ensures { λ r. ⌜ RouteTold (floorOf w h (now (map .entry))) number cost total n (now (points .entry))
+        (now (kept .entry)) (now (out .entry)) (now (kept .exit)) r (now (out .exit)) ⌝ }
+{
+    let k = thinning::kept_count(thinning::thin(w, h, map, points, kept, n));
+    let next = lines::put_route(out, 0, number, cost, total, n, k);
+    lines::put_at(out, next, points, kept, k)
+}
+
+// The lines of a job, written at the start of `out`; answers how many bytes they are.
+//
+// Lent are the sheet's slices, the working slice and a slice for the kept positions, as the planner and the thinning
+// take them, and room for the lines.
+pub fn job_text(
+    w: usize,
+    h: usize,
+    map: &[u8],
+    job: JobRecord,
+    d: &mut [u32],
+    e: &mut [u32],
+    f: &mut [u64],
+    back: &mut [u64],
+    route: &mut [u16],
+    work: &mut [u32],
+    kept: &mut [u16],
+    out: &mut [u8],
+) -> usize
+    requires { ⌜ Ready w h (now map)
+        (slicesOf (now d) (now e) (now f) (now back) (now route) (now work)) (now kept) (now out) ⌝ }
+    ensures { λ r. ⌜ Told w h (now (map .entry)) job
+        (slicesOf (now (d .entry)) (now (e .entry)) (now (f .entry)) (now (back .entry)) (now (route .entry))
+        (now (work .entry)))
+        (now (kept .entry)) (now (out .entry)) r
+        (slicesOf (now (d .exit)) (now (e .exit)) (now (f .exit)) (now (back .exit)) (now (route .exit))
+        (now (work .exit)))
+        (now (kept .exit)) (now (out .exit)) ⌝ }
+{
+    let number = job.number;
+    let answer = planner::plan(
+        w,
+        h,
+        map,
+        job.neighbourhood,
+        job.start,
+        job.end,
+        d,
+        e,
+        f,
+        back,
+        route,
+        work,
+    );
+    match answer {
+        Planned::Refused(r) => lines::put_refused(out, 0, number, floor::refusal_number(r)),
+        Planned::Found {
+            cost: c,
+            total: t,
+            points: n,
+        } => { route_text(w, h, map, number, c, t, n, route, kept, out) }
+    }
+}
+
+// Copies the cells of the map m from the input into `map`.
+pub fn copy_cells(s: &[u8], m: MapRecord, map: &mut [u8])
+    requires { ⌜ CellsIn (now s) m (now map) ⌝ }
+    ensures { λ _. ⌜ now (map .exit) ≡ cellsOf (now (s .entry)) m ⌝ }
+{
+    let from = m.cells;
+    let to = from + map.len();
+    lines::put_text(map, 0, &s[from..to]);
+}
+
+// One turn of the program past the map: writes the text of what stands at the cursor at the start of `out`. The text of
+// each turn, one after the other, is what the program writes.
+pub fn take_turn(
+    s: &[u8],
+    c: Cursor,
+    w: usize,
+    h: usize,
+    map: &[u8],
+    d: &mut [u32],
+    e: &mut [u32],
+    f: &mut [u64],
+    back: &mut [u64],
+    route: &mut [u16],
+    work: &mut [u32],
+    kept: &mut [u16],
+    out: &mut [u8],
+) -> Turn
+    requires { ⌜ (1 ≤ c .due) × Ready w h (now map)
+        (slicesOf (now d) (now e) (now f) (now back) (now route) (now work)) (now kept) (now out) ⌝ }
+    ensures { λ r. ⌜ TurnTold (now (s .entry)) w h (now (map .entry)) c r (now (out .exit)) ⌝ }
+{
+    match c.step(s) {
+        Record::Job(j, next) => {
+            let n = job_text(w, h, map, j, d, e, f, back, route, work, kept, out);
+            Turn::More(n, next)
+        }
+        Record::Bad(k) => Turn::Last(lines::put_bad(out, 0, k)),
+        Record::End => Turn::Last(0),
+        Record::Map(_, _) => Turn::Last(0),
+    }
+}

@@ -1,0 +1,48 @@
+-- The loop over the jobs: what holds before it, and that each turn moves on.
+--
+--   cells-lent   == the slice lent for the cells of the map fits them
+--   few-cells    == there are at most 31 * 31 of them
+--   jobs-start   == past the map the first job is due, and the cells that were copied are a small floor
+--   first-step   == what the first step found stands at the start of the input
+--   goes-on      == the cursor of a turn that is not the last has moved on within the input
+use Prim.Native.Nat.{ℕ, _*_, _≤_, _<_}
+use mathlib.Core.Path.{_≡_, sym, ap, _∙_, subst}
+use mathlib.Core.List.{List}
+use native.Mathlib.Omega.{arith}
+use native.Mathlib.Nat.{mul-le-mul}
+use lib.ListN.{length}
+use Rattle.records.specs.Format.{recordAt, first, cellsOf}
+use Rattle.records.specs.declared.stream.Cursor.{Cursor}
+use Rattle.records.specs.declared.stream.MapRecord.{MapRecord}
+use Rattle.records.specs.declared.stream.Record.{Record}
+use Rattle.records.specs.declared.stream.Record.the-variants.{Map}
+use Rattle.records.proofs.Moved.{map-step}
+use Rattle.jobs.specs.declared.Turn.{Turn}
+use Rattle.jobs.specs.declared.Turn.the-variants.{More}
+use Rattle.jobs.specs.Contract.{SmallFloor, CellsIn, Moves, GoesOn}
+use Rattle.jobs.proofs.Cells.{map-small}
+
+module _ (s : List ℕ) (m : MapRecord) (c : Cursor) (e : recordAt s first ≡ Map m c) where
+  pub cells-lent : (map : List ℕ) → length map ≡ m .wide * m .high → CellsIn s m map
+  cells-lent map size =
+      let f = map-step s first m c e in
+      record { within = omega (arith, f .cells-end, f .moved .within); size = size }
+
+  pub few-cells : m .wide * m .high ≤ 961
+  few-cells =
+      let f = map-step s first m c e in
+      mul-le-mul {n₂ = 31} {m₂ = 31} (f .wide) (f .high)
+
+  pub jobs-start : (map : List ℕ) → map ≡ cellsOf s m → (1 ≤ c .due) × SmallFloor (m .wide) (m .high) map
+  jobs-start map same =
+      let f = map-step s first m c e in
+      (omega (arith, f .moved .next), rw same (map-small s m c e))
+
+-- The first step.
+pub first-step : (s : List ℕ) {m : MapRecord} {c d : Cursor} {r : Record} → c ≡ first → r ≡ recordAt s c
+    → r ≡ Map m d → recordAt s first ≡ Map m d
+first-step s p q t = ap (recordAt s) (sym p) ∙ sym q ∙ t
+
+pub goes-on : {s : List ℕ} {c d : Cursor} {r : Turn} {n : ℕ} → GoesOn s c r → r ≡ More n d
+    → (c .at < d .at) × (d .at ≤ length s) × (1 ≤ d .due)
+goes-on {s} {c} {d} {r} {n} g e = subst (Moves s c) e (g .moved)
