@@ -3,12 +3,12 @@
 //
 //     NAME: tried T route R none N refused F
 //
-// with the number of sheets tried and how many of them were answered 0, 7 and 9. The file `stdout` was counted by hand: a
-// job has at most one true sheet, so the first sheet alone is accepted, and every other is refused with 9.
+// with the number of sheets tried and how many of them were answered 0, 7 and 9. The file `stdout` was counted by hand:
+// a job has at most one true sheet, so the first sheet alone is accepted, and every other is refused with 9.
 //
 // The sheets tried on a floor are the true one, then for n and for each place of the five slices the old number plus 1,
-// less 1, 0 and all ones, at the place's own width and left out where that is the old number, then 8 without sense. So T
-// is 1 + 8, and for each number of the true sheet 4, or 3 where it is 0 or all ones.
+// less 1, 0 and all ones, at the place's own width and left out where that is the old number, then 8 without sense. So
+// T is 1 + 8, and for each number of the true sheet 4, or 3 where it is 0 or all ones.
 //
 // The last line has the answers to jobs of a bad shape, 1 to 6.
 ghost use Prim.Native.Nat.{_<_, _≤_};
@@ -127,7 +127,17 @@ fn answer_to(j: Task, map: &[u8], list: &[u64]) -> u8 {
     let mut f = [0u64; 9];
     let mut back = [0u64; 9];
     let mut route = [0u16; 9];
-    answer_by(j, map, list, v, &mut d[..v], &mut e[..v], &mut f[..v], &mut back[..v], &mut route[..v])
+    answer_by(
+        j,
+        map,
+        list,
+        v,
+        &mut d[..v],
+        &mut e[..v],
+        &mut f[..v],
+        &mut back[..v],
+        &mut route[..v],
+    )
 }
 
 // ---- the sheets that are tried
@@ -294,108 +304,212 @@ fn job(w: usize, h: usize, v: usize, nb: usize, a: usize, b: usize, n: usize) ->
     }
 }
 
+// Copies the numbers of s into the list, from place `from` on.
+fn put(list: &mut [u64], from: usize, s: &[u64]) {
+    for i in 0..s.len() {
+        let p = std::num::wrapping_add_usize(from, i);
+        if list.len() <= p {
+            continue;
+        }
+        list[p] = s[i];
+    }
+}
+
+// The line of a floor whose true sheet has these numbers.
+fn sheet(
+    name: &[u8],
+    j: Task,
+    map: &[u8],
+    d: &[u64],
+    e: &[u64],
+    f: &[u64],
+    back: &[u64],
+    route: &[u64],
+    list: &mut [u64],
+) {
+    let v = j.v % 10;
+    put(list, 0, d);
+    put(list, v, e);
+    put(list, 2 * v, f);
+    put(list, 3 * v, back);
+    put(list, 4 * v, route);
+    line(name, j, map, list);
+}
+
 // One open cell, by neighbourhood 8, from 0 to 3.
 fn floor_a() {
     let map = [0u8];
-    let mut list = [
-        0u64, 408, 408, 577,
-        577, 408, 408, 0,
-        1, 0, 0, 1,
-        1, 0, 0, 1,
-        0, 3, 0, 0,
-    ];
-    line(b"a", job(1, 1, 4, 8, 0, 3, 2), &map, &mut list);
+    let d = [0u64, 408, 408, 577];
+    let e = [577u64, 408, 408, 0];
+    let f = [1u64, 0, 0, 1];
+    let back = [1u64, 0, 0, 1];
+    let route = [0u64, 3, 0, 0];
+    let mut list = [0u64; 20];
+    sheet(
+        b"a",
+        job(1, 1, 4, 8, 0, 3, 2),
+        &map,
+        &d,
+        &e,
+        &f,
+        &back,
+        &route,
+        &mut list,
+    );
 }
 
 // The same by neighbourhood 4.
 fn floor_b() {
     let map = [0u8];
-    let mut list = [
-        0u64, 408, 408, 816,
-        816, 408, 408, 0,
-        1, 1, 1, 2,
-        2, 1, 1, 1,
-        0, 1, 3, 0,
-    ];
-    line(b"b", job(1, 1, 4, 4, 0, 3, 3), &map, &mut list);
+    let d = [0u64, 408, 408, 816];
+    let e = [816u64, 408, 408, 0];
+    let f = [1u64, 1, 1, 2];
+    let back = [2u64, 1, 1, 1];
+    let route = [0u64, 1, 3, 0];
+    let mut list = [0u64; 20];
+    sheet(
+        b"b",
+        job(1, 1, 4, 4, 0, 3, 3),
+        &map,
+        &d,
+        &e,
+        &f,
+        &back,
+        &route,
+        &mut list,
+    );
 }
 
 // One blocked cell, from 0 to 3: no move is open.
 fn floor_c() {
     let map = [1u8];
-    let mut list = [
-        0u64, 4294967295, 4294967295, 4294967295,
-        0, 0, 0, 0,
-        0, 0, 0, 0,
-        0, 0, 0, 0,
-        0, 0, 0, 0,
-    ];
-    line(b"c", job(1, 1, 4, 8, 0, 3, 0), &map, &mut list);
+    let d = [0u64, 4294967295, 4294967295, 4294967295];
+    let e = [0u64; 4];
+    let f = [0u64; 4];
+    let back = [0u64; 4];
+    let route = [0u64; 4];
+    let mut list = [0u64; 20];
+    sheet(
+        b"c",
+        job(1, 1, 4, 8, 0, 3, 0),
+        &map,
+        &d,
+        &e,
+        &f,
+        &back,
+        &route,
+        &mut list,
+    );
 }
 
 // The same from 0 to 0.
 fn floor_d() {
     let map = [1u8];
-    let mut list = [
-        0u64, 4294967295, 4294967295, 4294967295,
-        0, 4294967295, 4294967295, 4294967295,
-        1, 0, 0, 0,
-        1, 0, 0, 0,
-        0, 0, 0, 0,
-    ];
-    line(b"d", job(1, 1, 4, 8, 0, 0, 1), &map, &mut list);
+    let d = [0u64, 4294967295, 4294967295, 4294967295];
+    let e = [0u64, 4294967295, 4294967295, 4294967295];
+    let f = [1u64, 0, 0, 0];
+    let back = [1u64, 0, 0, 0];
+    let route = [0u64; 4];
+    let mut list = [0u64; 20];
+    sheet(
+        b"d",
+        job(1, 1, 4, 8, 0, 0, 1),
+        &map,
+        &d,
+        &e,
+        &f,
+        &back,
+        &route,
+        &mut list,
+    );
 }
 
 // Two open cells, from 0 to 5.
 fn floor_e() {
     let map = [0u8, 0];
-    let mut list = [
-        0u64, 408, 816, 408, 577, 985,
-        985, 577, 408, 816, 408, 0,
-        1, 1, 0, 0, 1, 2,
-        2, 1, 0, 0, 1, 1,
-        0, 1, 5, 0, 0, 0,
-    ];
-    line(b"e", job(2, 1, 6, 8, 0, 5, 3), &map, &mut list);
+    let d = [0u64, 408, 816, 408, 577, 985];
+    let e = [985u64, 577, 408, 816, 408, 0];
+    let f = [1u64, 1, 0, 0, 1, 2];
+    let back = [2u64, 1, 0, 0, 1, 1];
+    let route = [0u64, 1, 5, 0, 0, 0];
+    let mut list = [0u64; 30];
+    sheet(
+        b"e",
+        job(2, 1, 6, 8, 0, 5, 3),
+        &map,
+        &d,
+        &e,
+        &f,
+        &back,
+        &route,
+        &mut list,
+    );
 }
 
 // The same with the second cell blocked.
 fn floor_f() {
     let map = [0u8, 1];
-    let mut list = [
-        0u64, 408, 4294967295, 408, 577, 4294967295,
-        0, 0, 0, 0, 0, 0,
-        0, 0, 0, 0, 0, 0,
-        0, 0, 0, 0, 0, 0,
-        0, 0, 0, 0, 0, 0,
-    ];
-    line(b"f", job(2, 1, 6, 8, 0, 5, 0), &map, &mut list);
+    let d = [0u64, 408, 4294967295, 408, 577, 4294967295];
+    let e = [0u64; 6];
+    let f = [0u64; 6];
+    let back = [0u64; 6];
+    let route = [0u64; 6];
+    let mut list = [0u64; 30];
+    sheet(
+        b"f",
+        job(2, 1, 6, 8, 0, 5, 0),
+        &map,
+        &d,
+        &e,
+        &f,
+        &back,
+        &route,
+        &mut list,
+    );
 }
 
 // Four cells, the first and the last blocked, from 2 to 6 between them.
 fn floor_g() {
     let map = [1u8, 0, 0, 1];
-    let mut list = [
-        4294967295u64, 408, 0, 985, 577, 408, 1154, 985, 4294967295,
-        4294967295, 985, 1154, 408, 577, 985, 0, 408, 4294967295,
-        0, 0, 1, 0, 1, 0, 1, 0, 0,
-        0, 0, 1, 0, 1, 0, 1, 0, 0,
-        2, 4, 6, 0, 0, 0, 0, 0, 0,
-    ];
-    line(b"g", job(2, 2, 9, 8, 2, 6, 3), &map, &mut list);
+    let d = [4294967295u64, 408, 0, 985, 577, 408, 1154, 985, 4294967295];
+    let e = [4294967295u64, 985, 1154, 408, 577, 985, 0, 408, 4294967295];
+    let f = [0u64, 0, 1, 0, 1, 0, 1, 0, 0];
+    let back = [0u64, 0, 1, 0, 1, 0, 1, 0, 0];
+    let route = [2u64, 4, 6, 0, 0, 0, 0, 0, 0];
+    let mut list = [0u64; 45];
+    sheet(
+        b"g",
+        job(2, 2, 9, 8, 2, 6, 3),
+        &map,
+        &d,
+        &e,
+        &f,
+        &back,
+        &route,
+        &mut list,
+    );
 }
 
 // Four open cells, by neighbourhood 4, from 0 to 8.
 fn floor_h() {
     let map = [0u8; 4];
-    let mut list = [
-        0u64, 408, 816, 408, 816, 1224, 816, 1224, 1632,
-        1632, 1224, 816, 1224, 816, 408, 816, 408, 0,
-        1, 1, 1, 1, 2, 3, 1, 3, 6,
-        6, 3, 1, 3, 2, 1, 1, 1, 1,
-        0, 1, 4, 5, 8, 0, 0, 0, 0,
-    ];
-    line(b"h", job(2, 2, 9, 4, 0, 8, 5), &map, &mut list);
+    let d = [0u64, 408, 816, 408, 816, 1224, 816, 1224, 1632];
+    let e = [1632u64, 1224, 816, 1224, 816, 408, 816, 408, 0];
+    let f = [1u64, 1, 1, 1, 2, 3, 1, 3, 6];
+    let back = [6u64, 3, 1, 3, 2, 1, 1, 1, 1];
+    let route = [0u64, 1, 4, 5, 8, 0, 0, 0, 0];
+    let mut list = [0u64; 45];
+    sheet(
+        b"h",
+        job(2, 2, 9, 4, 0, 8, 5),
+        &map,
+        &d,
+        &e,
+        &f,
+        &back,
+        &route,
+        &mut list,
+    );
 }
 
 // The answer to a sheet of 0, after a space.

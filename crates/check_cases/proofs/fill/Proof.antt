@@ -1,12 +1,10 @@
+-- `check_cases::fill` is safe and ends: the list keeps its length. Assumes nothing.
 use Prim.Native.Nat.{_-_}
 use mathlib.Core.Path.{_≡_}
 use lib.ListN.{length}
 use borrow.Author.Needs.{needs}
 use Rattle.check_cases.proofs.fill.Statement.{statement}
 use Rattle.check_cases.proofs.fill.Tie as tie
-use Rattle.check_cases.proofs.fill.Reads as reads
-use Rattle.check_cases.proofs.fill.Lts as lts
-use Rattle.check_cases.proofs.nonsense.Reads as nonsense-reads
 
 abbrev Inv-loop : tie.InvT-loop
 Inv-loop list₀ k p₀ p-end list p = (p-end ≡ length list₀) × (length list ≡ length list₀)
@@ -14,39 +12,30 @@ Inv-loop list₀ k p₀ p-end list p = (p-end ≡ length list₀) × (length lis
 abbrev μ-loop : tie.MeasureT-loop
 μ-loop list₀ k p₀ p-end list p = length list₀ - p
 
--- src/main.rt:240:5
 loop-holds : tie.Need-loop-holds Inv-loop μ-loop
 loop-holds c = search needs
 
--- src/main.rt:241:19
 nonsense-requires : tie.Need-nonsense-requires Inv-loop μ-loop
 nonsense-requires c κs = search needs
 
--- src/main.rt:241:9
 mul-list : tie.Need-mul-list Inv-loop μ-loop
 mul-list c = search needs
 
--- src/main.rt:241:9
 slice-write-list : tie.Need-slice-write-list Inv-loop μ-loop
 slice-write-list c = search needs
 
--- src/main.rt:240:9
 add-p : tie.Need-add-p Inv-loop μ-loop
 add-p c = search needs
 
--- src/main.rt:240:5
 loop-less : tie.Need-loop-less Inv-loop μ-loop
 loop-less c = search needs
 
--- src/main.rt:240:5
 loop-again : tie.Need-loop-again Inv-loop μ-loop
 loop-again c = search needs
 
--- src/main.rt:239:1
 same-length : tie.Need-same-length Inv-loop μ-loop
 same-length c = search needs
 
--- src/main.rt:239:1
 returns : tie.Need-returns Inv-loop μ-loop
 returns c = search needs
 

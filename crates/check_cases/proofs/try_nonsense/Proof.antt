@@ -1,62 +1,49 @@
+-- `check_cases::try_nonsense` is safe and ends: the loop counts to 8, and the list keeps its length. Assumes nothing.
+use Prim.Native.Nat.{_-_, _≤_}
+use mathlib.Core.Path.{_≡_}
+use lib.ListN.{length}
+use borrow.Author.Needs.{needs}
 use Rattle.check_cases.proofs.try_nonsense.Statement.{statement}
 use Rattle.check_cases.proofs.try_nonsense.Tie as tie
-use Rattle.check_cases.proofs.try_nonsense.Reads as reads
-use Rattle.check_cases.proofs.try_nonsense.Lts as lts
-use Rattle.check_cases.proofs.answer_to.Reads as answer-to-reads
-use Rattle.check_cases.proofs.counted.Reads as counted-reads
-use Rattle.check_cases.proofs.fill.Reads as fill-reads
-use Rattle.check_cases.proofs.nonsense.Reads as nonsense-reads
-use Rattle.check_cases.proofs.with_count.Reads as with-count-reads
 
 abbrev Inv-loop : tie.InvT-loop
-Inv-loop j map list₀ s₀ k₀ list s k = ?
+Inv-loop j map list₀ s₀ k₀ list s k = (k ≤ 8) × (length list ≡ length list₀)
 
 abbrev μ-loop : tie.MeasureT-loop
-μ-loop j map list₀ s₀ k₀ list s k = ?
+μ-loop j map list₀ s₀ k₀ list s k = 8 - k
 
--- src/main.rt:248:5
 loop-holds : tie.Need-loop-holds Inv-loop μ-loop
-loop-holds c = ?
+loop-holds c = search needs
 
--- src/main.rt:249:9
 fill-requires : tie.Need-fill-requires Inv-loop μ-loop
-fill-requires c κs = ?
+fill-requires c κs = search needs
 
--- src/main.rt:250:48
 nonsense-requires : tie.Need-nonsense-requires Inv-loop μ-loop
-nonsense-requires c κs = ?
+nonsense-requires c κs = search needs
 
--- src/main.rt:250:34
 with-count-requires : tie.Need-with-count-requires Inv-loop μ-loop
-with-count-requires c κs = ?
+with-count-requires c κs = search needs
 
--- src/main.rt:250:24
 answer-to-requires : tie.Need-answer-to-requires Inv-loop μ-loop
-answer-to-requires c κs = ?
+answer-to-requires c κs = search needs
 
--- src/main.rt:250:9
 counted-requires : tie.Need-counted-requires Inv-loop μ-loop
-counted-requires c κs = ?
+counted-requires c κs = search needs
 
--- src/main.rt:248:9
 add-k : tie.Need-add-k Inv-loop μ-loop
-add-k c = ?
+add-k c = search needs
 
--- src/main.rt:248:5
 loop-less : tie.Need-loop-less Inv-loop μ-loop
-loop-less c = ?
+loop-less c = search needs
 
--- src/main.rt:248:5
 loop-again : tie.Need-loop-again Inv-loop μ-loop
-loop-again c = ?
+loop-again c = search needs
 
--- src/main.rt:246:1
 same-length : tie.Need-same-length Inv-loop μ-loop
-same-length c = ?
+same-length c = search needs
 
--- src/main.rt:246:1
 returns : tie.Need-returns Inv-loop μ-loop
-returns c = ?
+returns c = search needs
 
 pub try-nonsense-spec : {M : Type 1} → statement M
 try-nonsense-spec =

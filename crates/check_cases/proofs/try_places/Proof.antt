@@ -1,0 +1,48 @@
+-- `check_cases::try_places` is safe and ends: the list keeps its length. Assumes nothing.
+use Prim.Native.Nat.{_-_}
+use mathlib.Core.Path.{_≡_}
+use lib.ListN.{length}
+use borrow.Author.Needs.{needs}
+use Rattle.check_cases.proofs.try_places.Statement.{statement}
+use Rattle.check_cases.proofs.try_places.Tie as tie
+
+abbrev Inv-loop : tie.InvT-loop
+Inv-loop j map list₀ s₀ p₀ p-end list s p = (p-end ≡ length list₀) × (length list ≡ length list₀)
+
+abbrev μ-loop : tie.MeasureT-loop
+μ-loop j map list₀ s₀ p₀ p-end list s p = length list₀ - p
+
+loop-holds : tie.Need-loop-holds Inv-loop μ-loop
+loop-holds c = search needs
+
+try-place-requires : tie.Need-try-place-requires Inv-loop μ-loop
+try-place-requires c κs = search needs
+
+add-p : tie.Need-add-p Inv-loop μ-loop
+add-p c = search needs
+
+loop-less : tie.Need-loop-less Inv-loop μ-loop
+loop-less c = search needs
+
+loop-again : tie.Need-loop-again Inv-loop μ-loop
+loop-again c = search needs
+
+same-length : tie.Need-same-length Inv-loop μ-loop
+same-length c = search needs
+
+returns : tie.Need-returns Inv-loop μ-loop
+returns c = search needs
+
+pub try-places-spec : {M : Type 1} → statement M
+try-places-spec =
+    tie.close
+    (tie.spec
+    Inv-loop
+    μ-loop
+    loop-holds
+    try-place-requires
+    add-p
+    loop-less
+    loop-again
+    same-length
+    returns)
