@@ -1,7 +1,7 @@
 //! Holds the programs to each other: same answers, same slices.
 
 use crate::floors::{Case, Kind, Random, KINDS};
-use crate::lurfanzi::{Floor, Job, Plan, Refusal, Verdict};
+use crate::lurfanzi::{Floor, Job, Plan, Refusal, Verdict, UNREACHABLE};
 use crate::programs::{Program, Slices, PROGRAMS, TEXTBOOK};
 
 /// What the textbook program makes of a job.
@@ -15,6 +15,11 @@ struct Truth {
 impl Truth {
     fn points(&self) -> usize {
         self.planned.map_or(0, |plan| plan.points)
+    }
+
+    /// How many vertices the start reaches.
+    fn reached(&self) -> usize {
+        self.slices.d.iter().filter(|&&cost| cost != UNREACHABLE).count()
     }
 }
 
@@ -86,6 +91,13 @@ fn agree_on_sight(program: &Program, floor: Floor, random: &mut Random) {
     assert_eq!(kept, wanted, "thin: {}", program.name);
 }
 
+fn all_agree_on(floor: Floor, job: Job, truth: &Truth, random: &mut Random) {
+    for program in &PROGRAMS {
+        agree_on(program, floor, job, truth, random);
+        agree_on_sight(program, floor, random);
+    }
+}
+
 /// Sight as its definition has it, cell by cell.
 fn sees_by_definition(floor: Floor, a: u32, b: u32) -> bool {
     let (width, height) = (floor.width as i32, floor.height as i32);
@@ -119,20 +131,19 @@ fn agree_on_random_floor(random: &mut Random) {
     let job = Job { neighbourhood: [4, 8][random.below(2)], a, b };
     assert_eq!((TEXTBOOK.sight)(floor, a, b), Ok(sees_by_definition(floor, a, b)), "sight: textbook");
     let truth = truth_of(floor, job);
-    for program in &PROGRAMS {
-        agree_on(program, floor, job, &truth, random);
-        agree_on_sight(program, floor, random);
-    }
+    all_agree_on(floor, job, &truth, random);
 }
 
 pub fn agree_on_case(case: &Case) {
     let mut random = Random::new(1);
     let truth = truth_of(case.floor(), case.job);
     assert!(truth.planned.is_ok(), "the job has a route");
-    for program in &PROGRAMS {
-        agree_on(program, case.floor(), case.job, &truth, &mut random);
-        agree_on_sight(program, case.floor(), &mut random);
-    }
+    all_agree_on(case.floor(), case.job, &truth, &mut random);
+    let shut = case.without_route();
+    let shut_truth = truth_of(shut.floor(), shut.job);
+    assert_eq!(shut_truth.planned, Err(Refusal::NoRoute));
+    assert!(shut_truth.reached() + 4 >= truth.reached(), "one search of the whole floor");
+    all_agree_on(shut.floor(), shut.job, &shut_truth, &mut random);
 }
 
 /// The programs agree on the benchmark's smaller floors, on jobs with too many routes, and on random floors.
@@ -148,7 +159,5 @@ pub fn agree(floors: usize) {
     let corners = Job { neighbourhood: 4, a: 0, b: 16_383 };
     let truth = truth_of(open.floor(), corners);
     assert_eq!(truth.planned, Err(Refusal::TooMany));
-    for program in &PROGRAMS {
-        agree_on(program, open.floor(), corners, &truth, &mut random);
-    }
+    all_agree_on(open.floor(), corners, &truth, &mut random);
 }

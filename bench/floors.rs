@@ -64,7 +64,7 @@ fn serpentine(side: usize, i: usize, j: usize) -> bool {
     j % 2 == 1 && i != if j % 4 == 1 { side - 1 } else { 0 }
 }
 
-/// A job on a square floor, whose answer is 0.
+/// A job on a square floor.
 pub struct Case {
     pub side: usize,
     pub map: Vec<u8>,
@@ -72,8 +72,8 @@ pub struct Case {
 }
 
 impl Case {
-    /// The start is in the middle of the left side. The other end is the dearest vertex that the start reaches by at most
-    /// 2^64 - 1 cheapest routes.
+    /// A job with a route. The start is in the middle of the left side. The other end is the dearest vertex that the start
+    /// reaches by at most 2^64 - 1 cheapest routes.
     pub fn new(kind: Kind, side: usize, neighbourhood: u32) -> Case {
         (1..).find_map(|seed| Case::from_seed(kind, side, neighbourhood, seed)).expect("a floor of which half is joined")
     }
@@ -93,6 +93,15 @@ impl Case {
         let fits = |&v: &usize| reached[v].cost != UNREACHABLE && reached[v].count.is_some();
         let b = (0..reached.len()).filter(fits).max_by_key(|&v| (reached[v].cost, reached[v].count))?;
         Some(Case { side, map, job: Job { neighbourhood, a, b: b as u32 } })
+    }
+
+    /// The same floor with its last cell blocked, and the outer corner of that cell as the other end: no move from it is
+    /// open, so that the job has no route.
+    pub fn without_route(&self) -> Case {
+        let mut map = self.map.clone();
+        map[self.side * self.side - 1] = 1;
+        let b = (self.side + 1) * (self.side + 1) - 1;
+        Case { side: self.side, map, job: Job { b: b as u32, ..self.job } }
     }
 
     pub fn floor(&self) -> Floor<'_> {

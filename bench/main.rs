@@ -1,4 +1,4 @@
-//! The benchmark: the library against a textbook program and a hand-tuned one, each doing the same jobs.
+//! The benchmark: the library against a textbook program and two hand-written for speed, each doing the same jobs.
 //!
 //!     bench agree FLOORS
 //!     bench table ROUNDS
@@ -11,6 +11,7 @@ mod lurfanzi;
 mod agree;
 mod floors;
 mod moves;
+mod plain;
 mod programs;
 mod shape;
 mod table;

@@ -1,5 +1,5 @@
 //! The open moves of a vertex as a mask, a bit for each move in move order, from the four cells at the vertex; and what the
-//! hand-tuned planner and checker both do with it.
+//! hand-written planners and the tuned checker do with it.
 
 use crate::lurfanzi::Floor;
 

@@ -2,7 +2,7 @@
 
 use crate::floors::Case;
 use crate::lurfanzi::{self, Floor, Job, Plan, Refusal, Sheet, SheetMut, Verdict};
-use crate::{textbook, tuned, tuned_check, tuned_sight};
+use crate::{plain, textbook, tuned, tuned_check, tuned_sight};
 use std::hint::black_box;
 
 /// A program: the operations of the header.
@@ -38,28 +38,48 @@ pub const TUNED: Program = Program {
     sight: tuned_sight::sight,
 };
 
-pub const PROGRAMS: [Program; 3] = [LIBRARY, TEXTBOOK, TUNED];
+/// A planner of its own; the rest is the tuned program's.
+pub const PLAIN: Program = Program { name: "bucket queue", plan: plain::plan, ..TUNED };
+
+pub const PROGRAMS: [Program; 4] = [LIBRARY, TEXTBOOK, TUNED, PLAIN];
 
 #[derive(Clone, Copy, Debug, PartialEq, Eq)]
 pub enum Operation {
     Plan,
+    /// The plan of a job without a route, which is one search.
+    Costs,
     Check,
     Thin,
     ShortSight,
     LongSight,
 }
 
-pub const OPERATIONS: [Operation; 5] =
-    [Operation::Plan, Operation::Check, Operation::Thin, Operation::ShortSight, Operation::LongSight];
+pub const OPERATIONS: [Operation; 6] = [
+    Operation::Plan,
+    Operation::Costs,
+    Operation::Check,
+    Operation::Thin,
+    Operation::ShortSight,
+    Operation::LongSight,
+];
 
 impl Operation {
     pub fn name(self) -> &'static str {
         match self {
             Operation::Plan => "plan",
+            Operation::Costs => "costs",
             Operation::Check => "check",
             Operation::Thin => "thin",
             Operation::ShortSight => "short-sight",
             Operation::LongSight => "long-sight",
+        }
+    }
+
+    /// The programs to measure: those with an operation of their own.
+    pub fn programs(self) -> &'static [Program] {
+        match self {
+            Operation::Plan | Operation::Costs => &PROGRAMS,
+            _ => &PROGRAMS[..3],
         }
     }
 
@@ -103,9 +123,10 @@ impl Slices {
     }
 }
 
-/// A job, its true sheet, and memory for the operations. The memory is not cleared between runs.
+/// A job, its twin without a route, its true sheet, and memory for the operations. The memory is not cleared between runs.
 pub struct Bench<'a> {
     pub case: &'a Case,
+    without_route: Case,
     pub truth: Slices,
     pub points: usize,
     segments: [Vec<(u32, u32)>; 2],
@@ -118,8 +139,9 @@ impl<'a> Bench<'a> {
         let vertices = case.floor().vertices();
         let mut truth = Slices::new(vertices, 0);
         let points = truth.plan(&TEXTBOOK, case.floor(), case.job).map_or(0, |plan| plan.points);
-        let segments = [case.segments(false), case.segments(true)];
-        Bench { case, truth, points, segments, slices: Slices::new(vertices, 0xFF), out: vec![0xFFFF; vertices] }
+        let (without_route, segments) = (case.without_route(), [case.segments(false), case.segments(true)]);
+        let (slices, out) = (Slices::new(vertices, 0xFF), vec![0xFFFF; vertices]);
+        Bench { case, without_route, truth, points, segments, slices, out }
     }
 
     /// How many operations a run has.
@@ -132,9 +154,10 @@ impl<'a> Bench<'a> {
     }
 
     pub fn run(&mut self, program: &Program, operation: Operation) {
-        let (floor, job) = black_box((self.case.floor(), self.case.job));
+        let case = if operation == Operation::Costs { &self.without_route } else { self.case };
+        let (floor, job) = black_box((case.floor(), case.job));
         match operation {
-            Operation::Plan => {
+            Operation::Plan | Operation::Costs => {
                 _ = black_box(self.slices.plan(program, floor, job));
                 black_box(&self.slices.route);
             }

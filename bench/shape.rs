@@ -1,4 +1,4 @@
-//! Refusals 1 to 6, for both baselines.
+//! Refusals 1 to 6, for all baselines.
 
 use crate::lurfanzi::{Floor, Job, Refusal, Sheet};
 

@@ -2,36 +2,38 @@
 
 use crate::agree;
 use crate::floors::{Case, Kind, KINDS};
-use crate::programs::{Bench, Operation, OPERATIONS, PROGRAMS};
+use crate::programs::{Bench, Operation, Program, OPERATIONS};
 use std::time::Instant;
 
 const SIDES: [usize; 4] = [16, 32, 64, 127];
 
-/// Nanoseconds of one operation, for each program in turn.
-type Times = [f64; PROGRAMS.len()];
+/// Nanoseconds of one operation, for each of its programs in turn.
+type Times = Vec<f64>;
 
 /// A timed stretch lasts at least this long, so that the clock's own steps do not count.
 const STRETCH: f64 = 20_000.0;
 
-fn timed(bench: &mut Bench, program: usize, operation: Operation, runs: usize) -> f64 {
+fn timed(bench: &mut Bench, program: &Program, operation: Operation, runs: usize) -> f64 {
     let start = Instant::now();
     for _ in 0..runs {
-        bench.run(&PROGRAMS[program], operation);
+        bench.run(program, operation);
     }
     start.elapsed().as_nanos() as f64 / (runs * bench.count(operation)) as f64
 }
 
 /// The least of many rounds; a round has each program once, the first place going round.
 fn measure(bench: &mut Bench, operation: Operation, rounds: usize) -> Times {
-    let mut least = [f64::INFINITY; PROGRAMS.len()];
-    let runs: [usize; PROGRAMS.len()] = std::array::from_fn(|program| {
+    let programs = operation.programs();
+    let mut runs_to_fill = |program: &Program| {
         let one = timed(bench, program, operation, 1).min(timed(bench, program, operation, 1));
         (STRETCH / (one * bench.count(operation) as f64)).ceil().max(1.0) as usize
-    });
+    };
+    let runs: Vec<usize> = programs.iter().map(&mut runs_to_fill).collect();
+    let mut least = vec![f64::INFINITY; programs.len()];
     for round in 0..rounds {
-        for place in 0..PROGRAMS.len() {
-            let program = (round + place) % PROGRAMS.len();
-            least[program] = least[program].min(timed(bench, program, operation, runs[program]));
+        for place in 0..programs.len() {
+            let k = (round + place) % programs.len();
+            least[k] = least[k].min(timed(bench, &programs[k], operation, runs[k]));
         }
     }
     least
@@ -68,6 +70,7 @@ fn rows(rounds: usize) -> Vec<Row> {
 fn title(operation: Operation) -> &'static str {
     match operation {
         Operation::Plan => "Whole plan",
+        Operation::Costs => "Costs from one end (a job with no route)",
         Operation::Check => "Checker, on the true sheet",
         Operation::Thin => "Thinning of the central route",
         Operation::ShortSight => "Sight question, at most 8 cells",
@@ -79,30 +82,46 @@ fn cells(values: impl Iterator<Item = f64>) -> String {
     values.map(|value| format!(" {value:.2} |")).collect()
 }
 
-fn print_row(row: &Row) {
+fn print_row(row: &Row, heap_search: Option<f64>) {
     let name = match row.operation.has_neighbourhood() {
         true => format!("{} {}", row.kind.name(), row.neighbourhood),
         false => row.kind.name().to_string(),
     };
+    let (smallest, largest) = (&row.by_side[0], &row.by_side[SIDES.len() - 1]);
     let ratios = |other: usize| cells(row.by_side.iter().map(move |times| times[0] / times[other]));
-    let largest = row.by_side[SIDES.len() - 1];
+    let all_ratios: String = (1..largest.len()).map(ratios).collect();
+    let to_heap_search = cells(heap_search.iter().map(|time| largest[0] / time));
     let times = cells(largest.iter().map(|time| time / 1000.0));
-    let growth: String = (0..PROGRAMS.len()).map(|p| format!(" {:.0} |", largest[p] / row.by_side[0][p])).collect();
-    println!("| {name} |{}{}{times}{growth}", ratios(1), ratios(2));
+    let growth: String = largest.iter().zip(smallest).map(|(most, least)| format!(" {:.0} |", most / least)).collect();
+    println!("| {name} |{all_ratios}{to_heap_search}{times}{growth}");
+}
+
+/// The textbook program's time for a plan's costs from one end, at 127 cells a side, among all rows.
+fn heap_search(rows: &[Row], plan: &Row) -> Option<f64> {
+    let same_floor = |row: &&Row| (row.kind, row.neighbourhood) == (plan.kind, plan.neighbourhood);
+    let costs = rows.iter().filter(same_floor).find(|row| row.operation == Operation::Costs)?;
+    (plan.operation == Operation::Plan).then(|| costs.by_side[SIDES.len() - 1][1])
+}
+
+fn print_heading(operation: Operation) {
+    let names = || operation.programs().iter().map(|program| program.name);
+    let mut columns = vec!["floor".to_string()];
+    columns.extend(names().skip(1).flat_map(|name| SIDES.map(|side| format!("to {name}, {side}"))));
+    if operation == Operation::Plan {
+        columns.push("to one heap search, 127".to_string());
+    }
+    columns.extend(names().map(|name| format!("{name} μs, 127")));
+    columns.extend(names().map(|name| format!("{name} growth")));
+    println!("### {}\n\n| {} |\n|{}", title(operation), columns.join(" | "), "---|".repeat(columns.len()));
 }
 
 pub fn print(rounds: usize) {
     let rows = rows(rounds);
     for operation in OPERATIONS {
-        println!("### {}\n", title(operation));
-        print!("| floor |");
-        for baseline in ["textbook", "tuned"] {
-            SIDES.iter().for_each(|side| print!(" to {baseline}, {side} |"));
+        print_heading(operation);
+        for row in rows.iter().filter(|row| row.operation == operation) {
+            print_row(row, heap_search(&rows, row));
         }
-        PROGRAMS.iter().for_each(|program| print!(" {} μs, 127 |", program.name));
-        PROGRAMS.iter().for_each(|program| print!(" {} growth |", program.name));
-        println!("\n|---|{}", "---|".repeat(2 * SIDES.len() + 2 * PROGRAMS.len()));
-        rows.iter().filter(|row| row.operation == operation).for_each(print_row);
         println!();
     }
 }

@@ -147,13 +147,21 @@ fn search4(memory: &mut Memory, columns: usize, from: usize, d: &mut [u32]) -> u
 }
 
 pub fn plan(floor: Floor, job: Job, sheet: &mut SheetMut, work: &mut [u32]) -> Result<Plan, Refusal> {
+    plan_by(fill, floor, job, sheet, work)
+}
+
+/// How costs, counts and route are made on a floor of good shape, where f and `back` are 0.
+pub type Fill = fn(Floor, Job, &mut SheetMut, &mut [u32]) -> Result<Plan, Refusal>;
+
+/// The refusals for the shape, a filling, and the clearing of what it leaves.
+pub fn plan_by(fill: Fill, floor: Floor, job: Job, sheet: &mut SheetMut, work: &mut [u32]) -> Result<Plan, Refusal> {
     shape::of_job(floor, job, sheet.read(0))?;
     if work.len() != 4 * sheet.d.len() {
         return Err(Refusal::BadSliceLength);
     }
     sheet.f.fill(0);
     sheet.back.fill(0);
-    let planned = fill(floor, job, sheet, Memory::of(work, floor.vertices()));
+    let planned = fill(floor, job, sheet, work);
     match planned {
         Ok(plan) => sheet.route[plan.points..].fill(0),
         Err(_) => sheet.route.fill(0),
@@ -167,7 +175,7 @@ fn counts<const STEP: usize>(
     way: &[u16], masks: &[u8], offsets: &[isize; 8], a: usize, b: usize, sheet: &mut SheetMut,
 ) -> bool {
     sheet.f[a] = 1;
-    for v in way.iter().map(|&v| usize::from(v)).filter(|&v| v != a) {
+    for v in way.iter().rev().map(|&v| usize::from(v)).filter(|&v| v != a) {
         let (count, over) = sum::<STEP>(v, masks[v], offsets, sheet.d, sheet.f);
         if over {
             return false;
@@ -176,47 +184,21 @@ fn counts<const STEP: usize>(
     }
     // No count to B passes the total, which fits.
     sheet.back[b] = 1;
-    for v in way.iter().rev().map(|&v| usize::from(v)).filter(|&v| v != b) {
+    for v in way.iter().map(|&v| usize::from(v)).filter(|&v| v != b) {
         sheet.back[v] = sum::<STEP>(v, masks[v], offsets, sheet.e, sheet.back).0;
     }
     true
 }
 
-fn fill(floor: Floor, job: Job, sheet: &mut SheetMut, mut memory: Memory) -> Result<Plan, Refusal> {
-    let (a, b, columns) = (job.a as usize, job.b as usize, floor.width as usize + 1);
-    let (search, moves): (fn(&mut Memory, usize, usize, &mut [u32]) -> usize, u8) =
-        if job.neighbourhood == 8 { (search8, 0xFF) } else { (search4, CARDINAL) };
-    fill_masks(floor, memory.masks);
-    search(&mut memory, columns, b, sheet.e);
-    let settled = search(&mut memory, columns, a, sheet.d);
-    let Memory { order, later, masks } = memory;
-    let cost = sheet.d[b];
-    if cost == UNREACHABLE {
-        sheet.e.fill(0);
-        return Err(Refusal::NoRoute);
-    }
-
-    // The vertices on the way, nearer ones first.
-    let (d, e, way) = (&*sheet.d, &*sheet.e, later);
-    let mut n = 0;
-    for &v in &order[..settled] {
-        // SAFETY: the entries of `order` are vertices that both ends reach, none twice.
-        unsafe {
-            let (to, from) = (*d.get_unchecked(usize::from(v)), *e.get_unchecked(usize::from(v)));
-            if to >= cost + 408 {
-                break;
-            }
-            *way.get_unchecked_mut(n) = v;
-            n += usize::from(to + from == cost);
-        }
-    }
-    let way = &way[..n];
-
-    let offsets = offsets(columns);
-    let fits = if job.neighbourhood == 8 {
-        counts::<1>(way, masks, &offsets, a, b, sheet)
+/// Counts and route from the costs. `way` has the vertices on the way, those nearer to B first.
+pub fn counts_and_route(
+    job: Job, columns: usize, way: &[u16], masks: &[u8], sheet: &mut SheetMut,
+) -> Result<Plan, Refusal> {
+    let (a, b, offsets) = (job.a as usize, job.b as usize, offsets(columns));
+    let (moves, fits) = if job.neighbourhood == 8 {
+        (0xFF, counts::<1>(way, masks, &offsets, a, b, sheet))
     } else {
-        counts::<2>(way, masks, &offsets, a, b, sheet)
+        (CARDINAL, counts::<2>(way, masks, &offsets, a, b, sheet))
     };
     if !fits {
         sheet.f.fill(0);
@@ -230,5 +212,36 @@ fn fill(floor: Floor, job: Job, sheet: &mut SheetMut, mut memory: Memory) -> Res
         sheet.route[points] = u as u16;
         points += 1;
     }
-    Ok(Plan { cost, total: sheet.f[b], points })
+    Ok(Plan { cost: sheet.d[b], total: sheet.f[b], points })
+}
+
+fn fill(floor: Floor, job: Job, sheet: &mut SheetMut, work: &mut [u32]) -> Result<Plan, Refusal> {
+    let (a, b, columns) = (job.a as usize, job.b as usize, floor.width as usize + 1);
+    let mut memory = Memory::of(work, floor.vertices());
+    let search = if job.neighbourhood == 8 { search8 } else { search4 };
+    fill_masks(floor, memory.masks);
+    search(&mut memory, columns, a, sheet.d);
+    let cost = sheet.d[b];
+    if cost == UNREACHABLE {
+        sheet.e.fill(0);
+        return Err(Refusal::NoRoute);
+    }
+    let settled = search(&mut memory, columns, b, sheet.e);
+    let Memory { order, later: way, masks } = memory;
+
+    // The vertices on the way, those nearer to B first.
+    let (d, e) = (&*sheet.d, &*sheet.e);
+    let mut n = 0;
+    for &v in &order[..settled] {
+        // SAFETY: the entries of `order` are vertices that both ends reach, none twice.
+        unsafe {
+            let (from, to) = (*d.get_unchecked(usize::from(v)), *e.get_unchecked(usize::from(v)));
+            if to >= cost + 408 {
+                break;
+            }
+            *way.get_unchecked_mut(n) = v;
+            n += usize::from(from + to == cost);
+        }
+    }
+    counts_and_route(job, columns, &way[..n], masks, sheet)
 }

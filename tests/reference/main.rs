@@ -4,6 +4,7 @@
 //! vectors                 runs known answers and self checks
 //! program                 record stream on standard input, lines out
 //! program-stream [K]      writes the long record stream, or the K-th short one
+//! records SEED            writes a record stream of any seed
 //! jobs SEED COUNT [wide]  writes a job stream (FORMAT.md)
 //! answers                 job stream on standard input, expected text out
 
@@ -18,6 +19,7 @@ mod layouts;
 mod natural;
 mod program;
 mod random;
+mod records;
 mod self_checks;
 mod sheet;
 mod sight;
@@ -28,7 +30,7 @@ mod vectors;
 use std::io::{Read, Write};
 use std::process::ExitCode;
 
-const USAGE: &str = "usage: vectors | program | program-stream [K] | jobs SEED COUNT [wide] | answers";
+const USAGE: &str = "usage: vectors | program | program-stream [K] | records SEED | jobs SEED COUNT [wide] | answers";
 
 fn input() -> std::io::Result<Vec<u8>> {
     let mut bytes = Vec::new();
@@ -56,6 +58,7 @@ fn output(arguments: &[&str]) -> std::io::Result<Vec<u8>> {
         ["program"] => Ok(program::run(&input()?).into_bytes()),
         ["program-stream"] => Ok(stream::long_stream()),
         ["program-stream", k] => short_stream(k),
+        ["records", seed] => Ok(records::make(number(seed)?)),
         ["jobs", seed, count] => Ok(jobs::make(number(seed)?, number(count)?, false)),
         ["jobs", seed, count, "wide"] => Ok(jobs::make(number(seed)?, number(count)?, true)),
         ["answers"] => answers::run(&input()?).map(String::into_bytes).ok_or_else(|| invalid("a record is cut short")),

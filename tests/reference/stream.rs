@@ -8,13 +8,13 @@ const HALLS: [u64; 6] = [6, 5, 4, 3, 2, 6];
 const SIDE: u64 = 31;
 const GAP: u64 = 3;
 
-fn map_record(floor: &Floor) -> Vec<u8> {
+pub fn map_record(floor: &Floor) -> Vec<u8> {
     let mut bytes = vec![0x4D, 0x50, floor.width as u8, floor.height as u8];
     bytes.extend(&floor.cells);
     bytes
 }
 
-fn job_record(neighbourhood: u8, start: u64, goal: u64) -> Vec<u8> {
+pub fn job_record(neighbourhood: u8, start: u64, goal: u64) -> Vec<u8> {
     let mut bytes = vec![0x4A, 0x42, neighbourhood];
     bytes.extend((start as u16).to_le_bytes());
     bytes.extend((goal as u16).to_le_bytes());

@@ -1,0 +1,257 @@
+//! Runs a job stream (tests/reference/FORMAT.md) through the static library, by the wrapper of examples/rust, and writes
+//! the line that each record asks for. It works nothing out: an answer is that of a call, a digest that of a lent slice.
+
+#[allow(dead_code)]
+#[path = "../../examples/rust/lurfanzi.rs"]
+mod lurfanzi;
+
+use lurfanzi::{Floor, Job, Refusal, Sheet, SheetMut, Verdict};
+use std::io::{self, Error, ErrorKind, Read, Write};
+
+/// The number that some bytes make, the lowest first.
+fn number(bytes: &[u8]) -> u64 {
+    bytes.iter().rev().fold(0, |high, &byte| high << 8 | u64::from(byte))
+}
+
+/// A number of a slice, as wide as the slice has it.
+trait Element: Copy + Into<u64> {
+    fn cut(number: u64) -> Self;
+}
+
+impl Element for u8 {
+    fn cut(number: u64) -> u8 {
+        number as u8
+    }
+}
+
+impl Element for u16 {
+    fn cut(number: u64) -> u16 {
+        number as u16
+    }
+}
+
+impl Element for u32 {
+    fn cut(number: u64) -> u32 {
+        number as u32
+    }
+}
+
+impl Element for u64 {
+    fn cut(number: u64) -> u64 {
+        number
+    }
+}
+
+/// The first places of a slice, with the pattern of a seed in them.
+fn patterned<T: Element>(slice: &mut [T], length: usize, seed: u32) -> &mut [T] {
+    let part = &mut slice[..length];
+    let mut number = u64::from(seed);
+    for element in part.iter_mut() {
+        *element = T::cut(number);
+        number += 2_654_435_761;
+    }
+    part
+}
+
+fn digest<T: Element>(slice: &[T]) -> u64 {
+    let parts = if size_of::<T>() == 8 { 2 } else { 1 };
+    slice.iter().fold(7, |h, &element| {
+        let whole: u64 = element.into();
+        let halves = [whole & 0xFFFF_FFFF, whole >> 32];
+        halves[..parts].iter().fold(h, |h, half| (h * 1_000_003 + half + 1) % 4_294_967_291)
+    })
+}
+
+struct Record {
+    header: [u8; 64],
+    payload: Vec<u8>,
+}
+
+impl Record {
+    fn read(from: &mut impl Read) -> io::Result<Record> {
+        let mut header = [0; 64];
+        from.read_exact(&mut header)?;
+        let mut payload = vec![0; number(&header[4..8]) as usize];
+        from.read_exact(&mut payload)?;
+        Ok(Record { header, payload })
+    }
+
+    fn word(&self, k: usize) -> u32 {
+        number(&self.header[8 + 4 * k..][..4]) as u32
+    }
+
+    fn length(&self, k: usize) -> usize {
+        self.word(k) as usize
+    }
+
+    fn job(&self) -> Job {
+        Job { neighbourhood: self.word(0), a: self.word(1), b: self.word(2) }
+    }
+
+    /// The payload's changes: slice, place, value.
+    fn changes(&self) -> impl Iterator<Item = (u64, usize, u64)> + '_ {
+        let change = |row: &[u8]| (number(&row[..4]), number(&row[4..8]) as usize, number(&row[8..]));
+        self.payload.chunks_exact(16).map(change)
+    }
+}
+
+#[derive(Clone)]
+struct Slices {
+    d: Vec<u32>,
+    e: Vec<u32>,
+    f: Vec<u64>,
+    back: Vec<u64>,
+    route: Vec<u16>,
+}
+
+impl Slices {
+    fn change(&mut self, slice: u64, place: usize, value: u64) {
+        match slice {
+            0 => self.d[place] = Element::cut(value),
+            1 => self.e[place] = Element::cut(value),
+            2 => self.f[place] = value,
+            3 => self.back[place] = value,
+            _ => self.route[place] = Element::cut(value),
+        }
+    }
+}
+
+struct Ground {
+    width: u32,
+    height: u32,
+    map: Vec<u8>,
+}
+
+impl Ground {
+    fn floor(&self) -> Floor<'_> {
+        Floor { width: self.width, height: self.height, map: &self.map }
+    }
+}
+
+struct Driver {
+    ground: Ground,
+    slices: Slices,
+    points: usize,
+    work: Vec<u32>,
+    list: Vec<u16>,
+    out: Vec<u16>,
+}
+
+/// A result's number of the header, 0 for a good one.
+fn answer<T>(result: Result<T, Refusal>) -> u8 {
+    result.map_or_else(Refusal::number, |_| 0)
+}
+
+impl Driver {
+    fn new() -> Driver {
+        let (v, longest) = (16_384, 16_392);
+        let slices = Slices { d: vec![0; v], e: vec![0; v], f: vec![0; v], back: vec![0; v], route: vec![0; v] };
+        let ground = Ground { width: 0, height: 0, map: Vec::new() };
+        let (work, list, out) = (vec![0; 4 * v], vec![0; longest], vec![0; longest]);
+        Driver { ground, slices, points: 0, work, list, out }
+    }
+
+    fn line(&mut self, record: &Record) -> io::Result<String> {
+        Ok(match record.header[0] {
+            0 => "end".to_string(),
+            1 => self.take_floor(record),
+            2 => self.plan(record),
+            3 => self.load(record),
+            4 => format!("check {}", self.check(record)),
+            5 => self.thin(record),
+            6 => format!("sight {}", self.sight(record)),
+            _ => return Err(Error::new(ErrorKind::InvalidData, "a record of no known operation")),
+        })
+    }
+
+    fn take_floor(&mut self, record: &Record) -> String {
+        let (width, height, map) = (record.word(0), record.word(1), record.payload.clone());
+        let line = format!("floor {width} {height} {} {}", map.len(), digest(&map));
+        self.ground = Ground { width, height, map };
+        line
+    }
+
+    fn plan(&mut self, record: &Record) -> String {
+        let floor = self.ground.floor();
+        let (slices, seed) = (&mut self.slices, record.word(9));
+        let mut sheet = SheetMut {
+            d: patterned(&mut slices.d, record.length(3), seed),
+            e: patterned(&mut slices.e, record.length(4), seed),
+            f: patterned(&mut slices.f, record.length(5), seed),
+            back: patterned(&mut slices.back, record.length(6), seed),
+            route: patterned(&mut slices.route, record.length(7), seed),
+        };
+        let work = patterned(&mut self.work, record.length(8), seed);
+        let planned = lurfanzi::plan(floor, record.job(), &mut sheet, work);
+        let (cost, total, points) = planned.map_or((0, 0, 0), |plan| (plan.cost, plan.total, plan.points));
+        self.points = points;
+        let (d, e, f) = (digest(sheet.d), digest(sheet.e), digest(sheet.f));
+        let (back, route, work) = (digest(sheet.back), digest(sheet.route), digest(work));
+        format!("plan {} {cost} {total} {points} {d} {e} {f} {back} {route} {work}", answer(planned))
+    }
+
+    fn load(&mut self, record: &Record) -> String {
+        for (place, row) in record.payload.chunks_exact(26).enumerate() {
+            let columns = [&row[..4], &row[4..8], &row[8..16], &row[16..24], &row[24..]];
+            for (slice, column) in (0..).zip(columns) {
+                self.slices.change(slice, place, number(column));
+            }
+        }
+        self.points = record.length(1);
+        format!("load {}", record.word(0))
+    }
+
+    /// The sheet is a copy with the changes made, so that nothing has to be put back.
+    fn check(&self, record: &Record) -> u8 {
+        let floor = self.ground.floor();
+        let mut slices = self.slices.clone();
+        record.changes().for_each(|(slice, place, value)| slices.change(slice, place, value));
+        let (d, e) = (&slices.d[..record.length(3)], &slices.e[..record.length(4)]);
+        let (f, back) = (&slices.f[..record.length(5)], &slices.back[..record.length(6)]);
+        let route = &slices.route[..record.length(7)];
+        let points = if record.word(8) == 1 { record.length(9) } else { self.points };
+        match lurfanzi::check(floor, record.job(), Sheet { d, e, f, back, route, points }) {
+            Ok(Verdict::NoRoute) => 7,
+            Ok(Verdict::FalseSheet) => 9,
+            other => answer(other),
+        }
+    }
+
+    fn thin(&mut self, record: &Record) -> String {
+        let floor = self.ground.floor();
+        let list = patterned(&mut self.list, record.length(1), record.word(5));
+        let out = patterned(&mut self.out, record.length(2), record.word(5));
+        if record.word(0) == 1 {
+            list.copy_from_slice(&self.slices.route[..list.len()]);
+            record.changes().for_each(|(_, place, value)| list[place] = Element::cut(value));
+        } else {
+            let given = record.payload.chunks_exact(2).map(|pair| Element::cut(number(pair)));
+            list.iter_mut().zip(given).for_each(|(place, vertex)| *place = vertex);
+        }
+        let n = if record.word(3) == 1 { record.length(4) } else { self.points };
+        let thinned = lurfanzi::thin(floor, list, out, n);
+        format!("thin {} {} {}", answer(thinned), thinned.unwrap_or(0), digest(out))
+    }
+
+    fn sight(&self, record: &Record) -> String {
+        let floor = self.ground.floor();
+        let ask = |pair: &[u8]| match lurfanzi::sight(floor, number(&pair[..4]) as u32, number(&pair[4..]) as u32) {
+            Ok(true) => "y".to_string(),
+            Ok(false) => "n".to_string(),
+            Err(refusal) => refusal.number().to_string(),
+        };
+        record.payload.chunks_exact(8).map(ask).collect()
+    }
+}
+
+fn main() -> io::Result<()> {
+    let (mut input, mut output) = (io::stdin().lock(), io::BufWriter::new(io::stdout().lock()));
+    let mut driver = Driver::new();
+    loop {
+        let record = Record::read(&mut input)?;
+        writeln!(output, "{}", driver.line(&record)?)?;
+        if record.header[0] == 0 {
+            return output.flush();
+        }
+    }
+}

@@ -1,0 +1,69 @@
+//! Record streams of any seed, for a test of the program.
+
+use crate::floor::Floor;
+use crate::layouts::{self, KINDS};
+use crate::random::Random;
+use crate::stream;
+
+/// A map and jobs, in half of the streams with one fault.
+pub fn make(seed: u64) -> Vec<u8> {
+    let mut random = Random::new(seed);
+    let floor = any_floor(&mut random);
+    let mut records = vec![stream::map_record(&floor)];
+    for _ in 0..job_count(&mut random) {
+        records.push(any_job(&mut random, floor.vertex_count() as u64));
+    }
+    if random.percent(50) {
+        return records.concat();
+    }
+    spoil(&mut random, records)
+}
+
+fn any_floor(random: &mut Random) -> Floor {
+    if random.percent(10) {
+        return stream::halls_floor();
+    }
+    let kind = random.pick(&KINDS);
+    let longest = random.pick(&[3, 9, 31]);
+    let (width, height) = (random.within(1, longest), random.within(1, longest));
+    layouts::make(kind, random, width, height)
+}
+
+/// A few, or about as many as a stream may have.
+fn job_count(random: &mut Random) -> u64 {
+    if random.percent(4) { random.within(998, 1003) } else { random.within(0, 24) }
+}
+
+fn any_job(random: &mut Random, count: u64) -> Vec<u8> {
+    let neighbourhood = if random.percent(95) { random.pick(&[4, 8]) } else { random.below(256) as u8 };
+    let mut end = || match random.below(40) {
+        0 => count + random.below(3),
+        1 => random.below(1 << 16),
+        2 => 0,
+        3 => count - 1,
+        _ => random.below(count),
+    };
+    let (start, goal) = (end(), end());
+    stream::job_record(neighbourhood, start, goal)
+}
+
+/// The stream with one fault in a record, or after the last.
+fn spoil(random: &mut Random, mut records: Vec<Vec<u8>>) -> Vec<u8> {
+    let k = random.index(records.len());
+    let map = records[0].clone();
+    match random.below(8) {
+        0 => records[k][random.index(2)] ^= random.within(1, 255) as u8,
+        1 => records[k][..2].copy_from_slice(if k == 0 { b"JB" } else { b"MP" }),
+        2 => records.insert(k, map),
+        3 => records.push((0..random.within(1, 20)).map(|_| random.below(256) as u8).collect()),
+        4 => records[0][2 + random.index(2)] = random.pick(&[0, 1, 30, 32, 127, 128, 255]),
+        5 => records[0][4 + random.index(map.len() - 4)] = random.within(2, 255) as u8,
+        6 => drop(records[k].pop()),
+        _ => {
+            let mut bytes = records.concat();
+            bytes.truncate(random.index(bytes.len()));
+            return bytes;
+        }
+    }
+    records.concat()
+}
