@@ -35,6 +35,21 @@ and-right false b e = absurd (true≢false (sym e))
 pub and-both : (a b : Bool) → (a && b) ≡ true → (a ≡ true) × (b ≡ true)
 and-both a b e = (and-left a b e, and-right a b e)
 
+pub all-six : (p q r s t u : Bool) → (p && q && r && s && t && u) ≡ true
+    → (p ≡ true) × (q ≡ true) × (r ≡ true) × (s ≡ true) × (t ≡ true) × (u ≡ true)
+all-six p q r s t u e =
+    let e1 = and-left (p && q && r && s && t) u e in
+    let e2 = and-left (p && q && r && s) t e1 in
+    let e3 = and-left (p && q && r) s e2 in
+    let e4 = and-left (p && q) r e3 in (
+      and-left p q e4,
+      and-right p q e4,
+      and-right (p && q) r e3,
+      and-right (p && q && r) s e2,
+      and-right (p && q && r && s) t e1,
+      and-right (p && q && r && s && t) u e,
+    )
+
 pub and-comm : (a b : Bool) → (a && b) ≡ (b && a)
 and-comm true true = refl
 and-comm true false = refl
@@ -62,7 +77,8 @@ not-and false b h = refl
 -- a < b and c < d say the same where b - a = d - c.
 pub ltb-shift : (a b c d : ℕ) → a + d ≡ b + c → ltb a b ≡ ltb c d
 ltb-shift a b c d e =
-    ⊎-elim (λ lt. lt-ltb a b lt ∙ sym (lt-ltb c d (omega arith))) (λ ge. le-ltb a b (omega arith) ∙ sym (le-ltb c d (omega arith)))
+    ⊎-elim (λ lt. lt-ltb a b lt ∙ sym (lt-ltb c d (omega arith)))
+    (λ ge. le-ltb a b (omega arith) ∙ sym (le-ltb c d (omega arith)))
     (le-or-lt (suc a) b)
 
 pub eqb-sym : (a b : ℕ) → eqb a b ≡ eqb b a

@@ -1,12 +1,20 @@
--- Laws of `every`, `any` and `seek`.
+-- Laws of `pick`, `every`, `any` and `seek`.
 use Prim.Native.Nat.{ℕ, zero, suc, _+_, _≤_, _<_}
-use mathlib.Core.Path.{_≡_, refl, sym, ap₂, _∙_}
+use mathlib.Core.Path.{_≡_, refl, sym, ap, ap₂, _∙_}
 use mathlib.Core.Logic.{_⊎_, inl, inr, ⊎-elim}
 use mathlib.Core.Bool.{Bool, true, false, _&&_, _||_, true≢false}
 use native.Mathlib.Omega.{arith}
-use Rattle.basics.specs.Bounded.{every, any, seek}
+use Rattle.basics.specs.Bounded.{pick, every, any, seek}
 use Rattle.basics.proofs.Order.{le-or-lt, eq-or-ne}
 use Rattle.basics.proofs.Bools.{and-intro, and-left, and-right, or-left, or-right, or-cases}
+
+pub pick-yes : {A : Type 0} (b : Bool) (x y : A) → b ≡ true → pick b x y ≡ x
+pick-yes true x y e = refl
+pick-yes false x y e = absurd (true≢false (sym e))
+
+pub pick-no : {A : Type 0} (b : Bool) (x y : A) → b ≡ false → pick b x y ≡ y
+pick-no true x y e = absurd (true≢false e)
+pick-no false x y e = refl
 
 pub every-all : (n : ℕ) (p : ℕ → Bool) → ((k : ℕ) → k < n → p k ≡ true) → every n p ≡ true
 unfolding every
@@ -36,7 +44,8 @@ pub any-cases : (n : ℕ) (p : ℕ → Bool) → any n p ≡ true → (k : ℕ) 
 unfolding any
 any-cases zero p e = absurd (true≢false (sym e))
 any-cases (suc n) p e =
-    ⊎-elim (λ a. let r = any-cases n p a in (r .0, omega (arith, r .1), r .2)) (λ b. (n, omega arith, b)) (or-cases (any n p) (p n) e)
+    ⊎-elim (λ a. let r = any-cases n p a in (r .0, omega (arith, r .1), r .2)) (λ b. (n, omega arith, b))
+    (or-cases (any n p) (p n) e)
 
 pub any-one : (n k : ℕ) (p : ℕ → Bool) → k < n → p k ≡ true → any n p ≡ true
 unfolding any
@@ -44,6 +53,21 @@ any-one zero k p l e = absurd (omega arith)
 any-one (suc n) k p l e =
     ⊎-elim (λ lt. or-left (any n p) (p n) (any-one n k p lt e))
     (λ ge. let q : n ≡ k = omega arith in or-right (any n p) (p n) (rw q e)) (le-or-lt (suc k) n)
+
+pub seek-cong : (f j : ℕ) (p q : ℕ → Bool) → ((k : ℕ) → j ≤ k → k < j + f → p k ≡ q k) → seek f j p ≡ seek f j q
+unfolding seek
+seek-cong zero j p q h = refl
+seek-cong (suc f) j p q h =
+    ap₂ (λ b x. elim b [ true ↦ j | false ↦ x ]) (h j (omega arith) (omega arith))
+    (seek-cong f (suc j) p q (λ k a b. h k (omega arith) (omega arith)))
+
+pub seek-here : (f j : ℕ) (p : ℕ → Bool) → p j ≡ true → seek (suc f) j p ≡ j
+unfolding seek
+seek-here f j p e = ap (λ b. elim b [ true ↦ j | false ↦ seek f (suc j) p ]) e
+
+pub seek-past : (f j : ℕ) (p : ℕ → Bool) → p j ≡ false → seek (suc f) j p ≡ seek f (suc j) p
+unfolding seek
+seek-past f j p e = ap (λ b. elim b [ true ↦ j | false ↦ seek f (suc j) p ]) e
 
 pub seek-le : (f j : ℕ) (p : ℕ → Bool) → seek f j p ≤ j + f
 unfolding seek
@@ -70,7 +94,8 @@ seek-found zero j p h = absurd (omega arith)
 seek-found (suc f) j p h = cases (p j) refl (seek-found f (suc j) p) h
   where
     cases : (b : Bool) → p j ≡ b → (seek f (suc j) p < suc j + f → p (seek f (suc j) p) ≡ true)
-        → elim b [ true ↦ j | false ↦ seek f (suc j) p ] < j + suc f → p (elim b [ true ↦ j | false ↦ seek f (suc j) p ]) ≡ true
+        → elim b [ true ↦ j | false ↦ seek f (suc j) p ] < j + suc f
+        → p (elim b [ true ↦ j | false ↦ seek f (suc j) p ]) ≡ true
     cases true e below h = e
     cases false e below h = below (omega arith)
 
@@ -80,7 +105,8 @@ unfolding seek
 seek-least zero j i p a b e = absurd (omega arith)
 seek-least (suc f) j i p a b e = cases (seek-least f (suc j) i p) (p j) refl (eq-or-ne i j)
   where
-    cases : (suc j ≤ i → i < suc j + f → p i ≡ true → seek f (suc j) p ≤ i) → (b : Bool) → p j ≡ b → (i ≡ j) ⊎ (i ≡ j → ⊥)
+    cases : (suc j ≤ i → i < suc j + f → p i ≡ true → seek f (suc j) p ≤ i) → (b : Bool) → p j ≡ b
+        → (i ≡ j) ⊎ (i ≡ j → ⊥)
         → elim b [ true ↦ j | false ↦ seek f (suc j) p ] ≤ i
     cases below true q c = a
     cases below false q (inl c) = let z : true ≡ false = cc in absurd (true≢false z)

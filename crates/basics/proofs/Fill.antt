@@ -27,5 +27,5 @@ filling-more {x} {n} {i} {s₀} {s} h l = record {
 pub filling-done : {x n i : ℕ} {s₀ s : List ℕ} → Filling x n i s₀ s → n ≤ i → s ≡ replicate (length s₀) x
 filling-done {x} {n} {i} {s₀} {s} h l =
     let e : i ≡ length s₀ = omega (arith, h .end, h .within) in
-    h .at ∙ ap (λ (t : List ℕ). replicate i x ++ t) (drop-of-length-le s₀ {i = i} (omega arith)) ∙ append-nil (replicate i x)
-    ∙ ap (λ (k : ℕ). replicate k x) e
+    h .at ∙ ap (λ (t : List ℕ). replicate i x ++ t) (drop-of-length-le s₀ {i = i} (omega arith))
+    ∙ append-nil (replicate i x) ∙ ap (λ (k : ℕ). replicate k x) e

@@ -1,5 +1,6 @@
 pub mod Order
 pub mod Bools
+pub mod Options
 pub mod Bounded
 pub mod Sums
 pub mod Lists

@@ -1,5 +1,5 @@
--- Tests, sums and searches over the numbers below a bound. Each goes through the numbers in turn, so that a loop that does
--- the same has the definition as its invariant.
+-- Tests, sums and searches over the numbers below a bound. Each goes through the numbers in turn, so that a loop that
+-- does the same has the definition as its invariant.
 --
 --   pick b x y   == x where b holds, else y
 --   every n p    == p k holds for each k < n

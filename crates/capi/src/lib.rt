@@ -2,8 +2,9 @@
 // declares these functions. Sides, neighbourhood and ends are 32 bits wide, so that no number is cut down on its way in.
 ghost use mathlib.Core.Path.{_≡_};
 ghost use Rattle.sight.specs.Question.{sightAnswer, sightNumber};
+ghost use Rattle.paths.specs.Sheet.{sheetOf};
 ghost use Rattle.planner.specs.Plan.{slicesOf};
-ghost use Rattle.checker.specs.Answer.{sheetOf, checkAnswer, checkNumber};
+ghost use Rattle.checker.specs.Answer.{checkAnswer, checkNumber};
 ghost use Rattle.capi.specs.Results.{PlansTo, ThinsTo};
 
 // The planner's answer with its values, all 0 at a refusal.

@@ -16,11 +16,10 @@ use Rattle.basics.proofs.Bounded.{every-all, every-at}
 use Rattle.moves.specs.declared.Rows.{Rows}
 use Rattle.paths.specs.Graph.{Graph, Lawful}
 use Rattle.paths.specs.Distance.{unreachable}
-use Rattle.paths.specs.Sheet.{Sheet}
+use Rattle.paths.specs.Sheet.{Sheet, sheetOf}
 use Rattle.paths.specs.Local.{rightCost, rightCosts, countAt, rightCounts, entry, localOn, localNumbers}
 use Rattle.paths.specs.Local.{localRoute, blankAt, localNoRoute}
 use Rattle.paths.proofs.SheetTest.{numbers-true, numbers-fit}
-use Rattle.checker.specs.Answer.{sheetOf}
 use Rattle.checker.specs.Tests.{countsTest, vertexTest, verticesTest, pointsTest, routeTest, noRouteTest}
 use Rattle.checker.specs.Tests.{Posed, FitCounts}
 use Rattle.checker.proofs.Chains.{fails, holds, fact-fails, fact-holds}

@@ -13,14 +13,14 @@ use Rattle.floor.specs.declared.Refusal.the-variants.{SliceLength, FalseSheet}
 use Rattle.moves.specs.declared.Rows.{Rows}
 use Rattle.moves.proofs.Table.{listed-lawful}
 use Rattle.paths.specs.Graph.{Graph}
-use Rattle.paths.specs.Sheet.{Sheet}
+use Rattle.paths.specs.Sheet.{Sheet, sheetOf}
 use Rattle.paths.specs.Local.{entry, Shaped}
 use Rattle.grid.specs.Grid.{floorGraph}
 use Rattle.grid.specs.declared.Job.the-variants.{Fit}
 use Rattle.grid.proofs.Jobs.{FitJob}
 use Rattle.grid.proofs.Lawful.{floor-lawful}
 use Rattle.checker.specs.declared.Checked.the-variants.{Route, NoRoute, Refused}
-use Rattle.checker.specs.Answer.{sheetOf, sheetSized, judged}
+use Rattle.checker.specs.Answer.{sheetSized, judged}
 use Rattle.checker.specs.Tests.{routeTest, noRouteTest, Fitting, Posed}
 use Rattle.checker.proofs.Verdict.{verdict-tests}
 

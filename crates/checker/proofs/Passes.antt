@@ -1,17 +1,17 @@
 -- One pass over the vertices of a floor, column by column and row by row.
 --
---   VertexScan ..        == the vertices before v pass the test, and v stands in column x and row y
 --   vertexTest-agrees    == the test of a vertex reads only the moves from it
---   spot-faces           == the steps from a vertex by its mask are those of the floor's graph
+--   vertex-faces         == the steps from a vertex by its mask are those of the floor's graph
+--   VertexScan ..        == the vertices before v pass the test, v stands in column x and row y, and nw and sw are the
+--                           cells on its left
 use Prim.Native.Nat.{ℕ, _+_, _≤_, _<_}
-use mathlib.Core.Path.{_≡_, sym, ap, _∙_, subst}
+use mathlib.Core.Path.{_≡_, sym, _∙_, subst}
 use mathlib.Core.Bool.{Bool, true, false, not}
 use mathlib.Core.List.{List}
 use native.Mathlib.Omega.{arith}
 use lib.ListN.{length}
 use Rattle.basics.proofs.Scan.{Passed, passed-none, passed-stop, passed-more, passed-all}
-use Rattle.floor.specs.Floor.{Sized, floorOf, vertices, column, row}
-use Rattle.floor.proofs.Numbers.{column-number, row-number, row-le}
+use Rattle.floor.specs.Floor.{Sized, floorOf, blocked, vertices, column, row}
 use Rattle.moves.specs.declared.Rows.{Rows}
 use Rattle.moves.specs.Table.{Listed}
 use Rattle.moves.specs.Masks.{OpenMask}
@@ -20,10 +20,11 @@ use Rattle.paths.specs.Sheet.{Sheet}
 use Rattle.paths.specs.Local.{entry, localOn}
 use Rattle.grid.specs.Grid.{floorGraph}
 use Rattle.neighbours.specs.declared.Reach.{Reach}
-use Rattle.neighbours.specs.Reach.{star, Here, Built}
+use Rattle.neighbours.specs.Reach.{star, Lent, Here, Built}
 use Rattle.neighbours.proofs.Agree.{Agrees, rightCost-agrees, countAt-agrees}
+use Rattle.neighbours.proofs.Along.{Along, along-start, along-end, along-on}
 use Rattle.neighbours.proofs.Built.{Faces, reach-faces}
-use Rattle.checker.specs.Tests.{numbersOf, countsTest, vertexTest, verticesTest, Posed, AtVertex, Spot}
+use Rattle.checker.specs.Tests.{numbersOf, countsTest, vertexTest, verticesTest, Posed, AtVertex}
 
 pub vertexTest-agrees : {g h : Graph} {v : ℕ} → Agrees g h v → (j : Bool) (a b : ℕ) (s : Sheet)
     → vertexTest j g a b s v ≡ vertexTest j h a b s v
@@ -36,22 +37,7 @@ vertexTest-agrees q j a b s =
       countAt-agrees q (entry (s .e)) b (localOn b s) (entry (s .b)),
     )
 
--- ---- where a vertex stands
-
-pub spot-column : {w v x y : ℕ} → Spot w v x y → column w v ≡ x
-spot-column {w} {v} {x} {y} p = ap (column w) (p .is) ∙ column-number w x y (p .column)
-
-pub spot-row : {w v x y : ℕ} → Spot w v x y → row w v ≡ y
-spot-row {w} {v} {x} {y} p = ap (row w) (p .is) ∙ row-number w x y (p .column)
-
-pub spot-high : {w h v x y : ℕ} → Spot w v x y → v < vertices w h → y ≤ h
-spot-high {w} {h} {v} p i = omega (arith, spot-row p, row-le w h v i)
-
-pub spot-along : {w v x y : ℕ} → Spot w v x y → x < w → Spot w (v + 1) (x + 1) y
-spot-along p l = record { column = omega arith; is = omega (arith, p .is) }
-
-pub spot-down : {w v x y : ℕ} → Spot w v x y → w ≤ x → Spot w (v + 1) 0 (y + 1)
-spot-down {w} {v} {x} {y} p l = record { column = omega arith; is = omega (arith, p .is, p .column) }
+-- ---- the steps from a vertex
 
 module _ {w h : ℕ} {l : List ℕ} (z : Sized w h l) {r : Rows} (listed : Listed r) {t : Reach}
     (built : Built w r t) where
@@ -59,31 +45,28 @@ module _ {w h : ℕ} {l : List ℕ} (z : Sized w h l) {r : Rows} (listed : Liste
       → Faces (floorGraph (floorOf w h l) r) t mask v
   vertex-faces {mask} {v} i o = reach-faces (floorOf w h l) listed built (z .wide) (z .high) mask v i o
 
-  pub spot-faces : {mask v x y : ℕ} → Spot w v x y → v < vertices w h → OpenMask (floorOf w h l) x y mask
-      → Faces (floorGraph (floorOf w h l) r) t mask v
-  spot-faces p i o = vertex-faces i (rw (spot-column p, spot-row p) o)
-
 -- ---- the pass
 
-pub record VertexScan (w h : ℕ) (l : List ℕ) (j : Bool) (a b : ℕ) (s : Sheet) (t : Reach) (x y v : ℕ) : Type 0 where
-  pub spot : Spot w v x y
+pub record VertexScan (w h : ℕ) (l : List ℕ) (j : Bool) (a b : ℕ) (s : Sheet) (t : Reach) (x y v : ℕ)
+    (nw sw : Bool) : Type 0 where
+  pub along : Along (floorOf w h l) x y v nw sw
   pub passed : (r : Rows) → Listed r → Built w r t
       → Passed (vertices w h) v (vertexTest j (floorGraph (floorOf w h l) r) a b s)
 
 module _ {w h : ℕ} {l : List ℕ} {j : Bool} {a b : ℕ} {s : Sheet} {t : Reach} where
-  pub scan-start : VertexScan w h l j a b s t 0 0 0
+  pub scan-start : VertexScan w h l j a b s t 0 0 0 true true
   scan-start = record {
-    spot = record { column = omega arith; is = omega arith };
+    along = along-start (floorOf w h l);
     passed = λ r p q. passed-none (vertices w h) (vertexTest j (floorGraph (floorOf w h l) r) a b s);
   }
 
   -- What the loop finds of vertex v, said of the floor's graph.
-  module _ {x y v mask : ℕ} (z : Sized w h l) (c : VertexScan w h l j a b s t x y v) (i : v < vertices w h)
-      (o : OpenMask (floorOf w h l) x y mask) (k : Bool)
+  module _ {x y v mask : ℕ} {nw sw : Bool} (z : Sized w h l) (c : VertexScan w h l j a b s t x y v nw sw)
+      (i : v < vertices w h) (o : OpenMask (floorOf w h l) (column w v) (row w v) mask) (k : Bool)
       (is : k ≡ vertexTest j (star (length (s .d)) t mask) a b s v) where
     on-floor : (r : Rows) → Listed r → Built w r t → k ≡ vertexTest j (floorGraph (floorOf w h l) r) a b s v
     on-floor r p q =
-        let same = spot-faces z p q (c .spot) i o .agrees in
+        let same = vertex-faces z p q i o .agrees in
         is ∙ vertexTest-agrees (record { moves = same .moves; cost = same .cost; step = same .step }) j a b s
 
     pub scan-stop : {r : Rows} → Listed r → Built w r t → not k ≡ true
@@ -96,14 +79,16 @@ module _ {w h : ℕ} {l : List ℕ} {j : Bool} {a b : ℕ} {s : Sheet} {t : Reac
           → Passed (vertices w h) (v + 1) (vertexTest j (floorGraph (floorOf w h l) r) a b s)
       more r p q = passed-more k (c .passed r p q) i (on-floor r p q) f
 
-      pub scan-along : x < w → VertexScan w h l j a b s t (x + 1) y (v + 1)
-      scan-along u = record { spot = spot-along (c .spot) u; passed = more }
+      pub scan-end : x ≡ w → VertexScan w h l j a b s t 0 (y + 1) (v + 1) true true
+      scan-end e = record { along = along-end (c .along) e; passed = more }
 
-      pub scan-down : w ≤ x → VertexScan w h l j a b s t 0 (y + 1) (v + 1)
-      scan-down u = record { spot = spot-down (c .spot) u; passed = more }
+      pub scan-on : {ne se : Bool} → ne ≡ blocked (floorOf w h l) (x + 1) y
+          → se ≡ blocked (floorOf w h l) (x + 1) (y + 1) → (x ≡ w → ⊥)
+          → VertexScan w h l j a b s t (x + 1) y (v + 1) ne se
+      scan-on p q inner = record { along = along-on (c .along) p q inner; passed = more }
 
-  pub scan-all : {x y v : ℕ} {r : Rows} → VertexScan w h l j a b s t x y v → vertices w h ≤ v → Listed r → Built w r t
-      → true ≡ verticesTest j (floorGraph (floorOf w h l) r) a b s
+  pub scan-all : {x y v : ℕ} {nw sw : Bool} {r : Rows} → VertexScan w h l j a b s t x y v nw sw → vertices w h ≤ v
+      → Listed r → Built w r t → true ≡ verticesTest j (floorGraph (floorOf w h l) r) a b s
   unfolding verticesTest
   scan-all {r = r} c i p q = passed-all (c .passed r p q) i
 
@@ -118,9 +103,10 @@ module _ {w h : ℕ} {l : List ℕ} {r : Rows} {a b : ℕ} {s : Sheet} (p : Pose
       (length (s .d)) t mask v
   posed-here {t} {mask} {v} k = subst (λ (n : ℕ). Here n t mask v) (sym (p .shape .d)) (k .here)
 
-  pub posed-vertex : {t : Reach} {mask v : ℕ} → Faces (floorGraph (floorOf w h l) r) t mask v
+  pub posed-vertex : {t : Reach} {mask v : ℕ} → Lent t → Faces (floorGraph (floorOf w h l) r) t mask v
       → AtVertex t mask b (numbersOf (s .d) (s .e) (s .f) (s .b)) v
-  posed-vertex k = record {
+  posed-vertex lent k = record {
+    lent = lent;
     here = posed-here k;
     end = omega (arith, p .job .end, p .shape .d);
     e-len = p .shape .e ∙ sym (p .shape .d);

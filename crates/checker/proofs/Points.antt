@@ -18,7 +18,7 @@ use Rattle.basics.proofs.Scan.{Passed, passed-none, passed-stop, passed-more, p
 use Rattle.floor.specs.Floor.{floorOf, vertices}
 use Rattle.moves.specs.declared.Rows.{Rows}
 use Rattle.paths.specs.Graph.{Graph}
-use Rattle.paths.specs.Sheet.{Sheet}
+use Rattle.paths.specs.Sheet.{Sheet, sheetOf}
 use Rattle.paths.specs.Local.{is-there, rightPoint, rightRoute, entry, localOn, localNext}
 use Rattle.grid.specs.Grid.{floorGraph}
 use Rattle.neighbours.specs.declared.Reach.{Reach}
@@ -26,7 +26,6 @@ use Rattle.neighbours.specs.Reach.{Built}
 use Rattle.neighbours.specs.Choice.{nextOf, traversalOf, Choosing, Counted}
 use Rattle.neighbours.proofs.Agree.{nextVertex-agrees}
 use Rattle.neighbours.proofs.Built.{Faces}
-use Rattle.checker.specs.Answer.{sheetOf}
 use Rattle.checker.specs.Tests.{pointTest, pointsTest, Posed, FitCounts, Routing}
 use Rattle.checker.proofs.Passes.{posed-here}
 
@@ -94,6 +93,7 @@ module _ {w h : ℕ} {l : List ℕ} {r : Rows} {t : Reach} {b n : ℕ} {d e f ba
 
   pub routing-chooses : {mask v : ℕ} → Faces (floorGraph (floorOf w h l) r) t mask v → Choosing t mask d e b v
   routing-chooses k = record {
+    lent = p .built .lent;
     here = posed-here (p .posed) k;
     goal-in = omega (arith, p .posed .job .end, p .posed .shape .d);
     e-len = p .posed .shape .e ∙ sym (p .posed .shape .d);

@@ -8,12 +8,11 @@ use lib.Dec.{eqb}
 use lib.ListN.{length}
 use Rattle.paths.specs.Graph.{Graph}
 use Rattle.paths.specs.Route.{onShortest}
-use Rattle.paths.specs.Sheet.{Sheet}
+use Rattle.paths.specs.Sheet.{Sheet, sheetOf}
 use Rattle.paths.specs.Local.{rightCost, countAt, entry, localOn, blankAt}
 use Rattle.neighbours.specs.declared.Reach.{Reach}
 use Rattle.neighbours.specs.Reach.{star}
 use Rattle.neighbours.proofs.Agree.{Agrees, rightCost-agrees, countAt-agrees}
-use Rattle.checker.specs.Answer.{sheetOf}
 use Rattle.checker.specs.Tests.{numbersOf, blankOf, countsTest, vertexTest}
 use Rattle.checker.proofs.Chains.{fails, holds}
 

@@ -1,7 +1,6 @@
 -- Document 01, "The checker uses 1 to 6 and then .. 0 .. exactly when n and every slice are the true route sheet, 7 ..
 -- exactly when they are the true no-route sheet, and 9 .. for every other sheet".
 --
---   sheetOf d e f b r n  == the sheet with these slices and this point count
 --   verdict g a b s      == the answer to the sheet s of the job from a to b on graph g
 --   sheetSized v s       == refusal 6 does not apply: each slice of the sheet s has v places
 --   judged ..            == the answer to a sheet, by the shape of its job
@@ -23,9 +22,6 @@ use Rattle.grid.specs.declared.Job.{Job}
 use Rattle.grid.specs.declared.Job.the-variants.{Fit, Unfit}
 use Rattle.checker.specs.declared.Checked.{Checked}
 use Rattle.checker.specs.declared.Checked.the-variants.{Route, NoRoute, Refused}
-
-abbrev pub sheetOf : List ℕ → List ℕ → List ℕ → List ℕ → List ℕ → ℕ → Sheet
-sheetOf d e f b r n = record { d = d; e = e; f = f; b = b; route = r; n = n }
 
 unfoldable pub verdict : Graph → ℕ → ℕ → Sheet → Checked
 verdict g a b s =

@@ -1,5 +1,5 @@
--- The tests that the checker runs, in the order in which it runs them. Nobody has to believe these: laws in proofs/ show
--- that they say the same as `verdict`.
+-- The tests that the checker runs, in the order in which it runs them. Nobody has to believe these: laws in proofs/
+-- show that they say the same as `verdict`.
 --
 --   numbersOf d e f b        == a sheet of these costs and counts, for what does not look at its route
 --   blankOf e f b r          == a sheet of these slices, for what does not look at its costs from a
@@ -16,7 +16,6 @@
 --   AtVertex t mask b s v    == the moves from v can be read, and the slices of s have a place for v
 --   FitCounts n f b          == the traversal counts of the vertices below n fit 64 bits
 --   Routing w h l r t b s    == the route of a posed sheet can be walked
---   Spot w v x y             == vertex v stands in column x and row y
 use Prim.Native.Nat.{ℕ, _^_, _≤_, _<_}
 use mathlib.Core.Path.{_≡_}
 use mathlib.Core.Bool.{Bool, true, false, _&&_}
@@ -24,18 +23,17 @@ use mathlib.Core.List.{List, []}
 use lib.Dec.{ltb, eqb}
 use lib.ListN.{length}
 use Rattle.basics.specs.Bounded.{pick, every}
-use Rattle.floor.specs.Floor.{Sized, floorOf, vertices, number}
+use Rattle.floor.specs.Floor.{Sized, floorOf, vertices}
 use Rattle.moves.specs.declared.Rows.{Rows}
 use Rattle.moves.specs.Table.{Listed}
 use Rattle.paths.specs.Graph.{Graph}
 use Rattle.paths.specs.Distance.{unreachable}
-use Rattle.paths.specs.Sheet.{Sheet}
+use Rattle.paths.specs.Sheet.{Sheet, sheetOf}
 use Rattle.paths.specs.Local.{rightCost, countAt, rightPoint, rightRoute, entry, Shaped, localOn, localNext, blankAt}
 use Rattle.grid.specs.Grid.{floorGraph}
 use Rattle.neighbours.specs.declared.Reach.{Reach}
-use Rattle.neighbours.specs.Reach.{Here, Built}
+use Rattle.neighbours.specs.Reach.{Lent, Here, Built}
 use Rattle.neighbours.specs.Choice.{traversalOf}
-use Rattle.checker.specs.Answer.{sheetOf}
 
 abbrev pub numbersOf : List ℕ → List ℕ → List ℕ → List ℕ → Sheet
 numbersOf d e f b = sheetOf d e f b [] 0
@@ -84,6 +82,7 @@ pub record Posed (w h : ℕ) (l : List ℕ) (r : Rows) (a b : ℕ) (s : Sheet) :
   pub shape : Shaped (floorGraph (floorOf w h l) r) s
 
 pub record AtVertex (t : Reach) (mask b : ℕ) (s : Sheet) (v : ℕ) : Type 0 where
+  pub lent : Lent t
   pub here : Here (length (s .d)) t mask v
   pub end : b < length (s .d)
   pub e-len : length (s .e) ≡ length (s .d)
@@ -98,7 +97,3 @@ pub record Routing (w h : ℕ) (l : List ℕ) (r : Rows) (t : Reach) (b : ℕ) (
   pub built : Built w r t
   pub counts : FitCounts (length (s .d)) (s .f) (s .b)
   pub points : s .n ≤ length (s .route)
-
-pub record Spot (w v x y : ℕ) : Type 0 where
-  pub column : x ≤ w
-  pub is : v ≡ number w x y

@@ -4,9 +4,10 @@ mod vertices; // vertices.rt: the tests of costs and counts
 
 ghost use mathlib.Core.Path.{_≡_};
 ghost use Rattle.floor.specs.Floor.{floorOf};
+ghost use Rattle.paths.specs.Sheet.{sheetOf};
 ghost use Rattle.grid.specs.Grid.{floorGraph};
 ghost use Rattle.grid.specs.declared.Job.the-variants.{Fit};
-ghost use Rattle.checker.specs.Answer.{sheetOf, sheetSized, judged, checkAnswer, checkNumber};
+ghost use Rattle.checker.specs.Answer.{sheetSized, judged, checkAnswer, checkNumber};
 ghost use Rattle.checker.specs.Tests.{routeTest, noRouteTest, Fitting, Posed};
 use floor::Refusal;
 use grid::Job;

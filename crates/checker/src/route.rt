@@ -4,13 +4,13 @@ ghost use Prim.Native.Nat.{_<_};
 ghost use lib.ListN.{length};
 ghost use Rattle.floor.specs.Floor.{floorOf};
 ghost use Rattle.moves.specs.declared.Rows.{Rows};
+ghost use Rattle.paths.specs.Sheet.{sheetOf};
 ghost use Rattle.grid.specs.Grid.{floorGraph};
-ghost use Rattle.checker.specs.Answer.{sheetOf};
+ghost use Rattle.neighbours.specs.Reach.{tableOf};
 ghost use Rattle.checker.specs.Tests.{pointTest, pointsTest, Posed, FitCounts, Routing};
 use floor::Vertex;
 use moves::Rows;
 use moves::Step;
-use neighbours::Reach;
 
 // A route's point as an index.
 fn point(x: u16) -> usize
@@ -25,7 +25,11 @@ fn point_right(
     w: usize,
     h: usize,
     map: &[u8],
-    t: Reach,
+    count: usize,
+    row: &[usize],
+    up: &[usize],
+    down: &[usize],
+    cost: &[u32],
     b: usize,
     d: &[u32],
     e: &[u32],
@@ -35,9 +39,10 @@ fn point_right(
     n: usize,
     i: usize,
 ) -> bool
-    requires { ⌜ ((q : Rows) × Routing w h (now map) q t b
+    requires { ⌜ ((q : Rows) × Routing w h (now map) q (tableOf count (now row) (now up) (now down) (now cost)) b
         (sheetOf (now d) (now e) (now f) (now back) (now route) n)) × (i < length (now route)) ⌝ }
-    ensures { λ r. ⌜ ((q : Rows) → Routing w h (now (map .entry)) q t b
+    ensures { λ r. ⌜ ((q : Rows) → Routing w h (now (map .entry)) q
+        (tableOf count (now (row .entry)) (now (up .entry)) (now (down .entry)) (now (cost .entry))) b
         (sheetOf (now (d .entry)) (now (e .entry)) (now (f .entry)) (now (back .entry)) (now (route .entry)) n)
         → r ≡ pointTest (floorGraph (floorOf w h (now (map .entry))) q) b
         (sheetOf (now (d .entry)) (now (e .entry)) (now (f .entry)) (now (back .entry)) (now (route .entry)) n) i) ⌝ }
@@ -58,7 +63,8 @@ fn point_right(
     let x = floor::column_of(w, Vertex(at));
     let y = floor::row_of(w, h, Vertex(at));
     let mask = moves::open_moves(w, h, map, x, y);
-    let Step::To(u) = neighbours::next_at(t, mask, d, e, f, back, b, at) else {
+    let Step::To(u) = neighbours::next_at(count, row, up, down, cost, mask, d, e, f, back, b, at)
+    else {
         return false;
     };
     u.0 == point(route[i + 1])
@@ -94,8 +100,30 @@ pub fn route_right(
         return false;
     }
     let t = neighbours::reach_of(w, rows);
+    let count = t.count;
+    let row = t.row;
+    let up = t.up;
+    let down = t.down;
+    let cost = t.cost;
     for i in 0..route.len() {
-        if !point_right(w, h, map, t, b, d, e, f, back, route, n, i) {
+        if !point_right(
+            w,
+            h,
+            map,
+            count,
+            &row,
+            &up,
+            &down,
+            &cost,
+            b,
+            d,
+            e,
+            f,
+            back,
+            route,
+            n,
+            i,
+        ) {
             return false;
         }
     }

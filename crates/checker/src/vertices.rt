@@ -5,22 +5,36 @@ ghost use lib.Dec.{eqb};
 ghost use lib.ListN.{length};
 ghost use Rattle.floor.specs.Floor.{floorOf};
 ghost use Rattle.paths.specs.Local.{entry, countAt, blankAt};
+ghost use Rattle.paths.specs.Sheet.{sheetOf};
 ghost use Rattle.grid.specs.Grid.{floorGraph};
-ghost use Rattle.neighbours.specs.Reach.{star, Here};
-ghost use Rattle.checker.specs.Answer.{sheetOf};
+ghost use Rattle.neighbours.specs.Reach.{tableOf, star, Lent, Here};
 ghost use Rattle.checker.specs.Tests.{numbersOf, blankOf, countsTest, vertexTest, verticesTest};
 ghost use Rattle.checker.specs.Tests.{Posed, AtVertex};
 use moves::Rows;
-use neighbours::Reach;
 use neighbours::Sum;
 
-// The count f(v) from the source is right, as far as v and its neighbours can tell; `on` says whether v is on the way. A
-// sum that does not fit 64 bits is no number of the sheet.
-fn count_right(t: Reach, mask: u32, source: usize, on: bool, d: &[u32], f: &[u64], v: usize) -> bool
-    requires { ⌜ Here (length (now d)) t mask v × (length (now f) ≡ length (now d)) ⌝ }
-    ensures { λ r. ⌜ r ≡ eqb (entry (now (f .entry)) v)
-        (countAt (star (length (now (d .entry))) t mask) source (λ u. on) (entry (now (d .entry)))
-        (entry (now (f .entry))) v) ⌝ }
+// The count f(v) from the source is right, as far as v and its neighbours can tell; `on` says whether v is on the way.
+// A sum that does not fit 64 bits is no number of the sheet.
+fn count_right(
+    count: usize,
+    row: &[usize],
+    up: &[usize],
+    down: &[usize],
+    cost: &[u32],
+    mask: u32,
+    source: usize,
+    on: bool,
+    d: &[u32],
+    f: &[u64],
+    v: usize,
+) -> bool
+    requires { ⌜ Lent (tableOf count (now row) (now up) (now down) (now cost))
+        × Here (length (now d)) (tableOf count (now row) (now up) (now down) (now cost)) mask v
+        × (length (now f) ≡ length (now d)) ⌝ }
+    ensures { λ r. ⌜ r ≡ eqb (entry (now (f .entry)) v) (countAt
+        (star (length (now (d .entry)))
+        (tableOf count (now (row .entry)) (now (up .entry)) (now (down .entry)) (now (cost .entry))) mask)
+        source (λ u. on) (entry (now (d .entry))) (entry (now (f .entry))) v) ⌝ }
 {
     let x = f[v];
     if !on {
@@ -29,7 +43,7 @@ fn count_right(t: Reach, mask: u32, source: usize, on: bool, d: &[u32], f: &[u64
     if v == source {
         return x == 1;
     }
-    let Sum::Is(s) = neighbours::inflow_at(t, mask, d, f, v) else {
+    let Sum::Is(s) = neighbours::inflow_at(count, row, up, down, cost, mask, d, f, v) else {
         return false;
     };
     x == s
@@ -37,7 +51,11 @@ fn count_right(t: Reach, mask: u32, source: usize, on: bool, d: &[u32], f: &[u64
 
 // The numbers of v beside its cost from a are those of a route sheet.
 fn counts_right(
-    t: Reach,
+    count: usize,
+    row: &[usize],
+    up: &[usize],
+    down: &[usize],
+    cost: &[u32],
     mask: u32,
     a: usize,
     b: usize,
@@ -47,18 +65,21 @@ fn counts_right(
     back: &[u64],
     v: usize,
 ) -> bool
-    requires { ⌜ AtVertex t mask b (numbersOf (now d) (now e) (now f) (now back)) v ⌝ }
-    ensures { λ r. ⌜ r ≡ countsTest (star (length (now (d .entry))) t mask) a b
+    requires { ⌜ AtVertex (tableOf count (now row) (now up) (now down) (now cost)) mask b
+        (numbersOf (now d) (now e) (now f) (now back)) v ⌝ }
+    ensures { λ r. ⌜ r ≡ countsTest
+        (star (length (now (d .entry)))
+        (tableOf count (now (row .entry)) (now (up .entry)) (now (down .entry)) (now (cost .entry))) mask) a b
         (numbersOf (now (d .entry)) (now (e .entry)) (now (f .entry)) (now (back .entry))) v ⌝ }
 {
-    if !neighbours::cost_right(t, mask, b, e, v) {
+    if !neighbours::cost_right(count, row, up, down, cost, mask, b, e, v) {
         return false;
     }
     let on = neighbours::on_way(d, e, b, v);
-    if !count_right(t, mask, a, on, d, f, v) {
+    if !count_right(count, row, up, down, cost, mask, a, on, d, f, v) {
         return false;
     }
-    count_right(t, mask, b, on, e, back, v)
+    count_right(count, row, up, down, cost, mask, b, on, e, back, v)
 }
 
 // The numbers of v beside its cost from a are those of a no-route sheet: 0.
@@ -82,7 +103,11 @@ fn blank_at(e: &[u32], f: &[u64], back: &[u64], route: &[u16], v: usize) -> bool
 // The numbers of v are right: its cost from a, and the others by the kind of the sheet, with a route where `joined`
 // holds.
 fn vertex_right(
-    t: Reach,
+    count: usize,
+    row: &[usize],
+    up: &[usize],
+    down: &[usize],
+    cost: &[u32],
     mask: u32,
     joined: bool,
     a: usize,
@@ -94,21 +119,24 @@ fn vertex_right(
     route: &[u16],
     v: usize,
 ) -> bool
-    requires { ⌜ AtVertex t mask b
+    requires { ⌜ AtVertex (tableOf count (now row) (now up) (now down) (now cost)) mask b
         (numbersOf (now d) (now e) (now f) (now back)) v × (length (now route) ≡ length (now d)) ⌝ }
-    ensures { λ r. ⌜ r ≡ vertexTest joined (star (length (now (d .entry))) t mask) a b
+    ensures { λ r. ⌜ r ≡ vertexTest joined
+        (star (length (now (d .entry)))
+        (tableOf count (now (row .entry)) (now (up .entry)) (now (down .entry)) (now (cost .entry))) mask) a b
         (sheetOf (now (d .entry)) (now (e .entry)) (now (f .entry)) (now (back .entry)) (now (route .entry)) 0) v ⌝ }
 {
-    if !neighbours::cost_right(t, mask, a, d, v) {
+    if !neighbours::cost_right(count, row, up, down, cost, mask, a, d, v) {
         return false;
     }
     if joined {
-        return counts_right(t, mask, a, b, d, e, f, back, v);
+        return counts_right(count, row, up, down, cost, mask, a, b, d, e, f, back, v);
     }
     blank_at(e, f, back, route, v)
 }
 
-// The numbers of every vertex are right: one pass over the floor.
+// The numbers of every vertex are right: one pass over the floor. The left two cells of a vertex are the right two of
+// the vertex before it in its row; left of a row is outside the floor.
 pub fn vertices_right(
     w: usize,
     h: usize,
@@ -128,19 +156,48 @@ pub fn vertices_right(
         (sheetOf (now (d .entry)) (now (e .entry)) (now (f .entry)) (now (back .entry)) (now (route .entry)) 0) ⌝ }
 {
     let t = neighbours::reach_of(w, rows);
+    let count = t.count;
+    let row = t.row;
+    let up = t.up;
+    let down = t.down;
+    let cost = t.cost;
     let mut x: usize = 0;
     let mut y: usize = 0;
+    let mut nw = true;
+    let mut sw = true;
     for v in 0..d.len() {
-        let mask = moves::open_moves(w, h, map, x, y);
-        if !vertex_right(t, mask, joined, a, b, d, e, f, back, route, v) {
+        let ne = floor::blocked_at(w, h, map, x + 1, y);
+        let se = floor::blocked_at(w, h, map, x + 1, y + 1);
+        let mask = moves::open_rows(nw, ne, sw, se);
+        if !vertex_right(
+            count,
+            &row,
+            &up,
+            &down,
+            &cost,
+            mask,
+            joined,
+            a,
+            b,
+            d,
+            e,
+            f,
+            back,
+            route,
+            v,
+        ) {
             return false;
         }
-        if x < w {
-            x += 1;
+        if x == w {
+            x = 0;
+            y += 1;
+            nw = true;
+            sw = true;
             continue;
         }
-        x = 0;
-        y += 1;
+        x += 1;
+        nw = ne;
+        sw = se;
     }
     true
 }

@@ -31,6 +31,7 @@ readied-turned R = record {
   e-len = sym (R .e-len);
   work-len = omega (arith, R .work-len, R .e-len);
   short = omega (arith, R .short, R .e-len);
+  lent = R .lent;
   vertex = rw (R .e-len) (R .vertex);
   here = rw (R .e-len) (R .here);
 }

@@ -1,6 +1,7 @@
 -- One turn of a counting pass: the vertex gets its count, since the cheaper vertices on the way have theirs.
 --
---   count-zero, count-one, count-sum == what the code answers for a vertex off the way, for the start, and for any other
+--   count-zero, count-one, count-sum == what the code answers for a vertex off the way, for the start, and for any
+--                            other
 --   Counted g s x i P f   == the vertices of the first i turns have their counts from s, and off the way stands 0
 --   counted-none          == so it is at the start
 --   count-right           == the count that the code works out for the next vertex is its count
@@ -8,8 +9,8 @@
 --   count-over            == a count above 64 bits: so is the total
 --   counted-all           == after the last turn f holds the counts
 --   Turning ..            == what holds at turn i of a pass, on whatever graph its data are of
---   turn-start, turn-more, turn-over, turn-end == so it is at the start and one turn on; what it says where a count does
---                            not fit, and at the end
+--   turn-start, turn-more, turn-over, turn-end == so it is at the start and one turn on; what it says where a count
+--                            does not fit, and at the end
 --   turn-len              == the slice keeps its length
 use Prim.Native.Nat.{ℕ, suc, _+_, _^_, _≤_, _<_}
 use mathlib.Core.Path.{_≡_, sym, ap, _∙_, subst}
@@ -22,15 +23,22 @@ use lib.Seq.{getD-set-same, getD-set-other}
 use Rattle.basics.specs.Lists.{tabulate, zeros}
 use Rattle.basics.proofs.Order.{le-or-lt, eq-or-ne}
 use Rattle.basics.proofs.Bools.{true-or-false}
-use Rattle.basics.proofs.Lists.{tabulate-of}
+use Rattle.basics.proofs.Lists.{tabulate-of, getD-zeros}
 use Rattle.paths.specs.Graph.{Graph}
 use Rattle.paths.specs.Distance.{distance, pathCount}
 use Rattle.paths.specs.Route.{onShortest, onWay, countFrom}
 use Rattle.paths.specs.Local.{inflow, countAt, entry}
-use Rattle.paths.proofs.More.{getD-zeros}
 use Rattle.paths.proofs.Counts.{pathCount-self}
 use Rattle.paths.proofs.Way.{countFrom-way, countFrom-off, countFrom-fits}
-use Rattle.paths.proofs.CountTest.{Closed, closed-same, way-closed, countAt-start, countAt-other, countAt-off, count-next}
+use Rattle.paths.proofs.CountTest.{
+  Closed,
+  closed-same,
+  way-closed,
+  countAt-start,
+  countAt-other,
+  countAt-off,
+  count-next,
+}
 use Rattle.neighbours.specs.declared.Reach.{Reach}
 use Rattle.neighbours.specs.declared.Sum.{Sum}
 use Rattle.neighbours.specs.declared.Sum.the-variants.{Is, Over}
@@ -78,9 +86,9 @@ counted-none g s x P f e = record {
   off = λ u i o. ap (λ l. entry l u) e ∙ getD-zeros (g .size) u;
 }
 
-module _ {g : Graph} {t : Reach} {s x n : ℕ} {down : Bool} {d e work : List ℕ} (K : Known g t s x n down d e work) where
+module _ {g : Graph} {t : Reach} {s x n : ℕ} {rev : Bool} {d e work : List ℕ} (K : Known g t s x n rev d e work) where
   abbrev P : ℕ → ℕ
-  P = turnOf work n down
+  P = turnOf work n rev
 
   abbrev on : ℕ → Bool
   on = onShortest (entry d) (entry e) x
@@ -147,52 +155,53 @@ module _ {g : Graph} {t : Reach} {s x n : ℕ} {down : Bool} {d e work : List �
 
 -- ---- the loop of a pass
 
-pub record Turning (t : Reach) (s x n : ℕ) (down : Bool) (d e work : List ℕ) (i : ℕ) (f : List ℕ) : Type 0 where
+pub record Turning (t : Reach) (s x n : ℕ) (rev : Bool) (d e work : List ℕ) (i : ℕ) (f : List ℕ) : Type 0 where
   pub within : i ≤ n
   pub len : length f ≡ length d
-  pub counted : (g : Graph) → Known g t s x n down d e work → Counted g s x i (turnOf work n down) f
+  pub counted : (g : Graph) → Known g t s x n rev d e work → Counted g s x i (turnOf work n rev) f
 
-module _ {t : Reach} {s x n : ℕ} {down : Bool} {d e work : List ℕ} where
-  pub turn-start : {f : List ℕ} → f ≡ zeros (length d) → Turning t s x n down d e work 0 f
+module _ {t : Reach} {s x n : ℕ} {rev : Bool} {d e work : List ℕ} where
+  pub turn-start : {f : List ℕ} → f ≡ zeros (length d) → Turning t s x n rev d e work 0 f
   turn-start {f} q = record {
     within = omega arith;
     len = ap length q ∙ length-replicate (length d) 0;
-    counted = λ g K. counted-none g s x (turnOf work n down) f (rw (sym (d-len K)) q);
+    counted = λ g K. counted-none g s x (turnOf work n rev) f (rw (sym (d-len K)) q);
   }
 
-  pub turn-len : {i : ℕ} {f f₀ : List ℕ} → Turning t s x n down d e work i f → f₀ ≡ zeros (length d)
+  pub turn-len : {i : ℕ} {f f₀ : List ℕ} → Turning t s x n rev d e work i f → f₀ ≡ zeros (length d)
       → length f ≡ length f₀
   turn-len h q = h .len ∙ sym (ap length q ∙ length-replicate (length d) 0)
 
-  module _ {i : ℕ} {f : List ℕ} (h : Turning t s x n down d e work i f) (l : i < n) (u : ℕ)
-      (at : u ≡ turnOf work n down i) (r : Sum) (sum : r ≡ sumOf (countOf t (maskAt (length d) work u) s x d e f u)) where
+  module _ {i : ℕ} {f : List ℕ} (h : Turning t s x n rev d e work i f) (l : i < n) (u : ℕ)
+      (at : u ≡ turnOf work n rev i) (r : Sum)
+      (sum : r ≡ sumOf (countOf t (maskAt (length d) work u) s x d e f u)) where
     -- What was worked out is the count of the vertex.
-    worked : (g : Graph) (K : Known g t s x n down d e work)
-        → countOf t (maskAt (length d) work u) s x d e f u ≡ countFrom g s x (turnOf work n down i)
+    worked : (g : Graph) (K : Known g t s x n rev d e work)
+        → countOf t (maskAt (length d) work u) s x d e f u ≡ countFrom g s x (turnOf work n rev i)
     worked g K =
-        subst (λ v. countOf t (maskAt (length d) work v) s x d e f v ≡ countFrom g s x (turnOf work n down i)) (sym at)
+        subst (λ v. countOf t (maskAt (length d) work v) s x d e f v ≡ countFrom g s x (turnOf work n rev i)) (sym at)
         (count-right K l (h .counted g K))
 
-    pub turn-more : (y : ℕ) → r ≡ Is y → Turning t s x n down d e work (i + 1) (set f u y)
+    pub turn-more : (y : ℕ) → r ≡ Is y → Turning t s x n rev d e work (i + 1) (set f u y)
     turn-more y q = record {
       within = omega arith;
       len = length-set f u y ∙ h .len;
       counted = λ g K.
-          subst (λ v. Counted g s x (i + 1) (turnOf work n down) (set f v y)) (sym at)
+          subst (λ v. Counted g s x (i + 1) (turnOf work n rev) (set f v y)) (sym at)
           (counted-more K l (h .counted g K) y (sym (sumOf-is _ y (sym sum ∙ q)) ∙ worked g K));
     }
 
-    pub turn-over : r ≡ Over → (g : Graph) → Known g t s x n down d e work → Passed g s x f false
+    pub turn-over : r ≡ Over → (g : Graph) → Known g t s x n rev d e work → Passed g s x f false
     turn-over q g K = record {
       counted = λ z. absurd (true≢false (sym z));
       over = λ z. count-over K l (h .counted g K) (omega (arith, sumOf-passes _ (sym sum ∙ q), worked g K));
     }
 
-  pub turn-end : {i : ℕ} {f : List ℕ} → Turning t s x n down d e work i f → n ≤ i → (g : Graph)
-      → Known g t s x n down d e work → Passed g s x f true
+  pub turn-end : {i : ℕ} {f : List ℕ} → Turning t s x n rev d e work i f → n ≤ i → (g : Graph)
+      → Known g t s x n rev d e work → Passed g s x f true
   turn-end {i} {f} h l g K =
       let q : i ≡ n = omega (arith, h .within) in
       record {
-        counted = λ z. counted-all K (subst (λ j. Counted g s x j (turnOf work n down) f) q (h .counted g K));
+        counted = λ z. counted-all K (subst (λ j. Counted g s x j (turnOf work n rev) f) q (h .counted g K));
         over = λ z. absurd (true≢false z);
       }

@@ -31,32 +31,32 @@ use Rattle.counts.specs.Passes.{placeOf, turnOf, Known}
 
 -- ---- places from the front or from the back
 
-pub place-lt : (n i : ℕ) (down : Bool) → i < n → placeOf n i down < n
+pub place-lt : (n i : ℕ) (rev : Bool) → i < n → placeOf n i rev < n
 place-lt n i true l = omega arith
 place-lt n i false l = l
 
 -- The turn that comes to place j.
-place-turn : (n j : ℕ) (down : Bool) → j < n → placeOf n (placeOf n j down) down ≡ j
+place-turn : (n j : ℕ) (rev : Bool) → j < n → placeOf n (placeOf n j rev) rev ≡ j
 place-turn n j true l = omega arith
 place-turn n j false l = refl
 
 module _ {v n : ℕ} (d e work : List ℕ) where
   -- Where d and e make the same sum at both vertices, d rises with the turns.
-  turns-rise : (down : Bool) → Ordered v n (entry (pick down e d)) (entry work) → (i j : ℕ) → i ≤ j → j < n
-      → entry d (turnOf work n down i) + entry e (turnOf work n down i)
-      ≡ entry d (turnOf work n down j) + entry e (turnOf work n down j)
-      → entry d (turnOf work n down i) ≤ entry d (turnOf work n down j)
+  turns-rise : (rev : Bool) → Ordered v n (entry (pick rev e d)) (entry work) → (i j : ℕ) → i ≤ j → j < n
+      → entry d (turnOf work n rev i) + entry e (turnOf work n rev i)
+      ≡ entry d (turnOf work n rev j) + entry e (turnOf work n rev j)
+      → entry d (turnOf work n rev i) ≤ entry d (turnOf work n rev j)
   turns-rise true O i j le l same = omega (arith, O .rising (n - 1 - j) (n - 1 - i) (omega arith) (omega arith))
   turns-rise false O i j le l same = O .rising i j le l
 
-  turns-find : (down : Bool) → Ordered v n (entry (pick down e d)) (entry work) → (u : ℕ) → u < v
-      → entry d u < unreachable → entry e u < unreachable → (i : ℕ) × (i < n) × (turnOf work n down i ≡ u)
+  turns-find : (rev : Bool) → Ordered v n (entry (pick rev e d)) (entry work) → (u : ℕ) → u < v
+      → entry d u < unreachable → entry e u < unreachable → (i : ℕ) × (i < n) × (turnOf work n rev i ≡ u)
   turns-find true O u i p q =
       let r = O .found u i q in
       (n - 1 - r .0, omega (arith, r .1), ap (entry work) (place-turn n (r .0) true (r .1)) ∙ r .2)
   turns-find false O u i p q = O .found u i p
 
-module _ {g : Graph} {t : Reach} {s x n : ℕ} {down : Bool} {d e work : List ℕ} (K : Known g t s x n down d e work) where
+module _ {g : Graph} {t : Reach} {s x n : ℕ} {rev : Bool} {d e work : List ℕ} (K : Known g t s x n rev d e work) where
   -- ---- what the lists hold
 
   pub d-len : length d ≡ g .size
@@ -83,31 +83,31 @@ module _ {g : Graph} {t : Reach} {s x n : ℕ} {down : Bool} {d e work : List �
 
   -- ---- the turns
 
-  pub turn-inside : (i : ℕ) → i < n → turnOf work n down i < g .size
-  turn-inside i l = K .ordered .inside (placeOf n i down) (place-lt n i down l)
+  pub turn-inside : (i : ℕ) → i < n → turnOf work n rev i < g .size
+  turn-inside i l = K .ordered .inside (placeOf n i rev) (place-lt n i rev l)
 
-  pub turn-found : (u : ℕ) → u < g .size → onWay g s x u ≡ true → (i : ℕ) × (i < n) × (turnOf work n down i ≡ u)
+  pub turn-found : (u : ℕ) → u < g .size → onWay g s x u ≡ true → (i : ℕ) × (i < n) × (turnOf work n rev i ≡ u)
   turn-found u i o =
       let w = way-cases g s x u o in
       let p = d-at u i in
       let q = e-at u i in
-      turns-find d e work down (K .ordered) u i (omega (arith, w .reached)) (omega (arith, w .reached))
+      turns-find d e work rev (K .ordered) u i (omega (arith, w .reached)) (omega (arith, w .reached))
 
   turn-sum : (u : ℕ) → u < g .size → onWay g s x u ≡ true → entry d u + entry e u ≡ distance g s x
   turn-sum u i o = omega (arith, d-at u i, e-at u i, way-cases g s x u o .even)
 
   -- A vertex on the way has its turn before any on the way that costs more.
-  pub turn-before : (i u : ℕ) → i < n → onWay g s x (turnOf work n down i) ≡ true → u < g .size → onWay g s x u ≡ true
-      → distance g s u < distance g s (turnOf work n down i) → (j : ℕ) × (j < i) × (turnOf work n down j ≡ u)
+  pub turn-before : (i u : ℕ) → i < n → onWay g s x (turnOf work n rev i) ≡ true → u < g .size → onWay g s x u ≡ true
+      → distance g s u < distance g s (turnOf work n rev i) → (j : ℕ) × (j < i) × (turnOf work n rev j ≡ u)
   turn-before i u l o k p lt =
       let r = turn-found u k p in
-      let v = turnOf work n down i in
+      let v = turnOf work n rev i in
       let in-v = turn-inside i l in
-      let same : entry d v + entry e v ≡ entry d (turnOf work n down (r .0)) + entry e (turnOf work n down (r .0))
+      let same : entry d v + entry e v ≡ entry d (turnOf work n rev (r .0)) + entry e (turnOf work n rev (r .0))
       = turn-sum v in-v o ∙ sym (turn-sum u k p) ∙ ap (λ z. entry d z + entry e z) (sym (r .2)) in
-      let c : entry d (turnOf work n down (r .0)) ≡ distance g s u = ap (entry d) (r .2) ∙ d-at u k in (
+      let c : entry d (turnOf work n rev (r .0)) ≡ distance g s u = ap (entry d) (r .2) ∙ d-at u k in (
         r .0,
-        ⊎-elim (λ ge. absurd (omega (arith, turns-rise d e work down (K .ordered) i (r .0) ge (r .1) same, d-at v in-v)))
+        ⊎-elim (λ ge. absurd (omega (arith, turns-rise d e work rev (K .ordered) i (r .0) ge (r .1) same, d-at v in-v)))
             (λ h. h) (le-or-lt i (r .0)),
         r .2,
       )

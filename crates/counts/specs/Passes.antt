@@ -1,12 +1,13 @@
 -- The counting passes over the order of the vertices by their cost to b: what they are handed, and what they leave.
 -- Nobody has to believe these: the planner's contract is stated by the definitions of paths.
 --
---   placeOf n i down       == the place in an order of n that a pass comes to at turn i, from the front or from the back
---   turnOf work n down i   == the vertex at that place
+--   placeOf n i rev        == the place in an order of n that a pass comes to at turn i: from the front, or, reversed,
+--                             from the back
+--   turnOf work n rev i    == the vertex at that place
 --   countOf ..             == the count of vertex u, by the counts f of the vertices that the pass came to before
 --   Readied t n d e work   == a pass can read the order and the moves of every vertex
 --   Priced g t             == the table t has the costs of the moves of graph g
---   Known g t s x n down d e work == d are the costs from s, e those to x, which a walk from s reaches; the masks are
+--   Known g t s x n rev d e work == d are the costs from s, e those to x, which a walk from s reaches; the masks are
 --                             those of graph g; the order is by rising cost from s, or, for a pass from the back, to x
 --   Passed g s x f r       == f are the counts from s on the way to x, or r is false and the total is above 64 bits
 --   Filled g a b r f back  == r says whether the total fits 64 bits; f and back are the counts where it does, else 0
@@ -23,14 +24,14 @@ use Rattle.paths.specs.Route.{onShortest, countFrom, countTo}
 use Rattle.paths.specs.Sheet.{fits}
 use Rattle.paths.specs.Local.{countAt, entry}
 use Rattle.neighbours.specs.declared.Reach.{Reach}
-use Rattle.neighbours.specs.Reach.{star, Here}
+use Rattle.neighbours.specs.Reach.{star, Lent, Here}
 use Rattle.distances.specs.Order.{maskAt, Ordered, Masked}
 
 abbrev pub placeOf : ℕ → ℕ → Bool → ℕ
-placeOf n i down = pick down (n - 1 - i) i
+placeOf n i rev = pick rev (n - 1 - i) i
 
 abbrev pub turnOf : List ℕ → ℕ → Bool → ℕ → ℕ
-turnOf work n down i = entry work (placeOf n i down)
+turnOf work n rev i = entry work (placeOf n i rev)
 
 abbrev pub countOf : Reach → ℕ → ℕ → ℕ → List ℕ → List ℕ → List ℕ → ℕ → ℕ
 countOf t mask s x d e f = countAt (star (length d) t mask) s (onShortest (entry d) (entry e) x) (entry d) (entry f)
@@ -40,13 +41,14 @@ pub record Readied (t : Reach) (n : ℕ) (d e work : List ℕ) : Type 0 where
   pub e-len : length e ≡ length d
   pub work-len : length work ≡ 4 * length d
   pub short : n ≤ length d
+  pub lent : Lent t
   pub vertex : (i : ℕ) → i < n → entry work i < length d
   pub here : (u : ℕ) → u < length d → Here (length d) t (maskAt (length d) work u) u
 
 pub record Priced (g : Graph) (t : Reach) : Type 0 where
   pub cost : (m : ℕ) → m < g .moves → entry (t .cost) m ≡ g .cost m
 
-pub record Known (g : Graph) (t : Reach) (s x n : ℕ) (down : Bool) (d e work : List ℕ) : Type 0 where
+pub record Known (g : Graph) (t : Reach) (s x n : ℕ) (rev : Bool) (d e work : List ℕ) : Type 0 where
   pub lawful : Lawful g
   pub start-in : s < g .size
   pub goal-in : x < g .size
@@ -55,7 +57,7 @@ pub record Known (g : Graph) (t : Reach) (s x n : ℕ) (down : Bool) (d e work :
   pub costs-to : e ≡ tabulate (g .size) (λ v. distance g v x)
   pub masked : Masked g t work
   pub priced : Priced g t
-  pub ordered : Ordered (g .size) n (entry (pick down e d)) (entry work)
+  pub ordered : Ordered (g .size) n (entry (pick rev e d)) (entry work)
 
 pub record Passed (g : Graph) (s x : ℕ) (f : List ℕ) (r : Bool) : Type 0 where
   pub counted : r ≡ true → f ≡ tabulate (g .size) (countFrom g s x)

@@ -4,6 +4,8 @@
 // from the front, the counts from a from the back, since on the way the cost from a rises as the cost to b falls. A
 // vertex gets its count when all that its count is the sum of have theirs. A sum on the way never passes the total, so
 // a sum that does not fit says that the total does not.
+//
+// `count`, `row`, `up`, `down` and `cost` are a Reach of crate neighbours: the moves of the floor, lent list by list.
 ghost use mathlib.Core.Path.{_≡_};
 ghost use mathlib.Core.Bool.{true, false};
 ghost use Prim.Native.Nat.{_<_, _≤_};
@@ -11,9 +13,8 @@ ghost use lib.ListN.{length};
 ghost use Rattle.basics.specs.Lists.{zeros};
 ghost use Rattle.paths.specs.Graph.{Graph};
 ghost use Rattle.paths.specs.Local.{entry};
-ghost use Rattle.neighbours.specs.Reach.{Here, sumOf};
+ghost use Rattle.neighbours.specs.Reach.{tableOf, Lent, Here, sumOf};
 ghost use Rattle.counts.specs.Passes.{turnOf, countOf, Readied, Known, Passed, Filled};
-use neighbours::Reach;
 use neighbours::Sum;
 
 // A vertex number of the working slice, as an index.
@@ -24,11 +25,11 @@ fn index(x: u32) -> usize
 }
 
 // The vertex that a pass over the n places of the order comes to at turn i: from the front, or down from the back.
-fn vertex_of_turn(work: &[u32], n: usize, down: bool, i: usize) -> usize
+fn vertex_of_turn(work: &[u32], n: usize, rev: bool, i: usize) -> usize
     requires { ⌜ (n ≤ length (now work)) × (i < n) ⌝ }
-    ensures { λ r. ⌜ r ≡ turnOf (now (work .entry)) n down i ⌝ }
+    ensures { λ r. ⌜ r ≡ turnOf (now (work .entry)) n rev i ⌝ }
 {
-    if down {
+    if rev {
         return index(work[n - 1 - i]);
     }
     index(work[i])
@@ -37,7 +38,11 @@ fn vertex_of_turn(work: &[u32], n: usize, down: bool, i: usize) -> usize
 // The count of vertex u from the start, by the counts f of the vertices nearer to it: 1 at the start, else a sum over
 // the moves by which a cheapest walk comes to u; 0 off the way to the goal.
 fn count_of(
-    t: Reach,
+    count: usize,
+    row: &[usize],
+    up: &[usize],
+    down: &[usize],
+    cost: &[u32],
     mask: u32,
     start: usize,
     goal: usize,
@@ -46,9 +51,12 @@ fn count_of(
     f: &[u64],
     u: usize,
 ) -> Sum
-    requires { ⌜ Here (length (now d)) t mask u × (goal < length (now d))
-        × (length (now e) ≡ length (now d)) × (length (now f) ≡ length (now d)) ⌝ }
-    ensures { λ r. ⌜ r ≡ sumOf (countOf t mask start goal (now (d .entry)) (now (e .entry)) (now (f .entry)) u) ⌝ }
+    requires { ⌜ Lent (tableOf count (now row) (now up) (now down) (now cost))
+        × Here (length (now d)) (tableOf count (now row) (now up) (now down) (now cost)) mask u
+        × (goal < length (now d)) × (length (now e) ≡ length (now d)) × (length (now f) ≡ length (now d)) ⌝ }
+    ensures { λ r. ⌜ r ≡ sumOf (countOf
+        (tableOf count (now (row .entry)) (now (up .entry)) (now (down .entry)) (now (cost .entry))) mask
+        start goal (now (d .entry)) (now (e .entry)) (now (f .entry)) u) ⌝ }
 {
     if !neighbours::on_way(d, e, goal, u) {
         return Sum::Is(0);
@@ -56,29 +64,38 @@ fn count_of(
     if u == start {
         return Sum::Is(1);
     }
-    neighbours::inflow_at(t, mask, d, f, u)
+    neighbours::inflow_at(count, row, up, down, cost, mask, d, f, u)
 }
 
 // Fills f with the counts from the start on the way to the goal; false where one does not fit 64 bits.
 fn count_along(
-    t: Reach,
+    count: usize,
+    row: &[usize],
+    up: &[usize],
+    down: &[usize],
+    cost: &[u32],
     start: usize,
     goal: usize,
     d: &[u32],
     e: &[u32],
     n: usize,
-    down: bool,
+    rev: bool,
     work: &[u32],
     f: &mut [u64],
 ) -> bool
-    requires { ⌜ Readied t n (now d) (now e) (now work) × (goal < length (now d)) × (now f ≡ zeros (length (now d))) ⌝ }
-    ensures { λ r. ⌜ ((g : Graph) → Known g t start goal n down (now (d .entry)) (now (e .entry)) (now (work .entry))
+    requires { ⌜ Readied (tableOf count (now row) (now up) (now down) (now cost)) n (now d) (now e) (now work)
+        × (goal < length (now d)) × (now f ≡ zeros (length (now d))) ⌝ }
+    ensures { λ r. ⌜ ((g : Graph)
+        → Known g (tableOf count (now (row .entry)) (now (up .entry)) (now (down .entry)) (now (cost .entry)))
+        start goal n rev (now (d .entry)) (now (e .entry)) (now (work .entry))
         → Passed g start goal (now (f .exit)) r) ⌝ }
 {
     let masks = 2 * d.len();
     for i in 0..n {
-        let u = vertex_of_turn(work, n, down, i);
-        let Sum::Is(x) = count_of(t, work[masks + u], start, goal, d, e, f, u) else {
+        let u = vertex_of_turn(work, n, rev, i);
+        let mask = work[masks + u];
+        let sum = count_of(count, row, up, down, cost, mask, start, goal, d, e, f, u);
+        let Sum::Is(x) = sum else {
             return false;
         };
         f[u] = x;
@@ -89,7 +106,11 @@ fn count_along(
 // Fills f with the counts from a and back with the counts to b. Where the total does not fit 64 bits, answers false and
 // leaves both all 0. The pass that fills f cannot fail: its sums are at most the total, which then stands in `back`.
 pub fn fill_counts(
-    t: Reach,
+    count: usize,
+    row: &[usize],
+    up: &[usize],
+    down: &[usize],
+    cost: &[u32],
     a: usize,
     b: usize,
     n: usize,
@@ -99,13 +120,16 @@ pub fn fill_counts(
     f: &mut [u64],
     back: &mut [u64],
 ) -> bool
-    requires { ⌜ Readied t n (now d) (now e) (now work) × (a < length (now d)) × (b < length (now d))
+    requires { ⌜ Readied (tableOf count (now row) (now up) (now down) (now cost)) n (now d) (now e) (now work)
+        × (a < length (now d)) × (b < length (now d))
         × (now f ≡ zeros (length (now d))) × (now back ≡ zeros (length (now d))) ⌝ }
-    ensures { λ r. ⌜ ((g : Graph) → Known g t a b n true (now (d .entry)) (now (e .entry)) (now (work .entry))
+    ensures { λ r. ⌜ ((g : Graph)
+        → Known g (tableOf count (now (row .entry)) (now (up .entry)) (now (down .entry)) (now (cost .entry)))
+        a b n true (now (d .entry)) (now (e .entry)) (now (work .entry))
         → Filled g a b r (now (f .exit)) (now (back .exit))) ⌝ }
 {
-    if count_along(t, b, a, e, d, n, false, work, back) {
-        return count_along(t, a, b, d, e, n, true, work, f);
+    if count_along(count, row, up, down, cost, b, a, e, d, n, false, work, back) {
+        return count_along(count, row, up, down, cost, a, b, d, e, n, true, work, f);
     }
     basics::clear_u64(back);
     false

@@ -6,11 +6,12 @@
 --   mergeable          == so the merge can run
 --   ordered-costs      == the merge leaves the costs, their order and the masks
 --   filled-costs       == cleared, the costs alone
-use Prim.Native.Nat.{ℕ, _+_, _*_, _≤_}
+use Prim.Native.Nat.{ℕ, _+_, _*_, _≤_, _<_}
 use mathlib.Core.Path.{_≡_, refl, sym, ap, _∙_, subst}
 use mathlib.Core.List.{List}
 use native.Mathlib.Omega.{arith}
 use lib.ListN.{length, replicate}
+use Rattle.basics.specs.Lists.{tabulate}
 use Rattle.floor.specs.Floor.{Floor, floorOf, vertices, column, row}
 use Rattle.floor.proofs.Numbers.{vertices-le}
 use Rattle.moves.specs.declared.Rows.{Rows}
@@ -20,6 +21,7 @@ use Rattle.moves.specs.Masks.{OpenMask}
 use Rattle.moves.specs.Classes.{Classes}
 use Rattle.moves.proofs.Table.{listed-lawful}
 use Rattle.paths.specs.Graph.{Graph}
+use Rattle.paths.specs.Distance.{distance}
 use Rattle.grid.specs.Grid.{floorGraph}
 use Rattle.grid.proofs.Lawful.{floor-lawful}
 use Rattle.neighbours.specs.declared.Reach.{Reach}
@@ -43,10 +45,8 @@ unfolding readStep
 table-masked M = record {
   count = refl;
   here = λ u i. let H = M .here u i in record {
-    few = omega (arith, H .few, M .count);
     vertex = H .vertex;
-    readable = λ m l.
-        let R = H .readable m (omega (arith, M .count)) in record { place = R .place; movable = R .movable };
+    movable = λ m l. H .movable m (omega (arith, M .count));
     inside = λ m w l. H .inside m w (omega (arith, M .count));
   };
   step = M .step;
@@ -78,33 +78,33 @@ module _ {w h : ℕ} {map : List ℕ} {r : Rows} {a : ℕ} {d work : List ℕ} (
   abbrev f : Floor
   f = floorOf w h map
 
-  pub mergeable : {t : Reach} {l : List Class} → Built w r t → Classes r l
-      → 8 ≤ length (t .row) → 8 ≤ length (t .up) → 8 ≤ length (t .down)
-      → Mergeable (floorGraph f r) (t .row) (t .up) (t .down) l a d work
-  mergeable b C rows ups downs = record {
+  pub mergeable : {t : Reach} {l : List Class} {x : ℕ} → Built w r t → Classes r l → x < vertices w h
+      → Mergeable (floorGraph f r) (t .row) (t .up) (t .down) l x d work
+  mergeable b C inside = record {
     few = vertices-le (J .sized .wide) (J .sized .high);
     lawful = floor-lawful f r (listed-lawful (J .listed));
-    table = let few = listed-few (J .listed) in record {
-      few = few;
-      rows = omega (arith, few);
-      ups = omega (arith, few);
-      downs = omega (arith, few);
+    table = record {
+      few = listed-few (J .listed);
+      rows = omega (arith, b .count, b .lent .rows);
+      ups = omega (arith, b .count, b .lent .ups);
+      downs = omega (arith, b .count, b .lent .downs);
     };
     masked = table-masked (masked-of f (J .sized .wide) (J .sized .high) (J .listed) b o);
     classes = classes-of f C;
-    source = J .source;
+    source = inside;
     d-len = J .d-len;
     work-len = J .work-len;
   }
 
-  module _ {n : ℕ} {d′ work′ : List ℕ} (S : SettledCosts (floorGraph f r) a n d′ work work′) where
+  module _ {x n : ℕ} {d′ work′ : List ℕ} (S : SettledCosts (floorGraph f r) x n d′ work work′) where
     masks-kept : OpenMasks f work′
     masks-kept v i =
         subst (OpenMask f (column w v) (row w v)) (sym (S .rest (2 * vertices w h + v) (omega arith))) (o v i)
 
-    pub ordered-costs : OrderedCosts f r a n d′ work′
-    ordered-costs = record {
-      costs = S .costs;
+    pub ordered-costs : d′ ≡ tabulate (floorGraph f r .size) (distance (floorGraph f r) a)
+        → OrderedCosts f r a n d′ work′
+    ordered-costs costs = record {
+      costs = costs;
       few = S .few;
       work-len = S .work-len;
       ordered = S .ordered;

@@ -1,15 +1,14 @@
 -- The far ends of the moves of one class from a vertex, offered a key one after the other.
 --
---   by-bit             == the far end worked out with the bit of a move
 --   FarEnd g u m x     == x is where move m leads from u, or u itself where it is not open
 --   far-end            == so is what the code reads off a mask
 --   Offered ..         == the settled after an offer: the far end of move m from u costs at most key
 --   offered            == an offer leaves them so
 --   RelaxedTo ..       == the moves of a class before the member m are relaxed: the invariant of the loop over a class
-use Prim.Native.Nat.{ℕ, zero, suc, _+_, _-_, _*_, _/_, _%_, _^_, _≤_, _<_}
+use Prim.Native.Nat.{ℕ, _+_, _*_, _≤_, _<_}
 use mathlib.Core.Path.{_≡_, sym, ap, _∙_}
 use mathlib.Core.Logic.{_⊎_, inl, inr, ⊎-elim}
-use mathlib.Core.Bool.{true, false}
+use mathlib.Core.Bool.{true}
 use mathlib.Core.Option.{Option, none, some}
 use mathlib.Core.List.{List}
 use native.Mathlib.Omega.{arith}
@@ -20,6 +19,7 @@ use lib.Seq.{set-getD}
 use Rattle.basics.specs.Bounded.{pick}
 use Rattle.basics.proofs.Order.{eq-or-ne}
 use Rattle.basics.proofs.Bools.{true-or-false}
+use Rattle.basics.proofs.Bounded.{pick-no}
 use Rattle.moves.specs.declared.Class.{Class}
 use Rattle.moves.specs.Masks.{bit, Movable, maskedVertex}
 use Rattle.moves.specs.Classes.{Member}
@@ -27,33 +27,16 @@ use Rattle.moves.proofs.Classes.{member-first, member-next, member-between}
 use Rattle.paths.specs.Graph.{Graph}
 use Rattle.paths.specs.Distance.{unreachable}
 use Rattle.paths.specs.Local.{entry}
-use Rattle.paths.proofs.More.{pick-no}
 use Rattle.paths.proofs.Listing.{at-cost}
 use Rattle.paths.proofs.Distance.{snoc}
 use Rattle.neighbours.specs.declared.Reach.{Reach}
 use Rattle.neighbours.specs.Reach.{offsetIn, readStep}
 use Rattle.distances.specs.Order.{maskAt, Masked}
-use Rattle.distances.specs.Merge.{by, Given, Settled, Ready, KeyWalk, Grown, Relaxed}
+use Rattle.distances.specs.Merge.{Given, Settled, Ready, KeyWalk, Grown, Relaxed}
 use Rattle.distances.proofs.Store.{key-low, grown-refl, grown-trans, at-w, grown-more, ready-more}
 use Rattle.distances.proofs.Store.{ready-past, grown-past}
 
 -- ---- the far end of a move
-
--- What the code works out with b, the bit of the move's row in the mask.
-pub record ByBit (mask u row up down b : ℕ) : Type 0 where
-  pub ups : up * b ≤ up
-  pub enough : down * b ≤ u + up * b
-  pub far : u + up * b - down * b ≡ maskedVertex mask u row (by up down)
-
-pub by-bit : {mask u row up down : ℕ} (b : ℕ) → Movable mask u row (by up down) → b ≡ mask / 2 ^ row % 2
-    → ByBit mask u row up down b
-by-bit {mask} {u} {row} zero M e =
-    let shut : bit mask row ≡ false = ne-eqb _ _ (λ (q : mask / 2 ^ row % 2 ≡ 1). omega arith) in
-    record { ups = omega arith; enough = omega arith; far = rw shut (omega arith) }
-by-bit {mask} {u} {row} (suc zero) M e =
-    let free : bit mask row ≡ true = eq-eqb _ _ (sym e) in
-    record { ups = omega arith; enough = omega (arith, M .enough free); far = rw free (omega arith) }
-by-bit {mask} {u} {row} (suc (suc b)) M e = absurd (omega arith)
 
 pub record FarEnd (g : Graph) (u m x : ℕ) : Type 0 where
   pub inside : x < g .size
@@ -87,7 +70,7 @@ module _ {g : Graph} {t : Reach} {work : List ℕ} (K : Masked g t work) (u m : 
   -- the same with the place q of the mask, as the code works it out
   module _ (q : ℕ) (at : q ≡ 2 * g .size + u) where
     pub movable-at : Movable (entry work q) u (entry (t .row) m) (offsetIn t m)
-    movable-at = rw at (K .here u i .readable m (omega (arith, K .count)) .movable)
+    movable-at = rw at (K .here u i .movable m (omega (arith, K .count)))
 
     pub far-end-at : {x : ℕ} → x ≡ maskedVertex (entry work q) u (entry (t .row) m) (offsetIn t m) → FarEnd g u m x
     far-end-at e = rw (e, at) far-end

@@ -13,12 +13,12 @@ use lib.Dec.{ltb}
 use lib.ListN.{length, getD, set, replicate, length-set, length-replicate, getD-replicate}
 use lib.Seq.{getD-set-same, getD-set-other}
 use Rattle.basics.proofs.Order.{eq-or-ne}
+use Rattle.basics.proofs.Bounded.{pick-no}
 use Rattle.moves.specs.declared.Class.{Class}
 use Rattle.moves.specs.Classes.{Member, classAt}
 use Rattle.paths.specs.Graph.{Graph}
 use Rattle.paths.specs.Distance.{unreachable}
 use Rattle.paths.specs.Local.{entry}
-use Rattle.paths.proofs.More.{pick-no}
 use Rattle.paths.proofs.Listing.{HasWalk, stop}
 use Rattle.distances.specs.Merge.{reached, OneCost, CostClasses, Settled, Merging}
 use Rattle.distances.proofs.Store.{reached-set}

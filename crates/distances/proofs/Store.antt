@@ -18,10 +18,10 @@ use lib.ListN.{length, set, length-set}
 use lib.Seq.{getD-set-same, getD-set-other}
 use Rattle.basics.specs.Bounded.{pick}
 use Rattle.basics.proofs.Order.{le-or-lt, eq-or-ne}
+use Rattle.basics.proofs.Bounded.{pick-yes, pick-no}
 use Rattle.paths.specs.Graph.{Graph}
 use Rattle.paths.specs.Distance.{unreachable}
 use Rattle.paths.specs.Local.{entry}
-use Rattle.paths.proofs.More.{pick-yes, pick-no}
 use Rattle.paths.proofs.Listing.{HasWalk}
 use Rattle.distances.specs.Order.{Ordered}
 use Rattle.distances.specs.Merge.{reached, Settled, Ready, Grown}

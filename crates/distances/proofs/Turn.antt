@@ -22,12 +22,12 @@ use lib.ListN.{length, getD, set}
 use lib.Seq.{getD-set-same, getD-set-other}
 use Rattle.basics.proofs.Order.{le-or-lt, eq-or-ne}
 use Rattle.basics.proofs.Lists.{tabulate-of}
+use Rattle.basics.proofs.Bounded.{pick-yes, pick-no}
 use Rattle.moves.specs.declared.Class.{Class}
 use Rattle.moves.specs.Classes.{Member, classAt}
 use Rattle.paths.specs.Graph.{Graph, Lawful}
 use Rattle.paths.specs.Distance.{unreachable, distance}
 use Rattle.paths.specs.Local.{entry}
-use Rattle.paths.proofs.More.{pick-yes, pick-no}
 use Rattle.paths.proofs.Costs.{walked-true}
 use Rattle.neighbours.specs.declared.Reach.{Reach}
 use Rattle.neighbours.specs.Reach.{readStep, Here}
@@ -69,8 +69,8 @@ masked-same {g} {t} {work₀} {work} M same = record {
 
 -- ---- the positions
 
-module _ {g : Graph} {a n r key : ℕ} {d d′ work work′ : List ℕ} (S : Settled g a n d work) (R : Ready g a r key d′ work′)
-    (G : Grown (g .size) n r key d d′ work work′) where
+module _ {g : Graph} {a n r key : ℕ} {d d′ work work′ : List ℕ} (S : Settled g a n d work)
+    (R : Ready g a r key d′ work′) (G : Grown (g .size) n r key d d′ work work′) where
   -- what stood before stands where it stood, at its cost
   stays : (i : ℕ) → i < n → entry d′ (entry work′ i) ≡ entry d (entry work i)
   stays i h = ap (entry d′) (G .same-order i h) ∙ G .same-cost (entry work i) (S .ordered .placed i h)
@@ -91,8 +91,8 @@ module _ {g : Graph} {a n r key : ℕ} {d d′ work work′ : List ℕ} (S : Set
       room = λ f. omega (arith, P .room f, G .more);
       relaxed = relaxed-on;
       pending = λ i h k. let u = R .under i h in ⊎-elim
-          (λ l. omega (arith, stays p l, key-in n p (c .cost) d work l)) (λ l. omega (arith, G .fresh p (omega arith) k))
-          (le-or-lt (suc p) n);
+          (λ l. omega (arith, stays p l, key-in n p (c .cost) d work l))
+          (λ l. omega (arith, G .fresh p (omega arith) k)) (le-or-lt (suc p) n);
     }
 
     pub passed-next : p < n → key ≡ entry d (entry work p) + c .cost
@@ -205,8 +205,8 @@ module _ {g : Graph} {a n k key : ℕ} {l : List Class} {pos d work₀ work : Li
       classes = K .classes;
       passed = λ j h. ⊎-elim
           (λ e. subst (λ z. Passed g r (classAt l z) (getD (set pos k (p + 1)) z 0) d′ work′) (sym e) moved)
-          (λ e. subst (λ z. Passed g r (classAt l j) z d′ work′) (sym (getD-set-other pos k j (p + 1) 0 e)) (stayed j h))
-          (eq-or-ne j k);
+          (λ e. subst (λ z. Passed g r (classAt l j) z d′ work′) (sym (getD-set-other pos k j (p + 1) 0 e))
+          (stayed j h)) (eq-or-ne j k);
       rest = λ i h. P .grown .same-rest i h ∙ K .rest i h;
     }
       where

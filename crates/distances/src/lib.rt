@@ -33,24 +33,8 @@ pub fn costs_over_masks(
     merge::settle(w, h, map, rows, &row, &up, &down, classes, a.0, d, work)
 }
 
-// Fills d with the costs from a; leaves masks and order in `work`, and answers the order's length.
-pub fn costs_and_order(
-    w: usize,
-    h: usize,
-    map: &[u8],
-    rows: Rows,
-    a: Vertex,
-    d: &mut [u32],
-    work: &mut [u32],
-) -> usize
-    requires { ⌜ Costing w h (now map) rows (a .0) (now d) (now work) ⌝ }
-    ensures { λ n. ⌜ OrderedCosts (floorOf w h (now (map .entry))) rows (a .0) n (now (d .exit)) (now (work .exit)) ⌝ }
-{
-    masks::fill_masks(w, h, map, work);
-    costs_over_masks(w, h, map, rows, a, d, work)
-}
-
-// Fills d with the costs from a, and `work` with 0.
+// Fills d with the costs from a, and `work` with 0. One of the planner's two inner operations, whole by itself: it
+// relies on nothing that stands in the two slices. A whole plan, which needs the masks again, calls its parts instead.
 pub fn fill_costs(
     w: usize,
     h: usize,
@@ -64,6 +48,7 @@ pub fn fill_costs(
     ensures { λ _. ⌜ FilledCosts (floorGraph (floorOf w h (now (map .entry))) rows) (a .0) (now (d .exit))
         (now (work .exit)) ⌝ }
 {
-    costs_and_order(w, h, map, rows, a, d, work);
+    masks::fill_masks(w, h, map, work);
+    costs_over_masks(w, h, map, rows, a, d, work);
     basics::fill_u32(work, 0);
 }

@@ -5,8 +5,8 @@ ghost use lib.ListN.{length};
 ghost use Rattle.floor.specs.Floor.{Sized, floorOf, vertices};
 ghost use Rattle.distances.specs.Order.{MasksTo};
 
-// Stores the mask of each vertex v at place 2 * V + v of `work`. The left two cells of a vertex are the right two of the
-// vertex before it in its row; left of a row is outside the floor.
+// Stores the mask of each vertex v at place 2 * V + v of `work`. The left two cells of a vertex are the right two of
+// the vertex before it in its row; left of a row is outside the floor.
 pub fn fill_masks(w: usize, h: usize, map: &[u8], work: &mut [u32])
     requires { ⌜ Sized w h (now map) × (length (now work) ≡ 4 * vertices w h) ⌝ }
     ensures { λ _. ⌜ MasksTo (floorOf w h (now (map .entry))) (vertices w h) (now (work .entry)) (now (work .exit)) ⌝ }

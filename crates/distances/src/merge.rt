@@ -1,6 +1,6 @@
 // The ordered merge: the vertices settled in order of cost, with no queue. `work` begins with the settled vertices in
-// the order in which they were settled; each class of moves of one cost has a position in that order, and the least key,
-// a settled cost and the cost of a class, is given to the far ends of that class that have no cost yet.
+// the order in which they were settled; each class of moves of one cost has a position in that order, and the least
+// key, a settled cost and the cost of a class, is given to the far ends of that class that have no cost yet.
 ghost use mathlib.Core.Path.{_≡_};
 ghost use Prim.Native.Nat.{_+_, _<_, _≤_};
 ghost use lib.ListN.{length};
@@ -21,14 +21,16 @@ fn wide(x: u32) -> usize
     x as usize
 }
 
-// Where a move leads from u, by the mask of u's open moves: u changed by `up` less `down`, where the mask has the bit of
-// the move's row; else u itself. No branch.
+// Where a move leads from u, by the mask of u's open moves: u changed by `up` less `down`, where the mask has the bit
+// of the move's row; else u itself. Compiled it is a choice of two numbers, with no branch.
 fn far_vertex(mask: u32, u: usize, row: usize, up: usize, down: usize) -> usize
     requires { ⌜ Movable mask u row (by up down) ⌝ }
     ensures { λ r. ⌜ r ≡ maskedVertex mask u row (by up down) ⌝ }
 {
-    let is_open = wide((mask >> row) % 2);
-    u + up * is_open - down * is_open
+    if (mask >> row) % 2 == 1 {
+        return u + up - down;
+    }
+    u
 }
 
 // The cost c after key was offered: the key where there was none.
@@ -157,8 +159,8 @@ pub fn settle(
 ) -> usize
     requires { ⌜ Mergeable (floorGraph (floorOf w h (now map)) rows) (now row) (now up) (now down) classes a
         (now d) (now work) ⌝ }
-    ensures { λ n. ⌜ SettledCosts (floorGraph (floorOf w h (now (map .entry))) rows) a n (now (d .exit)) (now (work .entry))
-        (now (work .exit)) ⌝ }
+    ensures { λ n. ⌜ SettledCosts (floorGraph (floorOf w h (now (map .entry))) rows) a n (now (d .exit))
+        (now (work .entry)) (now (work .exit)) ⌝ }
 {
     basics::fill_u32(d, paths::UNREACHABLE);
     d[a] = 0;

@@ -31,7 +31,8 @@ pub largest-none : (l : List ℕ) → Largest l (length l) 0 0
 unfolding every
 largest-none l = record { end = refl; within = omega arith; is = refl }
 
-pub largest-more : {l : List ℕ} {n k m : ℕ} (r : ℕ) → Largest l n k m → k < n → r ≡ max m (getD l k 0) → Largest l n (k + 1) r
+pub largest-more : {l : List ℕ} {n k m : ℕ} (r : ℕ) → Largest l n k m → k < n → r ≡ max m (getD l k 0)
+    → Largest l n (k + 1) r
 unfolding every
 largest-more {l} {n} {k} {m} r h i e = record {
   end = h .end;

@@ -1,4 +1,5 @@
--- What a cell reads as: outside the map it is blocked, inside the floor's cell says; two floors with the same cells read the same.
+-- What a cell reads as: outside the map it is blocked, inside the floor's cell says; two floors with the same cells
+-- read the same.
 use Prim.Native.Nat.{ℕ, zero, suc, _-_, _≤_, _<_}
 use mathlib.Core.Path.{_≡_, refl, ap₂, _∙_}
 use mathlib.Core.Bool.{Bool, true, false, _&&_, _||_, not, and-false}
@@ -28,7 +29,8 @@ blocked-below f zero y e = refl
 blocked-below f (suc i) zero e = refl
 blocked-below f (suc i) (suc j) e = rw (le-ltb j (f .high) (omega arith), and-false (ltb i (f .wide)))
 
-pub blocked-inside : (f : Floor) (x y : ℕ) → 1 ≤ x → 1 ≤ y → x ≤ f .wide → y ≤ f .high → blocked f x y ≡ f .cell (x - 1) (y - 1)
+pub blocked-inside : (f : Floor) (x y : ℕ) → 1 ≤ x → 1 ≤ y → x ≤ f .wide → y ≤ f .high
+    → blocked f x y ≡ f .cell (x - 1) (y - 1)
 unfolding blocked
 blocked-inside f zero y a b c d = absurd (omega arith)
 blocked-inside f (suc i) zero a b c d = absurd (omega arith)
@@ -46,7 +48,8 @@ blocked-same f h p q e (suc i) (suc j) =
     cases (ltb i (f .wide)) (ltb j (f .high)) refl refl ∙ ap₂ (λ a b. not (ltb i a && ltb j b) || h .cell i j) p q
   where
     cases : (a b : Bool) → ltb i (f .wide) ≡ a → ltb j (f .high) ≡ b
-        → (not (ltb i (f .wide) && ltb j (f .high)) || f .cell i j) ≡ (not (ltb i (f .wide) && ltb j (f .high)) || h .cell i j)
+        → (not (ltb i (f .wide) && ltb j (f .high)) || f .cell i j)
+        ≡ (not (ltb i (f .wide) && ltb j (f .high)) || h .cell i j)
     cases true true m n = rw (e i j (ltb-true i (f .wide) m) (ltb-true j (f .high) n))
     cases true false m n = rw (m, n)
     cases false b m n = rw m

@@ -10,7 +10,8 @@ use lib.ListN.{length}
 use Rattle.basics.specs.Bounded.{pick, every}
 use Rattle.basics.proofs.Bools.{and-left, and-right}
 use Rattle.floor.specs.Floor.{Sized, vertices}
-use Rattle.floor.specs.Refusals.{side, mapByte, floorShape, endShape}
+use Rattle.floor.specs.Refusals.{side, mapByte, floorShape, endShape, andThen}
+use Rattle.floor.specs.declared.Refusal.{Refusal}
 use Rattle.floor.specs.declared.Refusal.the-variants.{Size, MapLength, MapByte, End}
 use Rattle.floor.specs.declared.Shape.{Shape}
 use Rattle.floor.specs.declared.Shape.the-variants.{Good, Refused}
@@ -60,12 +61,29 @@ pub record GoodFloor (w h : ℕ) (l : List ℕ) : Type 0 where
 never : {P : Type 0} {r : _} → _≡_ {A = Shape} (Refused r) Good → P
 never {P} {r} e = let z : _≡_ {A = ℕ} 0 1 = cc in absurd (omega arith)
 
+-- One shape, then another.
+pub then-refused : {r : Refusal} (s t : Shape) → s ≡ Refused r → s ≡ andThen s t
+then-refused s t e = rw e
+
+pub then-good : (s t : Shape) → s ≡ Good → t ≡ andThen s t
+then-good s t e = rw e
+
+pub good-first : (s t : Shape) → andThen s t ≡ Good → s ≡ Good
+good-first Good t e = refl
+good-first (Refused r) t e = never e
+
+pub good-second : (s t : Shape) → andThen s t ≡ Good → t ≡ Good
+good-second Good t e = e
+good-second (Refused r) t e = never e
+
 pub good-floor : (w h : ℕ) (l : List ℕ) → floorShape w h l ≡ Good → GoodFloor w h l
 unfolding floorShape
-good-floor w h l e = cases (side w) (side h) (eqb (length l) (w * h)) (every (length l) (mapByte l)) refl refl refl refl e
+good-floor w h l e =
+    cases (side w) (side h) (eqb (length l) (w * h)) (every (length l) (mapByte l)) refl refl refl refl e
   where
     cases : (a b c d : Bool) → side w ≡ a → side h ≡ b → eqb (length l) (w * h) ≡ c → every (length l) (mapByte l) ≡ d
-        → pick (a && b) (pick c (pick d Good (Refused MapByte)) (Refused MapLength)) (Refused Size) ≡ Good → GoodFloor w h l
+        → pick (a && b) (pick c (pick d Good (Refused MapByte)) (Refused MapLength)) (Refused Size) ≡ Good
+        → GoodFloor w h l
     cases true true true true p q r s x = record {
       sized = record {
         wide = leb-true w 127 (and-right (leb 1 w) (leb w 127) p);

@@ -3,8 +3,8 @@
 --   Floor            == its sides in cells, and whether the cell in column i and row j is blocked
 --   floorOf w h l    == the floor of width w and height h whose map is the list of bytes l
 --   blocked f x y    == the cell that has the vertex (x, y) as its lower right corner, cell (x - 1, y - 1), is blocked;
---                       everything outside the map is. So cell (i, j) is `blocked f (suc i) (suc j)`, and the four cells at
---                       the vertex (x, y) are `blocked f` at (x, y), (suc x, y), (x, suc y) and (suc x, suc y)
+--                       everything outside the map is. So cell (i, j) is `blocked f (suc i) (suc j)`, and the four
+--                       cells at the vertex (x, y) are `blocked f` at (x, y), (suc x, y), (x, suc y) and (suc x, suc y)
 --   vertices w h     == the number of vertices, V
 --   number w x y     == the number of the vertex in column x and row y
 --   column w v, row w v == the column and the row of vertex v

@@ -54,7 +54,8 @@ mapByte l k = leb (getD l k 0) 1
 unfoldable pub floorShape : ℕ → ℕ → List ℕ → Shape
 floorShape w h l =
     pick (side w && side h)
-    (pick (eqb (length l) (w * h)) (pick (every (length l) (mapByte l)) Good (Refused MapByte)) (Refused MapLength)) (Refused Size)
+    (pick (eqb (length l) (w * h)) (pick (every (length l) (mapByte l)) Good (Refused MapByte)) (Refused MapLength))
+    (Refused Size)
 
 unfoldable pub endShape : ℕ → ℕ → ℕ → Shape
 endShape w h v = pick (ltb v (vertices w h)) Good (Refused End)

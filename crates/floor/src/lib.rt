@@ -131,7 +131,8 @@ fn larger(a: u8, b: u8) -> u8
     a
 }
 
-// Every byte of the map is 0 or 1. It takes the largest byte, with no early end: so the compiled loop goes many bytes at a time.
+// Every byte of the map is 0 or 1. It takes the largest byte, with no early end: so the compiled loop goes many bytes
+// at a time.
 fn bytes_good(map: &[u8]) -> bool
     ensures { λ r. ⌜ r ≡ every (length (now (map .entry))) (mapByte (now (map .entry))) ⌝ }
 {

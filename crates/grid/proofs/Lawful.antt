@@ -13,7 +13,8 @@ use mathlib.Core.Option.{some}
 use native.Mathlib.Omega.{arith}
 use Rattle.basics.proofs.Order.{le-or-lt}
 use Rattle.floor.specs.Floor.{Floor, vertices, column, row}
-use Rattle.floor.proofs.Numbers.{vertices-le, vertices-pos, number-lt, column-le, row-le, column-number, row-number}
+use Rattle.floor.proofs.Numbers.{vertices-le, vertices-pos, number-lt, number-of}
+use Rattle.floor.proofs.Numbers.{column-le, row-le, column-number, row-number}
 use Rattle.sight.specs.Sight.{Segment, segmentOf, sees}
 use Rattle.sight.proofs.Symmetry.{sees-back, sees-same}
 use Rattle.moves.specs.declared.Move.{Move}
@@ -23,7 +24,6 @@ use Rattle.moves.specs.Steps.{openEndAt, openEnd}
 use Rattle.moves.specs.Table.{oppositeOf, lawfulRows}
 use Rattle.moves.proofs.Table.{Turned, LawfulMove, lawful-move, offset-eq}
 use Rattle.moves.proofs.Steps.{Goes, goes-open, open-goes}
-use Rattle.moves.proofs.Masked.{number-of}
 use Rattle.paths.specs.Graph.{Lawful}
 use Rattle.grid.specs.Grid.{floorGraph}
 

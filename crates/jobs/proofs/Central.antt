@@ -19,18 +19,18 @@ use lib.ListN.{length, getD}
 use Rattle.basics.specs.Lists.{padded}
 use Rattle.basics.proofs.Order.{le-or-lt}
 use Rattle.basics.proofs.Bounded.{every-all}
-use Rattle.basics.proofs.Lists.{tabulate-cong}
+use Rattle.basics.proofs.Lists.{tabulate-cong, length-padded, getD-padded, getD-padded-past}
+use Rattle.basics.proofs.Options.{none-some}
 use Rattle.floor.specs.Floor.{Floor, floorOf, vertices, number, column, row}
+use Rattle.floor.proofs.Numbers.{number-of}
 use Rattle.sight.specs.Sight.{segment, sees}
 use Rattle.moves.specs.declared.Move.{Move}
 use Rattle.moves.specs.declared.Rows.{Rows}
 use Rattle.moves.specs.Moves.{moveAt}
 use Rattle.moves.specs.Steps.{thenAt, farEndAt, openEndAt, openEnd}
-use Rattle.moves.proofs.Masked.{number-of}
 use Rattle.paths.specs.Graph.{Graph, Lawful}
 use Rattle.paths.specs.Distance.{unreachable, distance}
 use Rattle.paths.specs.Route.{centralRoute}
-use Rattle.paths.proofs.More.{none-some, length-padded, getD-padded, getD-padded-past}
 use Rattle.paths.proofs.Listing.{Walk, stop, go}
 use Rattle.paths.proofs.Route.{route-walk, route-pos, route-length, route-inside}
 use Rattle.grid.specs.Grid.{floorGraph, jobOf}

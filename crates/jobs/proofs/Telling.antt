@@ -15,6 +15,7 @@ use borrow.Author.Tests.{eq-eqb}
 use lib.ListN.{length}
 use Rattle.basics.specs.Bounded.{pick}
 use Rattle.basics.specs.Lists.{padded}
+use Rattle.basics.proofs.Lists.{length-padded}
 use Rattle.floor.specs.Floor.{Floor, floorOf, vertices}
 use Rattle.floor.specs.Refusals.{refusalNumber}
 use Rattle.floor.specs.declared.Refusal.{Refusal}
@@ -24,7 +25,6 @@ use Rattle.paths.specs.Graph.{Graph}
 use Rattle.paths.specs.Distance.{unreachable, distance, pathCount}
 use Rattle.paths.specs.Route.{centralRoute}
 use Rattle.paths.specs.Sheet.{joined, fits, routeSheet, noRouteSheet}
-use Rattle.paths.proofs.More.{length-padded}
 use Rattle.paths.proofs.Sheets.{joined-reached}
 use Rattle.grid.specs.Grid.{floorGraph, jobOf}
 use Rattle.grid.specs.declared.Job.{Job}

@@ -10,10 +10,9 @@ use native.Mathlib.Omega.{arith}
 use lib.ListN.{length, getD, length-append}
 use lib.Seq.{getD-take}
 use Rattle.basics.specs.Lists.{padded}
-use Rattle.basics.proofs.Lists.{tabulate-cong}
+use Rattle.basics.proofs.Lists.{tabulate-cong, length-padded}
 use Rattle.floor.specs.Floor.{Floor, floorOf}
 use Rattle.floor.specs.declared.Shape.the-variants.{Good}
-use Rattle.paths.proofs.More.{length-padded}
 use Rattle.thinning.specs.Thinning.{keptPositions}
 use Rattle.thinning.specs.Answer.{listShape, thinAnswer, thinOutput, Thins, thinKept}
 use Rattle.thinning.specs.declared.Thinned.{Thinned}

@@ -2,7 +2,6 @@
 -- leads.
 --
 --   composed        == the offset of a move, from the parts of its two offsets
---   number-of       == a vertex number from its column and row
 --   masked-open     == so it does
 --   masked-movable  == and that can be worked out
 --   masked-vertex, masked-stays == with no branch: the same where the move is open, the vertex itself where it is not
@@ -11,11 +10,11 @@ use mathlib.Core.Path.{_≡_, refl, sym, ap, _∙_}
 use mathlib.Core.Bool.{true, false}
 use mathlib.Core.Option.{Option, none, some}
 use native.Mathlib.Omega.{arith}
-use native.Mathlib.Nat.{div-add-mod', mul-le-mul}
+use native.Mathlib.Nat.{mul-le-mul}
 use native.Mathlib.Numerals.{add-one}
 use lib.ListN.{length}
 use Rattle.floor.specs.Floor.{Floor, vertices, number, column, row}
-use Rattle.floor.proofs.Numbers.{vertices-le, column-le}
+use Rattle.floor.proofs.Numbers.{vertices-le, column-le, number-of}
 use Rattle.moves.specs.declared.Move.{Move}
 use Rattle.moves.specs.declared.Offset.{Offset}
 use Rattle.moves.specs.Moves.{moves, rowMove}
@@ -25,9 +24,6 @@ use Rattle.moves.specs.Masks.{bit, isSome, OpenMask, offsetOf, maskedEnd
 use Rattle.moves.proofs.Signs.{up-le, down-le}
 use Rattle.moves.proofs.Table.{table-short}
 use Rattle.moves.proofs.Steps.{Goes, open-goes}
-
-pub number-of : (w v : ℕ) → number w (column w v) (row w v) ≡ v
-number-of w v = div-add-mod' v (suc w)
 
 -- Where an open move leads, by its offset.
 goes-offset : (f : Floor) (m : Move) (x y w : ℕ) → Goes f m x y w

@@ -10,7 +10,7 @@ ghost use lib.ListN.{length};
 ghost use Rattle.moves.specs.Moves.{moves, neighbourhoodOf, rowAt, moveAt};
 ghost use Rattle.moves.specs.Steps.{shifted, farEndAt, openEndAt, stepOf};
 ghost use Rattle.moves.specs.Table.{Listed, lawfulRows, Short, OnFloor, partsOf, placeOf, spotOf};
-ghost use Rattle.moves.specs.Masks.{openRows, RowBits, OpenMask, offsetOf, Movable, maskedEnd, maskedVertex};
+ghost use Rattle.moves.specs.Masks.{openRows, RowBits, OpenMask, offsetOf, Movable, maskedEnd};
 ghost use Rattle.moves.specs.Classes.{Classes};
 use floor::Vertex;
 
@@ -134,7 +134,9 @@ pub fn row_at(rows: Rows, m: usize) -> usize
     requires { ⌜ (lawfulRows rows ≡ true) × (m < rows .count) ⌝ }
     ensures { λ r. ⌜ (r ≡ rowAt rows m) × (r < length moves) ⌝ }
 {
-    rows.first + rows.stride * m
+    let first = rows.first;
+    let past = rows.stride * m;
+    first + past
 }
 
 // Move m of a neighbourhood.
@@ -273,17 +275,6 @@ pub fn masked_step(mask: u32, v: Vertex, row: usize, o: Offset) -> Step
         return Step::To(Vertex(v.0 + o.up - o.down));
     }
     Step::Off
-}
-
-// The same with no need of a branch: v itself where the move is not open.
-pub fn masked_end(mask: u32, v: Vertex, row: usize, o: Offset) -> Vertex
-    requires { ⌜ Movable mask (v .0) row o ⌝ }
-    ensures { λ r. ⌜ r .0 ≡ maskedVertex mask (v .0) row o ⌝ }
-{
-    if (mask >> row) % 2 == 1 {
-        return Vertex(v.0 + o.up - o.down);
-    }
-    v
 }
 
 // The moves of a neighbourhood by cost, in three classes. A class that is not used starts past the last move.

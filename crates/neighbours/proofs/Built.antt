@@ -88,7 +88,12 @@ module _ {w k : ℕ} {r : Rows} {t : Reach} (h : Building w r k t) (l : k < r .c
 pub building-done : {w k : ℕ} {r : Rows} {t : Reach} → Building w r k t → r .count ≤ k → Built w r t
 building-done h l = record {
   count = h .count;
-  few = omega (arith, h .count, h .few);
+  lent = record {
+    rows = omega (arith, h .count, h .few, h .rows);
+    ups = omega (arith, h .count, h .few, h .ups);
+    downs = omega (arith, h .count, h .few, h .downs);
+    costs = omega (arith, h .count, h .few, h .costs);
+  };
   move = λ m i. h .move m (omega (arith, h .count));
 }
 
@@ -116,9 +121,8 @@ module _ (f : Floor) {r : Rows} (listed : Listed r) {t : Reach} (b : Built (f .w
   pub reach-faces : Faces (floorGraph f r) t mask v
   reach-faces = record {
     here = record {
-      few = b .few;
       vertex = i;
-      readable = λ m l. record { place = omega (arith, b .few); movable = movable m l };
+      movable = movable;
       inside = λ m w l s. floor-lawful f r (listed-lawful listed) .inside m v w (omega (arith, b .count)) i
           (sym (step-same m l) ∙ s);
     };

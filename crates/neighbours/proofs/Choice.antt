@@ -9,13 +9,13 @@ use native.Mathlib.Omega.{arith}
 use native.Mathlib.Numerals.{add-one}
 use borrow.Author.Tests.{lt-ltb, le-ltb, eq-eqb, ne-eqb}
 use lib.Dec.{eqb}
+use Rattle.basics.proofs.Options.{none-some}
 use Rattle.moves.specs.Steps.{stepOf}
 use Rattle.moves.specs.declared.Step.{Step}
 use Rattle.moves.specs.declared.Step.the-variants.{To, Off}
 use Rattle.paths.specs.Graph.{Graph}
 use Rattle.paths.specs.Distance.{unreachable}
 use Rattle.paths.specs.Route.{onShortest, candidate, better, best}
-use Rattle.paths.proofs.More.{none-some}
 use Rattle.neighbours.specs.Choice.{followsBy}
 use Rattle.neighbours.proofs.Steps.{stepOf-off, stepOf-to}
 

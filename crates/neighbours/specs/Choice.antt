@@ -16,9 +16,10 @@ use lib.ListN.{length}
 use Rattle.paths.specs.Route.{onShortest, candidate, nextVertex}
 use Rattle.paths.specs.Local.{entry}
 use Rattle.neighbours.specs.declared.Reach.{Reach}
-use Rattle.neighbours.specs.Reach.{star, Here}
+use Rattle.neighbours.specs.Reach.{star, Lent, Here}
 
 pub record Choosing (t : Reach) (mask : ℕ) (d e : List ℕ) (goal v : ℕ) : Type 0 where
+  pub lent : Lent t
   pub here : Here (length d) t mask v
   pub goal-in : goal < length d
   pub e-len : length e ≡ length d

@@ -2,23 +2,26 @@
 -- each move in vertex numbers. Nobody has to believe these: what a loop finds is stated by the definitions of paths,
 -- over the graph `star`, whose steps from a vertex are those that its mask lets through.
 --
---   by up down            == a change of a vertex number by up less down
---   offsetIn t m          == by how much move m changes a vertex number
---   readStep t mask v m   == the far end of move m from v by its mask, if the move is open
---   star n t mask         == the graph of n vertices with these steps
---   Readable t mask v m   == move m from v can be worked out
---   Here n t mask v       == so can every move from v, and each leads to a vertex below n
---   MoveIn w r t m        == move m of t is move m of the rows r on floors of width w
---   Built w r t           == so is every move
---   relaxedBy g D v m     == what `relaxed` tests of move m
---   tightBy g D v m       == what `tight` tests of move m
---   inflowBy g D F v m    == what move m adds to `inflow`
---   sumOf x               == a sum as the code answers it: the sum where it fits 64 bits
+--   by up down                 == a change of a vertex number by up less down
+--   tableOf n row up down cost == the table of n moves with these lists
+--   offsetIn t m               == by how much move m changes a vertex number
+--   readStep t mask v m        == the far end of move m from v by its mask, if the move is open
+--   star n t mask              == the graph of n vertices with these steps
+--   Lent t                     == the lists of t have a place for each move
+--   Here n t mask v            == every move from v can be worked out, and leads to a vertex below n
+--   MoveIn w r t m             == move m of t is move m of the rows r on floors of width w
+--   Built w r t                == so is every move, and the lists have a place for each
+--   relaxedBy g D v m          == what `relaxed` tests of move m
+--   tightBy g D v m            == what `tight` tests of move m
+--   inflowBy g D F v m         == what move m adds to `inflow`
+--   sumOf x                    == a sum as the code answers it: the sum where it fits 64 bits
 use Prim.Native.Nat.{ℕ, _+_, _^_, _≤_, _<_}
 use mathlib.Core.Path.{_≡_}
 use mathlib.Core.Bool.{Bool}
+use mathlib.Core.List.{List}
 use mathlib.Core.Option.{Option, some}
 use lib.Dec.{leb, ltb, eqb}
+use lib.ListN.{length}
 use Rattle.basics.specs.Bounded.{pick}
 use Rattle.moves.specs.declared.Offset.{Offset}
 use Rattle.moves.specs.declared.Rows.{Rows}
@@ -32,6 +35,9 @@ use Rattle.neighbours.specs.declared.Sum.the-variants.{Is, Over}
 
 abbrev pub by : ℕ → ℕ → Offset
 by u d = record { up = u; down = d }
+
+abbrev pub tableOf : ℕ → List ℕ → List ℕ → List ℕ → List ℕ → Reach
+tableOf n row up down cost = record { count = n; row = row; up = up; down = down; cost = cost }
 
 abbrev pub offsetIn : Reach → ℕ → Offset
 offsetIn t m = record { up = entry (t .up) m; down = entry (t .down) m }
@@ -47,14 +53,15 @@ star n t mask = record {
   step = λ m v. readStep t mask v m;
 }
 
-pub record Readable (t : Reach) (mask v m : ℕ) : Type 0 where
-  pub place : m < 8
-  pub movable : Movable mask v (entry (t .row) m) (offsetIn t m)
+pub record Lent (t : Reach) : Type 0 where
+  pub rows : t .count ≤ length (t .row)
+  pub ups : t .count ≤ length (t .up)
+  pub downs : t .count ≤ length (t .down)
+  pub costs : t .count ≤ length (t .cost)
 
 pub record Here (n : ℕ) (t : Reach) (mask v : ℕ) : Type 0 where
-  pub few : t .count ≤ 8
   pub vertex : v < n
-  pub readable : (m : ℕ) → m < t .count → Readable t mask v m
+  pub movable : (m : ℕ) → m < t .count → Movable mask v (entry (t .row) m) (offsetIn t m)
   pub inside : (m w : ℕ) → m < t .count → readStep t mask v m ≡ some w → w < n
 
 pub record MoveIn (w : ℕ) (r : Rows) (t : Reach) (m : ℕ) : Type 0 where
@@ -64,7 +71,7 @@ pub record MoveIn (w : ℕ) (r : Rows) (t : Reach) (m : ℕ) : Type 0 where
 
 pub record Built (w : ℕ) (r : Rows) (t : Reach) : Type 0 where
   pub count : t .count ≡ r .count
-  pub few : t .count ≤ 8
+  pub lent : Lent t
   pub move : (m : ℕ) → m < t .count → MoveIn w r t m
 
 unfoldable pub relaxedBy : Graph → (ℕ → ℕ) → ℕ → ℕ → Bool

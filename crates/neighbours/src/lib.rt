@@ -8,7 +8,7 @@ ghost use Rattle.moves.specs.Masks.{Movable, maskedEnd};
 ghost use Rattle.moves.specs.Table.{Listed};
 ghost use Rattle.paths.specs.Route.{onShortest};
 ghost use Rattle.paths.specs.Local.{entry, rightCost, inflow};
-ghost use Rattle.neighbours.specs.Reach.{by, star, Here, Built, sumOf};
+ghost use Rattle.neighbours.specs.Reach.{by, tableOf, star, Lent, Here, Built, sumOf};
 ghost use Rattle.neighbours.specs.Choice.{Choosing, Counted, followsBy, traversalOf, nextOf};
 use floor::Vertex;
 use moves::Offset;
@@ -46,8 +46,7 @@ fn cost_at(d: &[u32], v: usize) -> u64
     wide(d[v])
 }
 
-// Where the move of a row leads from v, by the mask of v's open moves and how far it leads up and down. The loops below
-// read these numbers themselves: a Reach passed by value would be copied at each turn.
+// Where the move of a row leads from v, by the mask of v's open moves and how far it leads up and down.
 fn neighbour(mask: u32, v: usize, row: usize, up: usize, down: usize) -> Step
     requires { ⌜ Movable mask v row (by up down) ⌝ }
     ensures { λ r. ⌜ r ≡ stepOf (maskedEnd mask v row (by up down)) ⌝ }
@@ -77,19 +76,36 @@ pub fn reach_of(w: usize, rows: Rows) -> Reach
     t
 }
 
+// The loops below read the moves of a Reach from its lists, lent one by one: a Reach passed by value would be copied at
+// each call.
+
 // The cost d(v) is right from the source, as far as v and its neighbours can tell.
-pub fn cost_right(t: Reach, mask: u32, source: usize, d: &[u32], v: usize) -> bool
-    requires { ⌜ Here (length (now d)) t mask v ⌝ }
-    ensures { λ r. ⌜ r ≡ rightCost (star (length (now (d .entry))) t mask) source (entry (now (d .entry))) v ⌝ }
+pub fn cost_right(
+    count: usize,
+    row: &[usize],
+    up: &[usize],
+    down: &[usize],
+    cost: &[u32],
+    mask: u32,
+    source: usize,
+    d: &[u32],
+    v: usize,
+) -> bool
+    requires { ⌜ Lent (tableOf count (now row) (now up) (now down) (now cost))
+        × Here (length (now d)) (tableOf count (now row) (now up) (now down) (now cost)) mask v ⌝ }
+    ensures { λ r. ⌜ r ≡ rightCost
+        (star (length (now (d .entry)))
+        (tableOf count (now (row .entry)) (now (up .entry)) (now (down .entry)) (now (cost .entry))) mask)
+        source (entry (now (d .entry))) v ⌝ }
 {
     let here = cost_at(d, v);
     let mut tight = false;
-    for m in 0..t.count {
-        let Step::To(w) = neighbour(mask, v, t.row[m], t.up[m], t.down[m]) else {
+    for m in 0..count {
+        let Step::To(w) = neighbour(mask, v, row[m], up[m], down[m]) else {
             continue;
         };
         let there = cost_at(d, w.0);
-        let c = wide(t.cost[m]);
+        let c = wide(cost[m]);
         if here + c < there {
             return false;
         }
@@ -108,18 +124,32 @@ pub fn cost_right(t: Reach, mask: u32, source: usize, d: &[u32], v: usize) -> bo
 }
 
 // The sum of the counts f of the neighbours of v that lead to it cheapest, by the costs d.
-pub fn inflow_at(t: Reach, mask: u32, d: &[u32], f: &[u64], v: usize) -> Sum
-    requires { ⌜ Here (length (now d)) t mask v × (length (now f) ≡ length (now d)) ⌝ }
-    ensures { λ r. ⌜ r ≡ sumOf
-        (inflow (star (length (now (d .entry))) t mask) (entry (now (d .entry))) (entry (now (f .entry))) v) ⌝ }
+pub fn inflow_at(
+    count: usize,
+    row: &[usize],
+    up: &[usize],
+    down: &[usize],
+    cost: &[u32],
+    mask: u32,
+    d: &[u32],
+    f: &[u64],
+    v: usize,
+) -> Sum
+    requires { ⌜ Lent (tableOf count (now row) (now up) (now down) (now cost))
+        × Here (length (now d)) (tableOf count (now row) (now up) (now down) (now cost)) mask v
+        × (length (now f) ≡ length (now d)) ⌝ }
+    ensures { λ r. ⌜ r ≡ sumOf (inflow
+        (star (length (now (d .entry)))
+        (tableOf count (now (row .entry)) (now (up .entry)) (now (down .entry)) (now (cost .entry))) mask)
+        (entry (now (d .entry))) (entry (now (f .entry))) v) ⌝ }
 {
     let here = cost_at(d, v);
     let mut s: u64 = 0;
-    for m in 0..t.count {
-        let Step::To(w) = neighbour(mask, v, t.row[m], t.up[m], t.down[m]) else {
+    for m in 0..count {
+        let Step::To(w) = neighbour(mask, v, row[m], up[m], down[m]) else {
             continue;
         };
-        if cost_at(d, w.0) + wide(t.cost[m]) != here {
+        if cost_at(d, w.0) + wide(cost[m]) != here {
             continue;
         }
         let at = w.0;
@@ -167,7 +197,11 @@ fn traversal_at(f: &[u64], b: &[u64], v: usize) -> u64
 
 // Where the central route goes from v, by the costs d and e and the counts f and b; off the floor where it is stuck.
 pub fn next_at(
-    t: Reach,
+    count: usize,
+    row: &[usize],
+    up: &[usize],
+    down: &[usize],
+    cost: &[u32],
     mask: u32,
     d: &[u32],
     e: &[u32],
@@ -176,17 +210,19 @@ pub fn next_at(
     goal: usize,
     v: usize,
 ) -> Step
-    requires { ⌜ Choosing t mask (now d) (now e) goal v × Counted (length (now d)) (now f) (now b) ⌝ }
-    ensures { λ r. ⌜ r ≡ stepOf
-        (nextOf t mask (now (d .entry)) (now (e .entry)) (now (f .entry)) (now (b .entry)) goal v) ⌝ }
+    requires { ⌜ Choosing (tableOf count (now row) (now up) (now down) (now cost)) mask (now d) (now e) goal v
+        × Counted (length (now d)) (now f) (now b) ⌝ }
+    ensures { λ r. ⌜ r ≡ stepOf (nextOf
+        (tableOf count (now (row .entry)) (now (up .entry)) (now (down .entry)) (now (cost .entry))) mask
+        (now (d .entry)) (now (e .entry)) (now (f .entry)) (now (b .entry)) goal v) ⌝ }
 {
     let mut best = Step::Off;
     let mut high: u64 = 0;
-    for m in 0..t.count {
-        let Step::To(w) = neighbour(mask, v, t.row[m], t.up[m], t.down[m]) else {
+    for m in 0..count {
+        let Step::To(w) = neighbour(mask, v, row[m], up[m], down[m]) else {
             continue;
         };
-        if !follows(d, e, goal, v, w.0, t.cost[m]) {
+        if !follows(d, e, goal, v, w.0, cost[m]) {
             continue;
         }
         let x = traversal_at(f, b, w.0);

@@ -17,9 +17,9 @@ use borrow.Author.Tests.{eqb-true, eq-eqb, lt-ltb, le-ltb}
 use lib.Dec.{ltb, eqb}
 use Rattle.basics.proofs.Order.{le-or-lt, eq-or-ne}
 use Rattle.basics.proofs.Bools.{and-both}
+use Rattle.basics.proofs.Options.{none-some}
 use Rattle.paths.specs.Graph.{Graph, Lawful}
 use Rattle.paths.specs.Route.{candidate, better, best, nextVertex}
-use Rattle.paths.proofs.More.{none-some}
 
 -- ---- candidates
 

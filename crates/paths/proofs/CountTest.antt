@@ -19,12 +19,11 @@ use lib.Dec.{eqb}
 use Rattle.basics.specs.Bounded.{pick}
 use Rattle.basics.proofs.Order.{eq-or-ne}
 use Rattle.basics.proofs.Bools.{true-or-false}
-use Rattle.basics.proofs.Bounded.{every-all, every-at}
+use Rattle.basics.proofs.Bounded.{every-all, every-at, pick-yes, pick-no}
 use Rattle.paths.specs.Graph.{Graph, Lawful}
 use Rattle.paths.specs.Distance.{unreachable, distance, pathCount}
 use Rattle.paths.specs.Route.{onWay}
 use Rattle.paths.specs.Local.{inflow, countAt, rightCounts}
-use Rattle.paths.proofs.More.{pick-yes, pick-no}
 use Rattle.paths.proofs.Neighbours.{inflow-cong, inflow-costs}
 use Rattle.paths.proofs.Reverse.{distance-sym}
 use Rattle.paths.proofs.Way.{way-cases, way-start, way-turn, way-back}

@@ -1,4 +1,3 @@
-pub mod More
 pub mod Listing
 pub mod Distinct
 pub mod Distance

@@ -18,11 +18,11 @@ use Rattle.basics.specs.Bounded.{pick}
 use Rattle.basics.specs.Lists.{padded}
 use Rattle.basics.proofs.Order.{le-or-lt, eq-or-ne}
 use Rattle.basics.proofs.Bools.{and-intro, and-left, and-right}
-use Rattle.basics.proofs.Bounded.{every-all, every-at}
+use Rattle.basics.proofs.Bounded.{every-all, every-at, pick-yes, pick-no}
+use Rattle.basics.proofs.Lists.{getD-padded, getD-padded-past, padded-of}
 use Rattle.paths.specs.Graph.{Graph}
 use Rattle.paths.specs.Route.{follow}
 use Rattle.paths.specs.Local.{is-there, rightPoint, rightRoute, entry}
-use Rattle.paths.proofs.More.{pick-yes, pick-no, getD-padded, getD-padded-past, padded-of}
 use Rattle.paths.proofs.Neighbours.{is-there-cases, is-there-at}
 use Rattle.paths.proofs.Follow.{Arrives, end, on, follow-end, follow-on, follow-length, follow-inside}
 use Rattle.paths.proofs.Follow.{arrives-begins, arrives-pos}

@@ -23,14 +23,24 @@ use borrow.Author.Tests.{eqb-true, eq-eqb, ltb-true, ltb-false, lt-ltb, le-ltb}
 use lib.Dec.{eqb}
 use lib.ListN.{length, getD, length-replicate}
 use Rattle.basics.specs.Lists.{tabulate, padded, same}
-use Rattle.basics.proofs.Bools.{not-both, true-or-false, and-intro}
-use Rattle.basics.proofs.Lists.{length-tabulate, getD-tabulate, tabulate-of, same-refl, same-eq}
+use Rattle.basics.proofs.Bools.{not-both, true-or-false, and-intro, all-six}
+use Rattle.basics.proofs.Lists.{
+  getD-zeros,
+  zeros-of,
+  length-padded,
+  getD-padded,
+  getD-padded-past,
+  length-tabulate,
+  getD-tabulate,
+  tabulate-of,
+  same-refl,
+  same-eq,
+}
 use Rattle.paths.specs.Graph.{Graph, Lawful}
 use Rattle.paths.specs.Distance.{unreachable, distance, pathCount}
 use Rattle.paths.specs.Route.{onWay, countFrom, countTo, traversals, centralRoute}
 use Rattle.paths.specs.Sheet.{Sheet, joined, fits, routeSheet, noRouteSheet, TrueRoute, TrueNoRoute, sameSheet}
 use Rattle.paths.specs.Local.{Shaped, entry}
-use Rattle.paths.proofs.More.{all-six, getD-zeros, zeros-of, length-padded, getD-padded, getD-padded-past}
 use Rattle.paths.proofs.Listing.{HasWalk}
 use Rattle.paths.proofs.Distance.{distance-le}
 use Rattle.paths.proofs.Bound.{reached-exact, distance-bound}

@@ -20,10 +20,10 @@ use native.Mathlib.Omega.{arith}
 use borrow.Author.Tests.{eqb-true, eq-eqb, ltb-true, lt-ltb}
 use lib.Dec.{ltb}
 use Rattle.basics.proofs.Bools.{and-intro, and-both, iff-eq, true-or-false}
+use Rattle.basics.proofs.Bounded.{pick-yes, pick-no}
 use Rattle.paths.specs.Graph.{Graph, Lawful}
 use Rattle.paths.specs.Distance.{unreachable, distance, pathCount}
 use Rattle.paths.specs.Route.{onShortest, onWay, countFrom, countTo, traversals}
-use Rattle.paths.proofs.More.{pick-yes, pick-no}
 use Rattle.paths.proofs.Listing.{go}
 use Rattle.paths.proofs.Distance.{distance-walk, distance-least, distance-self, triangle, distance-move}
 use Rattle.paths.proofs.Reverse.{distance-sym}

@@ -1,11 +1,12 @@
 -- Document 01's sheet, and the two true ones.
 --
---   Sheet              == the slices d, e, f, b and route, and the point count n (document 01's letters)
---   joined g a b       == an open walk joins a to b
---   fits g a b         == the total f(B) is at most 2^64 - 1
---   routeSheet g a b   == the one true route sheet, where a walk joins a to b and the total fits
---   noRouteSheet g a   == the one true no-route sheet, where no walk joins the ends
---   sameSheet s t      == every number of the two sheets is the same
+--   Sheet               == the slices d, e, f, b and route, and the point count n (document 01's letters)
+--   sheetOf d e f b r n == the sheet with these slices and this point count
+--   joined g a b        == an open walk joins a to b
+--   fits g a b          == the total f(B) is at most 2^64 - 1
+--   routeSheet g a b    == the one true route sheet, where a walk joins a to b and the total fits
+--   noRouteSheet g a    == the one true no-route sheet, where no walk joins the ends
+--   sameSheet s t       == every number of the two sheets is the same
 use Prim.Native.Nat.{ℕ, _^_}
 use mathlib.Core.Path.{_≡_}
 use mathlib.Core.Bool.{Bool, true, false, _&&_}
@@ -24,6 +25,9 @@ pub record Sheet : Type 0 where
   pub b : List ℕ
   pub route : List ℕ
   pub n : ℕ
+
+abbrev pub sheetOf : List ℕ → List ℕ → List ℕ → List ℕ → List ℕ → ℕ → Sheet
+sheetOf d e f b r n = record { d = d; e = e; f = f; b = b; route = r; n = n }
 
 unfoldable pub joined : Graph → ℕ → ℕ → Bool
 joined g a b = ltb (distance g a b) unreachable
@@ -64,4 +68,5 @@ pub record TrueNoRoute (g : Graph) (a b : ℕ) (s : Sheet) : Type 0 where
 
 unfoldable pub sameSheet : Sheet → Sheet → Bool
 sameSheet s t =
-    same (s .d) (t .d) && same (s .e) (t .e) && same (s .f) (t .f) && same (s .b) (t .b) && same (s .route) (t .route) && eqb (s .n) (t .n)
+    same (s .d) (t .d) && same (s .e) (t .e) && same (s .f) (t .f) && same (s .b) (t .b)
+    && same (s .route) (t .route) && eqb (s .n) (t .n)

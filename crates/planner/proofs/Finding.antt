@@ -1,5 +1,7 @@
 -- The parts put together: from the costs from a, those to b with their order, and the masks, to counts and route.
 --
+--   found-costing               == what the costs to b take, which are costs from b
+--   found-costs                 == the costs from b are those to b
 --   found-few, found-sized, found-readied, found-known == what the counting passes take
 --   found-walkable              == what the walk of the route takes, where the total fits
 --   found-many, found-route     == the two ways to end
@@ -30,7 +32,7 @@ use Rattle.grid.specs.Grid.{floorGraph}
 use Rattle.grid.proofs.Lawful.{floor-lawful, size-le}
 use Rattle.neighbours.specs.declared.Reach.{Reach}
 use Rattle.neighbours.specs.Reach.{Built}
-use Rattle.distances.specs.Order.{OrderedCosts, Masked}
+use Rattle.distances.specs.Order.{OpenMasks, Costing, OrderedCosts, Masked}
 use Rattle.counts.specs.Passes.{Priced, Readied, Known, Filled}
 use Rattle.planner.specs.declared.Planned.{Planned}
 use Rattle.planner.specs.declared.Planned.the-variants.{Found, Refused}
@@ -63,15 +65,24 @@ module _ {w h : ℕ} {map : List ℕ} {rows : Rows} {a b : ℕ} {d e f back rout
     F .back-blank ∙ ap zeros (sym d-len),
   )
 
-  module _ {n : ℕ} {t : Reach} {e′ work′ : List ℕ} (C : OrderedCosts (floorOf w h map) rows b n e′ work′)
-      (B : Built w rows t) where
-    e-true : e′ ≡ tabulate (g .size) (λ v. distance g v b)
-    e-true =
-        C .costs
-        ∙ tabulate-cong (g .size) (distance g b) _ (λ v i. distance-sym g lawful b v (F .finishable .job .goal-in) i)
+  pub found-costing : {x : ℕ} → x < vertices w h → Costing w h map rows x e work
+  found-costing i = record {
+    sized = F .finishable .job .sized;
+    listed = F .finishable .job .listed;
+    source = i;
+    d-len = F .finishable .lent .e-len;
+    work-len = F .finishable .lent .work-len;
+  }
 
+  pub found-costs : {e′ : List ℕ} → e′ ≡ tabulate (g .size) (distance g b)
+      → e′ ≡ tabulate (g .size) (λ v. distance g v b)
+  found-costs q =
+      q ∙ tabulate-cong (g .size) (distance g b) _ (λ v i. distance-sym g lawful b v (F .finishable .job .goal-in) i)
+
+  module _ {x n : ℕ} {t : Reach} {e′ work′ : List ℕ} (C : OrderedCosts (floorOf w h map) rows x n e′ work′)
+      (B : Built w rows t) where
     e-len : length e′ ≡ g .size
-    e-len = ap length e-true ∙ length-tabulate (g .size) _
+    e-len = ap length (C .costs) ∙ length-tabulate (g .size) _
 
     masked : Masked g t work′
     masked = C .masked t B
@@ -85,75 +96,80 @@ module _ {w h : ℕ} {map : List ℕ} {rows : Rows} {a b : ℕ} {d e f back rout
       e-len = e-len ∙ sym d-len;
       work-len = omega (arith, C .work-len, d-len);
       short = omega (arith, C .few, d-len);
+      lent = B .lent;
       vertex = rw d-len (C .ordered .inside);
       here = rw d-len (masked .here);
     }
 
-    pub found-known : Known g t a b n true d e′ work′
-    found-known = record {
-      lawful = lawful;
-      start-in = F .finishable .job .start-in;
-      goal-in = F .finishable .job .goal-in;
-      reached = F .reached;
-      costs-from = F .finishable .costs;
-      costs-to = e-true;
-      masked = masked;
-      priced = priced;
-      ordered = C .ordered;
-    }
+    module _ (e-true : e′ ≡ tabulate (g .size) (λ v. distance g v b)) where
+      pub found-known : Known g t a b n true d e′ work′
+      found-known = record {
+        lawful = lawful;
+        start-in = F .finishable .job .start-in;
+        goal-in = F .finishable .job .goal-in;
+        reached = F .reached;
+        costs-from = F .finishable .costs;
+        costs-to = e-true;
+        masked = masked;
+        priced = priced;
+        ordered = C .ordered;
+      }
 
-    module _ {r : Bool} {f′ back′ : List ℕ} (filled : Filled g a b r f′ back′) where
-      pub found-many : r ≡ false
-          → Finished g a b (Refused TooMany) (slicesOf d e′ f′ back′ route (zeros (4 * vertices w h)))
-      found-many over =
-          let K = subst (λ z. Filled g a b z f′ back′) over filled in
-          finished-many (F .finishable .costs) refl (F .reached) e-true (sym (K .answer)) (K .f-left) (K .back-left)
-          (F .route-blank)
+      module _ {r : Bool} {f′ back′ : List ℕ} (filled : Filled g a b r f′ back′) where
+        pub found-many : r ≡ false
+            → Finished g a b (Refused TooMany) (slicesOf d e′ f′ back′ route (zeros (4 * vertices w h)))
+        found-many over =
+            let K = subst (λ z. Filled g a b z f′ back′) over filled in
+            finished-many (F .finishable .costs) refl (F .reached) e-true (sym (K .answer)) (K .f-left) (K .back-left)
+            (F .route-blank)
 
-      module _ (fit : r ≡ true) where
-        K : Filled g a b true f′ back′
-        K = subst (λ z. Filled g a b z f′ back′) fit filled
+        module _ (fit : r ≡ true) where
+          K : Filled g a b true f′ back′
+          K = subst (λ z. Filled g a b z f′ back′) fit filled
 
-        pub found-walkable : Walkable g t a b d e′ f′ back′ work′ route
-        found-walkable = record {
-          few = few;
-          lawful = lawful;
-          start-in = F .finishable .job .start-in;
-          goal-in = F .finishable .job .goal-in;
-          reached = F .reached;
-          total = fits-total g a b (sym (K .answer));
-          d-true = F .finishable .costs;
-          e-true = e-true;
-          f-true = K .f-left;
-          back-true = K .back-left;
-          masked = masked;
-          priced = priced;
-          work-len = C .work-len;
-          blank = F .route-blank;
-        }
+          pub found-walkable : Walkable g t a b d e′ f′ back′ work′ route
+          found-walkable = record {
+            few = few;
+            lawful = lawful;
+            start-in = F .finishable .job .start-in;
+            goal-in = F .finishable .job .goal-in;
+            reached = F .reached;
+            total = fits-total g a b (sym (K .answer));
+            d-true = F .finishable .costs;
+            e-true = e-true;
+            f-true = K .f-left;
+            back-true = K .back-left;
+            masked = masked;
+            lent = B .lent;
+            priced = priced;
+            work-len = C .work-len;
+            blank = F .route-blank;
+          }
 
-        cost-at : entry d b ≡ distance g a b
-        cost-at =
-            ap (λ l. entry l b) (F .finishable .costs)
-            ∙ getD-tabulate (g .size) b (distance g a) (F .finishable .job .goal-in)
+          cost-at : entry d b ≡ distance g a b
+          cost-at =
+              ap (λ l. entry l b) (F .finishable .costs)
+              ∙ getD-tabulate (g .size) b (distance g a) (F .finishable .job .goal-in)
 
-        -- The count from a at b is the total.
-        total-at : entry f′ b ≡ pathCount g a b
-        total-at =
-            ap (λ l. entry l b) (K .f-left)
-            ∙ getD-tabulate (g .size) b (countFrom g a b) (F .finishable .job .goal-in)
-            ∙ countFrom-way g a b b (way-end g lawful a b (F .reached))
+          -- The count from a at b is the total.
+          total-at : entry f′ b ≡ pathCount g a b
+          total-at =
+              ap (λ l. entry l b) (K .f-left)
+              ∙ getD-tabulate (g .size) b (countFrom g a b) (F .finishable .job .goal-in)
+              ∙ countFrom-way g a b b (way-end g lawful a b (F .reached))
 
-        pub found-route : {route′ : List ℕ} (k : ℕ) → Routed g a b route′ k
-            → Finished g a b (Found (entry d b) (entry f′ b) k) (slicesOf d e′ f′ back′ route′ (zeros (4 * vertices w h)))
-        found-route k R =
-            finished-route (F .finishable .costs) refl (F .reached) e-true (entry d b) (entry f′ b) k (sym (K .answer))
-            cost-at total-at (R .points) (K .f-left) (K .back-left) (R .list)
+          pub found-route : {route′ : List ℕ} (k : ℕ) → Routed g a b route′ k
+              → Finished g a b (Found (entry d b) (entry f′ b) k)
+              (slicesOf d e′ f′ back′ route′ (zeros (4 * vertices w h)))
+          found-route k R =
+              finished-route (F .finishable .costs) refl (F .reached) e-true (entry d b) (entry f′ b) k
+              (sym (K .answer)) cost-at total-at (R .points) (K .f-left) (K .back-left) (R .list)
 
 -- ---- from a job of good shape and the costs from a
 
 module _ {w h : ℕ} {map : List ℕ} {rows : Rows} {a b : ℕ} {d e f back route work f′ back′ route′ : List ℕ}
-    (P : Finishable w h map rows a b d e f back route work) (f-blank : f′ ≡ zeros (length f))
+    (P : Finishable w h map rows a b d e f back route work)
+    (f-blank : f′ ≡ zeros (length f))
     (back-blank : back′ ≡ zeros (length back)) (route-blank : route′ ≡ zeros (length route)) where
   abbrev graph : Graph
   graph = floorGraph (floorOf w h map) rows
@@ -168,8 +184,9 @@ module _ {w h : ℕ} {map : List ℕ} {rows : Rows} {a b : ℕ} {d e f back rout
       (e-blank ∙ ap zeros (P .lent .e-len)) (f-blank ∙ ap zeros (P .lent .f-len))
       (back-blank ∙ ap zeros (P .lent .back-len)) (route-blank ∙ ap zeros (P .lent .route-len))
 
-  pub finish-findable : (entry d b ≡ unreachable → ⊥) → Findable w h map rows a b d e f′ back′ route′ work
-  finish-findable near = record {
+  pub finish-findable : OpenMasks (floorOf w h map) work → (entry d b ≡ unreachable → ⊥)
+      → Findable w h map rows a b d e f′ back′ route′ work
+  finish-findable masks near = record {
     finishable = record {
       job = P .job;
       lent = record {
@@ -182,6 +199,7 @@ module _ {w h : ℕ} {map : List ℕ} {rows : Rows} {a b : ℕ} {d e f back rout
       };
       costs = P .costs;
     };
+    masks = masks;
     reached = omega (arith, goal-cost, distance-le graph a b, near-ne);
     f-blank = f-blank ∙ ap zeros (P .lent .f-len);
     back-blank = back-blank ∙ ap zeros (P .lent .back-len);
@@ -195,7 +213,7 @@ module _ {w h : ℕ} {map : List ℕ} {rows : Rows} {a b : ℕ} {d e f back rout
       near-ne q = near (goal-cost ∙ q)
 
 -- What stood in the working slice does not matter: it is cleared.
-pub finish-cleared : {g : Graph} {a b : ℕ} {r : Planned} {d e f back route work work′ : List ℕ}
-    → Finished g a b r (slicesOf d e f back route work) → work′ ≡ work
-    → Finished g a b r (slicesOf d e f back route work′)
-finish-cleared F q = rw q F
+pub finish-cleared : {g : Graph} {a b n k : ℕ} {r : Planned} {d e f back route work : List ℕ}
+    → Finished g a b r (slicesOf d e f back route (zeros k)) → n ≡ k → work ≡ zeros n
+    → Finished g a b r (slicesOf d e f back route work)
+finish-cleared F same blank = rw (blank, same) F

@@ -4,14 +4,15 @@
 --   Walking g a b n v r   == the first n points are written in r, 0 after them, and the rest of the route begins with v
 --   walking-start         == so it is at the start
 --   walking-room          == there is a place for one point more
---   next-central          == what the code works out is the next vertex
+--   counts-len, product-fits, walkable-choosing == what the code needs for the next vertex
+--   next-central          == what it then works out is the next vertex
 --   walking-more          == one point on
 --   walking-goes          == before b there is a next vertex
 --   walking-end           == at b one point more is the whole route
 --   Stepping ..           == what holds at each turn of the loop, on whatever graph the lists are of
 --   step-start, step-more, step-end == so it is at the start and one turn on; what it says at the end
 --   step-stuck            == it is never stuck
-use Prim.Native.Nat.{ℕ, suc, _+_, _-_, _*_, _≤_, _<_}
+use Prim.Native.Nat.{ℕ, suc, _+_, _-_, _*_, _^_, _≤_, _<_}
 use mathlib.Core.Path.{_≡_, refl, sym, ap, ap₂, _∙_, subst}
 use mathlib.Core.Logic.{⊎-elim}
 use mathlib.Core.Option.{Option, some}
@@ -20,8 +21,9 @@ use native.Mathlib.Omega.{arith}
 use native.Mathlib.Nat.{zero-add}
 use lib.ListN.{length, getD, set, length-set, length-replicate}
 use lib.Seq.{getD-set-same, getD-set-other}
+use Rattle.basics.proofs.Options.{none-some}
 use Rattle.basics.proofs.Order.{le-or-lt}
-use Rattle.basics.proofs.Lists.{length-tabulate, getD-tabulate}
+use Rattle.basics.proofs.Lists.{length-tabulate, getD-tabulate, getD-zeros, padded-of}
 use Rattle.paths.specs.Graph.{Graph}
 use Rattle.paths.specs.Distance.{distance}
 use Rattle.paths.specs.Route.{
@@ -35,7 +37,6 @@ use Rattle.paths.specs.Route.{
   centralRoute,
 }
 use Rattle.paths.specs.Local.{entry}
-use Rattle.paths.proofs.More.{none-some, getD-zeros, padded-of}
 use Rattle.paths.proofs.Way.{shortest-same, traversals-fit}
 use Rattle.paths.proofs.Choice.{next-same, next-inside}
 use Rattle.paths.proofs.Follow.{Arrives, end, on, follow-end, follow-on}
@@ -45,7 +46,7 @@ use Rattle.moves.specs.declared.Step.the-variants.{To, Off}
 use Rattle.moves.specs.Steps.{stepOf}
 use Rattle.neighbours.specs.declared.Reach.{Reach}
 use Rattle.neighbours.specs.Reach.{star}
-use Rattle.neighbours.specs.Choice.{traversalOf, nextOf, Choosing, Counted}
+use Rattle.neighbours.specs.Choice.{traversalOf, nextOf, Choosing}
 use Rattle.neighbours.proofs.Steps.{stepOf-off, stepOf-to}
 use Rattle.neighbours.proofs.Agree.{Agrees, nextVertex-agrees}
 use Rattle.distances.specs.Order.{maskAt}
@@ -92,16 +93,17 @@ module _ {g : Graph} {t : Reach} {a b : ℕ} {d e f back work r : List ℕ} (W :
 
   -- ---- what the code needs for the next vertex, and what it then finds
 
-  pub walkable-counted : Counted (length d) f back
-  walkable-counted = record {
-    f-len = f-len ∙ sym d-len;
-    b-len = back-len ∙ sym d-len;
-    fit = λ v i. omega (arith, traversal-at v (omega (arith, d-len)), traversals-fit g (W .lawful) a b v, W .total);
-  }
+  pub counts-len : (length f ≡ length d) × (length back ≡ length d)
+  counts-len = (f-len ∙ sym d-len, back-len ∙ sym d-len)
+
+  pub product-fits : (v : ℕ) → v < length d → traversalOf f back v < 2 ^ 64
+  product-fits v i =
+      omega (arith, traversal-at v (omega (arith, d-len)), traversals-fit g (W .lawful) a b v, W .total)
 
   module _ (v : ℕ) (i : v < g .size) where
     pub walkable-choosing : Choosing t (maskAt (length d) work v) d e b v
     walkable-choosing = record {
+      lent = W .lent;
       here = rw d-len (W .masked .here v i);
       goal-in = omega (arith, d-len, W .goal-in);
       e-len = e-len ∙ sym d-len;
@@ -164,7 +166,8 @@ module _ {g : Graph} {t : Reach} {a b : ℕ} {d e f back work r : List ℕ} (W :
         ap (λ i. getD (centralRoute g a b) i 0) (sym z) ∙ k .ahead 0 ∙ ap (λ l. getD l 0 0) q
 
     -- With v stored at place n, one point more is written.
-    stored : getD (centralRoute g a b) n 0 ≡ v → (i : ℕ) → i < n + 1 → entry (set s n v) i ≡ getD (centralRoute g a b) i 0
+    stored : getD (centralRoute g a b) n 0 ≡ v → (i : ℕ) → i < n + 1
+        → entry (set s n v) i ≡ getD (centralRoute g a b) i 0
     stored q i l = ⊎-elim
         (λ lt. getD-set-other s n i v 0 (λ p. omega arith) ∙ k .written i lt)
         (λ ge. let p : n ≡ i = omega arith in

@@ -6,10 +6,12 @@
 --   Routed g a b route n      == the route slice holds the central route, and n is the number of its points
 --   lengthsGood v ..          == the slices of these lengths have the places that a floor of v vertices needs
 --   GoodJob w h map rows a b  == floor, neighbourhood and ends have a good shape
---   Lent v ..                 == the slices have the lengths that they need
+--   FullSlices v ..           == the slices have the lengths that they need
 --   Finishable ..             == both, and d holds the costs from a
---   Findable ..               == the same, a walk joins the ends, and counts and route are all 0
---   PlansJob ..               == the answer r and the slices s' are the planner's, where none of refusals 1 to 5 applies
+--   Findable ..               == the same, the masks stand in the working slice, a walk joins the ends, and counts and
+--                                route are all 0
+--   PlansJob ..               == the answer r and the slices s' are the planner's, where none of refusals 1 to 5
+--                                applies
 --   Finished g a b r s        == the answer r and the slices s are those of the job from a to b on graph g
 use Prim.Native.Nat.{ℕ, _*_, _^_, _≤_, _<_}
 use mathlib.Core.Path.{_≡_}
@@ -27,7 +29,8 @@ use Rattle.paths.specs.Route.{countFrom, countTo, centralRoute}
 use Rattle.grid.specs.Grid.{floorGraph}
 use Rattle.grid.specs.declared.Job.the-variants.{Fit}
 use Rattle.neighbours.specs.declared.Reach.{Reach}
-use Rattle.distances.specs.Order.{Masked}
+use Rattle.neighbours.specs.Reach.{Lent}
+use Rattle.distances.specs.Order.{Masked, OpenMasks}
 use Rattle.counts.specs.Passes.{Priced}
 use Rattle.planner.specs.declared.Planned.{Planned}
 use Rattle.planner.specs.Plan.{Slices, routeAnswer, routeLeft, answered, leftBy}
@@ -44,6 +47,7 @@ pub record Walkable (g : Graph) (t : Reach) (a b : ℕ) (d e f back work route :
   pub f-true : f ≡ tabulate (g .size) (countFrom g a b)
   pub back-true : back ≡ tabulate (g .size) (countTo g a b)
   pub masked : Masked g t work
+  pub lent : Lent t
   pub priced : Priced g t
   pub work-len : length work ≡ 4 * g .size
   pub blank : route ≡ zeros (g .size)
@@ -61,7 +65,7 @@ pub record GoodJob (w h : ℕ) (map : List ℕ) (rows : Rows) (a b : ℕ) : Type
   pub start-in : a < vertices w h
   pub goal-in : b < vertices w h
 
-pub record Lent (v : ℕ) (d e f back route work : List ℕ) : Type 0 where
+pub record FullSlices (v : ℕ) (d e f back route work : List ℕ) : Type 0 where
   pub d-len : length d ≡ v
   pub e-len : length e ≡ v
   pub f-len : length f ≡ v
@@ -71,11 +75,12 @@ pub record Lent (v : ℕ) (d e f back route work : List ℕ) : Type 0 where
 
 pub record Finishable (w h : ℕ) (map : List ℕ) (rows : Rows) (a b : ℕ) (d e f back route work : List ℕ) : Type 0 where
   pub job : GoodJob w h map rows a b
-  pub lent : Lent (vertices w h) d e f back route work
+  pub lent : FullSlices (vertices w h) d e f back route work
   pub costs : d ≡ tabulate (vertices w h) (distance (floorGraph (floorOf w h map) rows) a)
 
 pub record Findable (w h : ℕ) (map : List ℕ) (rows : Rows) (a b : ℕ) (d e f back route work : List ℕ) : Type 0 where
   pub finishable : Finishable w h map rows a b d e f back route work
+  pub masks : OpenMasks (floorOf w h map) work
   pub reached : distance (floorGraph (floorOf w h map) rows) a b < unreachable
   pub f-blank : f ≡ zeros (vertices w h)
   pub back-blank : back ≡ zeros (vertices w h)

@@ -1,9 +1,12 @@
 // The planner: costs, counts and the central route of a job.
 //
-//     plan        the operation of document 01, for every input
-//     plan_job    the same where none of refusals 1 to 5 applies
-//     finish      the same from given costs from the start: answers 0, 7 and 8
-//     find_route  the same where a walk joins the ends: answers 0 and 8
+//     plan               the operation of document 01, for every input
+//     plan_job           the same where none of refusals 1 to 5 applies
+//     finish             the same from given costs from the start: answers 0, 7 and 8
+//     finish_over_masks  the same where the working slice has the masks of the open moves
+//     find_route         the same where a walk joins the ends: answers 0 and 8
+//
+// A whole plan makes the masks once, for the costs from the start and for all that follows.
 mod route; // route.rt: the central route, written as it is walked
 
 ghost use mathlib.Core.Path.{_≡_};
@@ -11,8 +14,10 @@ ghost use Prim.Native.Nat.{_*_, _≤_};
 ghost use Rattle.basics.specs.Lists.{zeros};
 ghost use Rattle.floor.specs.Floor.{floorOf, vertices};
 ghost use Rattle.grid.specs.Grid.{floorGraph};
+ghost use Rattle.distances.specs.Order.{OpenMasks};
 ghost use Rattle.planner.specs.Plan.{planNumber, planCost, planTotal, planPoints, slicesOf, Plans};
 ghost use Rattle.planner.specs.Parts.{lengthsGood, GoodJob, Finishable, Findable, Finished, PlansJob};
+use distances::masks;
 use floor::Refusal;
 use floor::Vertex;
 use grid::Job;
@@ -115,8 +120,8 @@ fn lengths_good(
     work == 4 * v
 }
 
-// The route of a job whose ends a walk joins, from the costs d from a: fills e, and then counts and route, which are
-// all 0, or refuses and leaves them so. What it leaves in the working slice is nobody's.
+// The route of a job whose ends a walk joins, from the costs d from a and the masks: fills e, and then counts and
+// route, which are all 0, or refuses and leaves them so. What it leaves in the working slice is nobody's.
 fn find_route(
     w: usize,
     h: usize,
@@ -131,19 +136,53 @@ fn find_route(
     route: &mut [u16],
     work: &mut [u32],
 ) -> Planned
-    requires { ⌜ Findable w h (now map) rows (a .0) (b .0) (now d) (now e) (now f) (now back) (now route) (now work) ⌝ }
+    requires { ⌜ Findable w h (now map) rows (a .0) (b .0)
+        (now d) (now e) (now f) (now back) (now route) (now work) ⌝ }
     ensures { λ r. ⌜ Finished (floorGraph (floorOf w h (now (map .entry))) rows) (a .0) (b .0) r
         (slicesOf (now (d .entry)) (now (e .exit)) (now (f .exit)) (now (back .exit)) (now (route .exit))
         (zeros (4 * vertices w h))) ⌝ }
 {
-    let n = distances::costs_and_order(w, h, map, rows, b, e, work);
+    let n = distances::costs_over_masks(w, h, map, rows, b, e, work);
     let t = neighbours::reach_of(w, rows);
+    let count = t.count;
+    let row = t.row;
+    let up = t.up;
+    let down = t.down;
+    let cost = t.cost;
     let start = a.0;
     let goal = b.0;
-    if !counts::fill_counts(t, start, goal, n, d, e, work, f, back) {
+    if !counts::fill_counts(
+        count,
+        &row,
+        &up,
+        &down,
+        &cost,
+        start,
+        goal,
+        n,
+        d,
+        e,
+        work,
+        f,
+        back,
+    ) {
         return Planned::Refused(Refusal::TooMany);
     }
-    let points = route::write_route(t, start, goal, d, e, f, back, work, route);
+    let points = route::write_route(
+        count,
+        &row,
+        &up,
+        &down,
+        &cost,
+        start,
+        goal,
+        d,
+        e,
+        f,
+        back,
+        work,
+        route,
+    );
     Planned::Found {
         cost: d[goal],
         total: f[goal],
@@ -151,9 +190,8 @@ fn find_route(
     }
 }
 
-// Finishes a job of good shape from the costs d from a: answers 0, 7 or 8, and leaves the other slices as document 01
-// says. It relies on nothing that stands in them.
-pub fn finish(
+// `finish`, where the working slice has the masks.
+fn finish_over_masks(
     w: usize,
     h: usize,
     map: &[u8],
@@ -167,7 +205,9 @@ pub fn finish(
     route: &mut [u16],
     work: &mut [u32],
 ) -> Planned
-    requires { ⌜ Finishable w h (now map) rows (a .0) (b .0) (now d) (now e) (now f) (now back) (now route) (now work) ⌝ }
+    requires { ⌜ Finishable w h (now map) rows (a .0) (b .0)
+        (now d) (now e) (now f) (now back) (now route) (now work) ⌝ }
+    requires { ⌜ OpenMasks (floorOf w h (now map)) (now work) ⌝ }
     ensures { λ r. ⌜ Finished (floorGraph (floorOf w h (now (map .entry))) rows) (a .0) (b .0) r
         (slicesOf (now (d .entry)) (now (e .exit)) (now (f .exit)) (now (back .exit)) (now (route .exit))
         (now (work .exit))) ⌝ }
@@ -184,6 +224,33 @@ pub fn finish(
     let found = find_route(w, h, map, rows, a, b, d, e, f, back, route, work);
     basics::fill_u32(work, 0);
     found
+}
+
+// Finishes a job of good shape from the costs d from a: answers 0, 7 or 8, and leaves the other slices as document 01
+// says. With `distances::fill_costs` one of the planner's two inner operations, whole by itself: it relies on nothing
+// that stands in the other slices. A whole plan has the masks already and calls `finish_over_masks` instead.
+pub fn finish(
+    w: usize,
+    h: usize,
+    map: &[u8],
+    rows: Rows,
+    a: Vertex,
+    b: Vertex,
+    d: &[u32],
+    e: &mut [u32],
+    f: &mut [u64],
+    back: &mut [u64],
+    route: &mut [u16],
+    work: &mut [u32],
+) -> Planned
+    requires { ⌜ Finishable w h (now map) rows (a .0) (b .0)
+        (now d) (now e) (now f) (now back) (now route) (now work) ⌝ }
+    ensures { λ r. ⌜ Finished (floorGraph (floorOf w h (now (map .entry))) rows) (a .0) (b .0) r
+        (slicesOf (now (d .entry)) (now (e .exit)) (now (f .exit)) (now (back .exit)) (now (route .exit))
+        (now (work .exit))) ⌝ }
+{
+    masks::fill_masks(w, h, map, work);
+    finish_over_masks(w, h, map, rows, a, b, d, e, f, back, route, work)
 }
 
 // Plans a job whose floor, neighbourhood and ends have a good shape: refusal 6, or the answer and slices of the job.
@@ -220,14 +287,16 @@ fn plan_job(
     ) {
         return Planned::Refused(Refusal::SliceLength);
     }
-    distances::fill_costs(w, h, map, rows, a, d, work);
-    finish(w, h, map, rows, a, b, d, e, f, back, route, work)
+    masks::fill_masks(w, h, map, work);
+    distances::costs_over_masks(w, h, map, rows, a, d, work);
+    finish_over_masks(w, h, map, rows, a, b, d, e, f, back, route, work)
 }
 
 // The planner. For every input it gives document 01's answer, and leaves every lent slice as document 01 says: answers
 // 1 to 6 touch nothing.
 //
-// Lent are the sheet's slices d, e, f, back (document 01's b) and route, of V places each, and a working slice of 4 * V.
+// Lent are the sheet's slices d, e, f, back (document 01's b) and route, of V places each, and a working slice of
+// 4 * V.
 pub fn plan(
     w: usize,
     h: usize,

@@ -241,8 +241,8 @@ module _ (x0 y0 x1 y1 c r : ℕ) (lc : c < span x0 x1) (lr : r < span y0 y1) whe
       (λ h. ⊎-elim (λ v. crossed-up-up x0 y0 x1 y1 dx dy c r i j (goes-up x0 x1 c h) (goes-up y0 y1 r v))
       (λ v. crossed-up-down x0 y0 x1 y1 dx dy c r i j (goes-up x0 x1 c h) (goes-down y0 y1 r v lr)) (le-or-lt y0 y1))
       (λ h. ⊎-elim (λ v. crossed-down-up x0 y0 x1 y1 dx dy c r i j (goes-down x0 x1 c h lc) (goes-up y0 y1 r v))
-      (λ v. crossed-down-down x0 y0 x1 y1 dx dy c r i j (goes-down x0 x1 c h lc) (goes-down y0 y1 r v lr)) (le-or-lt y0 y1))
-      (le-or-lt x0 x1)
+      (λ v. crossed-down-down x0 y0 x1 y1 dx dy c r i j (goes-down x0 x1 c h lc) (goes-down y0 y1 r v lr))
+      (le-or-lt y0 y1)) (le-or-lt x0 x1)
 
   pub enters-on : enters (segmentOf x0 y0 x1 y1) i j ≡ touches dx dy c r
   unfolding enters

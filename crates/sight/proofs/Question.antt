@@ -1,6 +1,5 @@
 -- The sight question: the refusals in their order, what a good question has, and the answer in each case.
 --
---   then-refused, then-good == what `andThen` finds, by its first shape
 --   Asked w h l a b         == what a question that is not refused has
 --   question w h l a b      == its refusals
 --   answer-..               == `sightAnswer` in each case
@@ -15,32 +14,11 @@ use Rattle.floor.specs.Refusals.{floorShape, endShape, andThen}
 use Rattle.floor.specs.declared.Refusal.{Refusal}
 use Rattle.floor.specs.declared.Shape.{Shape}
 use Rattle.floor.specs.declared.Shape.the-variants.{Good, Refused}
-use Rattle.floor.proofs.Shapes.{good-floor, good-end}
+use Rattle.floor.proofs.Shapes.{good-first, good-second, good-floor, good-end}
 use Rattle.sight.specs.Sight.{segment, sees}
 use Rattle.sight.specs.Question.{orRefused, sightAnswer}
 use Rattle.sight.specs.declared.Sight.{Sight}
 use Rattle.sight.specs.declared.Sight.the-variants.{Seen, Unseen, Unasked}
-
--- ---- one shape, then another
-
-pub then-refused : {r : Refusal} (s t : Shape) → s ≡ Refused r → s ≡ andThen s t
-then-refused s t e = rw e
-
-pub then-good : (s t : Shape) → s ≡ Good → t ≡ andThen s t
-then-good s t e = rw e
-
-never : {P : Type 0} {r : Refusal} → _≡_ {A = Shape} (Refused r) Good → P
-never {P} {r} e = let z : _≡_ {A = ℕ} 0 1 = cc in absurd (omega arith)
-
-pub good-first : (s t : Shape) → andThen s t ≡ Good → s ≡ Good
-good-first Good t e = refl
-good-first (Refused r) t e = never e
-
-pub good-second : (s t : Shape) → andThen s t ≡ Good → t ≡ Good
-good-second Good t e = e
-good-second (Refused r) t e = never e
-
--- ---- the question
 
 pub record Asked (w h : ℕ) (l : List ℕ) (a b : ℕ) : Type 0 where
   pub sized : Sized w h l

@@ -41,7 +41,8 @@ unfoldable pub corner : (ℕ → ℕ → Bool) → ℕ → ℕ → Bool
 corner p i j = p i j || p (suc i) j || p i (suc j) || p (suc i) (suc j)
 
 unfoldable pub enters : Segment → ℕ → ℕ → Bool
-enters s i j = between (s .x0) (s .x1) i && between (s .y0) (s .y1) j && (corner (positive s) i j && corner (negative s) i j)
+enters s i j =
+    between (s .x0) (s .x1) i && between (s .y0) (s .y1) j && (corner (positive s) i j && corner (negative s) i j)
 
 unfoldable pub noCellEntered : Floor → Segment → Bool
 noCellEntered f s = every (f .wide) (λ i. every (f .high) (λ j. not (blocked f (suc i) (suc j) && enters s i j)))
@@ -57,8 +58,10 @@ levelOpen f i y = not (blocked f (suc i) y && blocked f (suc i) (suc y))
 -- The line's coordinate is written as the lesser of two equal ones, so that swapping the ends changes nothing.
 unfoldable pub noStepShut : Floor → Segment → Bool
 noStepShut f s =
-    (not (eqb (s .x0) (s .x1)) || every (f .high) (λ j. not (between (s .y0) (s .y1) j) || uprightOpen f (min (s .x0) (s .x1)) j))
-    && (not (eqb (s .y0) (s .y1)) || every (f .wide) (λ i. not (between (s .x0) (s .x1) i) || levelOpen f i (min (s .y0) (s .y1))))
+    (not (eqb (s .x0) (s .x1))
+    || every (f .high) (λ j. not (between (s .y0) (s .y1) j) || uprightOpen f (min (s .x0) (s .x1)) j))
+    && (not (eqb (s .y0) (s .y1))
+    || every (f .wide) (λ i. not (between (s .x0) (s .x1) i) || levelOpen f i (min (s .y0) (s .y1))))
 
 unfoldable pub sees : Floor → Segment → Bool
 sees f s = noCellEntered f s && noStepShut f s

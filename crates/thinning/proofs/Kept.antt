@@ -101,7 +101,8 @@ module _ (s : ℕ → ℕ → Bool) (n : ℕ) (joined : (i : ℕ) → suc i < n 
   from-kept zero i l f = absurd (omega arith)
   from-kept (suc c) i l f = cases (from-kept c (nextKept s n i)) (ltb (suc i) n) refl
     where
-      cases : (nextKept s n i < n → n ≤ nextKept s n i + c → From s n (nextKept s n i) (keptFrom s n c (nextKept s n i)))
+      cases : (nextKept s n i < n → n ≤ nextKept s n i + c
+          → From s n (nextKept s n i) (keptFrom s n c (nextKept s n i)))
           → (b : Bool) → ltb (suc i) n ≡ b
           → From s n i (i ∷ elim b [ true ↦ keptFrom s n c (nextKept s n i) | false ↦ [] ])
       cases rest true e =
@@ -150,7 +151,8 @@ kept-at : {s : ℕ → ℕ → Bool} {n : ℕ} {ps qs : List ℕ} → KeptLaws s
     → m < length qs → getD ps m 0 ≡ getD qs m 0
 kept-at p q zero a b = p .starts ∙ sym (q .starts)
 kept-at {s} {n} {ps} {qs} p q (suc m) a b =
-    let x : Next s n (getD qs m 0) (getD ps (suc m) 0) = rw (kept-at p q m (omega arith) (omega arith)) at (p .next m a) in
+    let e = kept-at p q m (omega arith) (omega arith) in
+    let x : Next s n (getD qs m 0) (getD ps (suc m) 0) = rw e at (p .next m a) in
     let y : Next s n (getD qs m 0) (getD qs (suc m) 0) = q .next m b in
     omega (arith, next-only x y, next-only y x)
 
@@ -167,4 +169,5 @@ kept-long {s} {n} {ps} {qs} p q =
 
 pub kept-only : {s : ℕ → ℕ → Bool} {n : ℕ} {ps qs : List ℕ} → KeptLaws s n ps → KeptLaws s n qs → ps ≡ qs
 kept-only {s} {n} {ps} {qs} p q =
-    ext-getD 0 ps qs (omega (arith, kept-long p q, kept-long q p)) (λ m a. kept-at p q m a (omega (arith, kept-long q p)))
+    ext-getD 0 ps qs (omega (arith, kept-long p q, kept-long q p))
+    (λ m a. kept-at p q m a (omega (arith, kept-long q p)))

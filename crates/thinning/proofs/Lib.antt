@@ -1,4 +1,3 @@
-pub mod More
 pub mod Shapes
 pub mod Kept
 pub mod Answered

@@ -20,8 +20,7 @@ use Rattle.floor.specs.declared.Refusal.{Refusal}
 use Rattle.floor.specs.declared.Refusal.the-variants.{SliceLength, NotJoined}
 use Rattle.floor.specs.declared.Shape.{Shape}
 use Rattle.floor.specs.declared.Shape.the-variants.{Good, Refused}
-use Rattle.floor.proofs.Shapes.{GoodFloor, good-floor}
-use Rattle.sight.proofs.Question.{then-refused, good-first, good-second}
+use Rattle.floor.proofs.Shapes.{then-refused, good-first, good-second, GoodFloor, good-floor}
 use Rattle.thinning.specs.Thinning.{seen, isVertex, seesNext, joinedList}
 use Rattle.thinning.specs.Answer.{listShape, thinAnswer, thinOutput, Thins}
 use Rattle.thinning.specs.Known.{Listed, Recorded}
@@ -108,7 +107,8 @@ module _ (w h : ℕ) (map list : List ℕ) (k n : ℕ) where
       shape-other b = rw (e, le-leb (length list) 16384 a, ne-eqb k (length list) b)
 
       module _ (b : k ≡ length list) where
-        pub shape-unjoined : joinedList (floorOf w h map) list n ≡ false → Refused NotJoined ≡ listShape w h map list k n
+        pub shape-unjoined : joinedList (floorOf w h map) list n ≡ false
+            → Refused NotJoined ≡ listShape w h map list k n
         unfolding listShape
         shape-unjoined j = rw (e, le-leb (length list) 16384 a, eq-eqb k (length list) b, j)
 

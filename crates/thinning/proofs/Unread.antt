@@ -9,12 +9,11 @@ use borrow.Author.Tests.{ltb-true}
 use lib.Dec.{leb, ltb}
 use lib.ListN.{length, getD}
 use Rattle.basics.specs.Bounded.{every, seek}
-use Rattle.basics.proofs.Bounded.{every-cong}
+use Rattle.basics.proofs.Bounded.{every-cong, seek-cong}
 use Rattle.floor.specs.Floor.{Floor, floorOf, vertices}
 use Rattle.sight.specs.Sight.{segment, sees}
 use Rattle.thinning.specs.Thinning.{seen, nextKept, keptFrom, keptPositions, isVertex, seesNext, joinedList}
 use Rattle.thinning.specs.Answer.{listShape, thinAnswer, thinOutput}
-use Rattle.thinning.proofs.More.{seek-cong}
 
 -- The first n places of the two lists, which have the same length, are the same.
 pub record SameTo (n : ℕ) (l k : List ℕ) : Type 0 where

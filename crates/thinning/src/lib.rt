@@ -1,12 +1,12 @@
 // Thinning: which positions of a list of vertices a cart needs.
 ghost use mathlib.Core.Path.{_≡_};
-ghost use Prim.Native.Nat.{suc, pred, _<_, _≤_};
+ghost use Prim.Native.Nat.{pred, _<_, _≤_};
 ghost use lib.ListN.{length, getD};
 ghost use Rattle.basics.specs.Bounded.{every};
 ghost use Rattle.floor.specs.Floor.{Sized, floorOf, vertices};
 ghost use Rattle.thinning.specs.Thinning.{seen, nextKept, isVertex, seesNext, joinedList};
 ghost use Rattle.thinning.specs.Answer.{listShape, Thins, thinNumber, thinKept};
-ghost use Rattle.thinning.specs.Known.{Listed, Recordable, Recorded};
+ghost use Rattle.thinning.specs.Known.{Listed, Leg, Recordable, Recorded};
 use floor::Refusal;
 use floor::Shape;
 use floor::Vertex;
@@ -123,19 +123,24 @@ fn list_shape(w: usize, h: usize, map: &[u8], list: &[u16], places: usize, n: us
     Shape::Refused(Refusal::NotJoined)
 }
 
-// The position kept after position i: one less than the first past i that is not seen from i, or the last.
+// The position kept after position i, which sees the next one: one less than the first past i that is not seen from i,
+// or the last. The search ends at `end`: n, or the first position that is not seen once it is found.
 fn next_kept(w: usize, h: usize, map: &[u8], list: &[u16], n: usize, i: usize) -> usize
-    requires { ⌜ Sized w h (now map) × Listed w h (now list) n × (suc i < n) ⌝ }
+    requires { ⌜ Sized w h (now map) × Leg (floorOf w h (now map)) (now list) n i ⌝ }
     ensures { λ r. ⌜ r ≡ nextKept (seen (floorOf w h (now (map .entry))) (now (list .entry))) n i ⌝ }
 {
-    let mut k = i + 1;
-    while k < n {
-        if !seen_at(w, h, map, list, n, i, k) {
-            return k - 1;
+    let mut last = i + 1;
+    let mut k = i + 2;
+    let mut end = n;
+    while k < end {
+        if seen_at(w, h, map, list, n, i, k) {
+            last = k;
+        } else {
+            end = k;
         }
         k += 1;
     }
-    n - 1
+    last
 }
 
 // Writes the kept positions of a joined list into the output slice, then 0, and returns how many there are. Position 0,

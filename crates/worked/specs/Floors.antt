@@ -20,7 +20,7 @@ use Rattle.moves.specs.Moves.{rowsOf}
 use Rattle.paths.specs.Graph.{Graph}
 use Rattle.paths.specs.Distance.{unreachable, distance, pathCount}
 use Rattle.paths.specs.Route.{traversals}
-use Rattle.paths.specs.Sheet.{Sheet, TrueRoute, TrueNoRoute}
+use Rattle.paths.specs.Sheet.{Sheet, sheetOf, TrueRoute, TrueNoRoute}
 use Rattle.grid.specs.Grid.{floorGraph, jobOf}
 use Rattle.grid.specs.declared.Job.the-variants.{Fit}
 use Rattle.thinning.specs.Thinning.{keptPositions}
@@ -59,9 +59,6 @@ job w h l nb r a b s c t k = record {
   total = t;
   kept = k;
 }
-
-abbrev pub sheetOf : List ℕ → List ℕ → List ℕ → List ℕ → List ℕ → ℕ → Sheet
-sheetOf d e f b route n = record { d = d; e = e; f = f; b = b; route = route; n = n }
 
 abbrev pub eight : Rows
 eight = rowsOf 0 1 8

@@ -3,9 +3,8 @@ use mathlib.Core.Path.{_∙_}
 use mathlib.Core.Bool.{false}
 use Rattle.floor.specs.Floor.{floorOf}
 use Rattle.paths.specs.Graph.{Graph}
-use Rattle.paths.specs.Sheet.{Sheet}
+use Rattle.paths.specs.Sheet.{Sheet, sheetOf}
 use Rattle.grid.specs.Grid.{floorGraph}
-use Rattle.checker.specs.Answer.{sheetOf}
 use Rattle.checker.proofs.Exact.{noRoute-reached, noRoute-counted, noRoute-start, noRoute-vertices}
 use Rattle.checker.proofs.Exact.{vertices-uncounted, posed-uncounted}
 use borrow.Author.Needs.{needs}

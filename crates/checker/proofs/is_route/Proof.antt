@@ -8,11 +8,10 @@ use Rattle.floor.specs.Floor.{floorOf}
 use Rattle.moves.proofs.Table.{listed-lawful}
 use Rattle.paths.specs.Graph.{Graph}
 use Rattle.paths.specs.Distance.{unreachable}
-use Rattle.paths.specs.Sheet.{Sheet}
+use Rattle.paths.specs.Sheet.{Sheet, sheetOf}
 use Rattle.paths.specs.Local.{entry}
 use Rattle.grid.specs.Grid.{floorGraph}
 use Rattle.grid.proofs.Lawful.{floor-lawful}
-use Rattle.checker.specs.Answer.{sheetOf}
 use Rattle.checker.specs.Tests.{verticesTest, FitCounts}
 use Rattle.checker.proofs.Exact.{route-unreached, route-start, route-end}
 use Rattle.checker.proofs.Exact.{route-vertices, route-points, counts-fit}
@@ -101,9 +100,9 @@ route-right-requires c κs =
     let s = start (first v) in (
       s .pre,
       subst (λ (n : ℕ). FitCounts n (s .args .f .now) (s .args .back .now)) (sym (s .pre .shape .d))
-          (counts-fit (graph s) (s .args .a) (s .args .b) (sheet s) (near (first v)) (v .before .before .before .if2 .left)
-          (v .before .if3 .left)
-          (vertices v) (c .if4 .left) (floor-lawful (floorOf (s .args .w) (s .args .h) (s .args .map .now)) (s .args .rows)
+          (counts-fit (graph s) (s .args .a) (s .args .b) (sheet s) (near (first v))
+          (v .before .before .before .if2 .left) (v .before .if3 .left) (vertices v) (c .if4 .left)
+          (floor-lawful (floorOf (s .args .w) (s .args .h) (s .args .map .now)) (s .args .rows)
           (listed-lawful (s .pre .job .listed)))
           (s .pre .job .start) (s .pre .job .end) (omega
           (arith, first v .before .before .before .before .shared-slice-known4 .given (s .args .b)))),

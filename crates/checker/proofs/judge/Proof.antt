@@ -2,7 +2,7 @@
 use Prim.Native.Nat.{_^_, _<_}
 use native.Mathlib.Omega.{arith}
 use Rattle.paths.specs.Local.{entry}
-use Rattle.checker.specs.Answer.{sheetOf}
+use Rattle.paths.specs.Sheet.{sheetOf}
 use Rattle.checker.specs.Tests.{Posed}
 use Rattle.checker.proofs.Judged.{judged-unsized, judged-posed, judged-route, judged-noRoute, judged-false}
 use borrow.Author.Needs.{needs}

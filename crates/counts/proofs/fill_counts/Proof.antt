@@ -12,7 +12,7 @@ use Rattle.counts.proofs.fill_counts.Tie as tie
 
 count-along-requires : tie.Need-count-along-requires
 count-along-requires c κs =
-    let p = c .before .before .before .before .before .before .pre in
+    let p = c .before .before .before .before .before .before .before .before .before .before .pre in
     (readied-turned (p .0), omega (arith, p .1, p .0 .e-len), p .4 ∙ ap zeros (sym (p .0 .e-len)))
 
 count-along-requires-2 : tie.Need-count-along-requires-2
@@ -29,7 +29,7 @@ returns c =
     λ g K.
     let p = c .before .before .before .before in
     let first = p .before .before .before in
-    let s = first .before .before .before .before .before .before .before in
+    let s = first .before .before .before .before .before .before .before .before .before .before .before in
     filled-both K (c .before .before .count-along2 .result)
     (subst (Passed g (s .args .b) (s .args .a) _) (p .if1 .taken) (first .count-along .ensures g (known-turned K)))
     (omega (arith, p .before .slice-known3 .given (s .args .a))) (c .before .before .count-along2 .ensures g K)
@@ -45,10 +45,11 @@ returns-2 c =
     λ g K.
     let p = c .before .before .before .before in
     let first = p .before .before .before in
-    let s = first .before .before .before .before .before .before .before in
+    let s = first .before .before .before .before .before .before .before .before .before .before .before in
+    let same = first .count-along .kept .1 .1 .1 .1 .1 .1 .1 .1 .1 .1 .1 .1 .0 in
     filled-none K
     (subst (Passed g (s .args .b) (s .args .a) _) (p .if1 .left) (first .count-along .ensures g (known-turned K)))
-    (s .pre .3) (first .count-along .kept .1 .1 .1 .1 .1 .1 .1 .1 .0 ∙ ap length (s .pre .4) ∙ length-replicate _ 0)
+    (s .pre .3) (same ∙ ap length (s .pre .4) ∙ length-replicate _ 0)
     (c .before .before .clear-u64 .ensures)
 
 pub fill-counts-spec : {M : Type 1} → statement M

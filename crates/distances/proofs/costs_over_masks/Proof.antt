@@ -1,5 +1,5 @@
--- `distances::costs_over_masks` meets its contract: the merge runs on the floor's graph, as its masks and table give it.
--- Assumes nothing.
+-- `distances::costs_over_masks` meets its contract: the merge runs on the floor's graph, as its masks and table give
+-- it. Assumes nothing.
 use native.Mathlib.Omega.{arith}
 use Rattle.distances.proofs.Operations.{mergeable, ordered-costs}
 use borrow.Author.Needs.{needs}
@@ -26,10 +26,7 @@ settle-requires c κs =
     let b = c .before .before .before .before .before in
     let t = b .before .before .before .before in
     let s = t .before .before .before .before in
-    mergeable (s .pre .0) (s .pre .1) (t .reach-of .ensures) (b .classes-of .ensures)
-    (omega (arith, slice-aggregate-settle (c .before .before .before .before)))
-    (omega (arith, slice-aggregate-settle-2 (c .before .before .before)))
-    (omega (arith, slice-aggregate-settle-3 (c .before .before)))
+    mergeable (s .pre .0) (s .pre .1) (t .reach-of .ensures) (b .classes-of .ensures) (omega (arith, s .pre .0 .source))
 
 same-length : tie.Need-same-length
 same-length c = search needs
@@ -42,7 +39,7 @@ returns c =
     let b = c .before .before .before .before in
     let t = b .before .before .before .before .before .before .before .before .before .before in
     let s = t .before .before .before .before in
-    ordered-costs (s .pre .0) (s .pre .1) (b .settle .ensures)
+    ordered-costs (s .pre .0) (s .pre .1) (b .settle .ensures) (b .settle .ensures .costs)
 
 pub costs-over-masks-spec : {M : Type 1} → statement M
 costs-over-masks-spec =

@@ -1,12 +1,18 @@
--- `distances::fill_costs` meets its contract: the costs are filled, and then the working slice is cleared.
--- Assumes nothing.
-use Rattle.distances.proofs.Operations.{filled-costs}
+-- `distances::fill_costs` meets its contract: the masks are stored, the costs are filled over them, and then the
+-- working slice is cleared. Assumes nothing.
+use Rattle.distances.proofs.Operations.{costing-on, filled-costs}
 use borrow.Author.Needs.{needs}
 use Rattle.distances.proofs.fill_costs.Statement.{statement}
 use Rattle.distances.proofs.fill_costs.Tie as tie
 
-costs-and-order-requires : tie.Need-costs-and-order-requires
-costs-and-order-requires c κs = search needs
+fill-masks-requires : tie.Need-fill-masks-requires
+fill-masks-requires c κs = search needs
+
+costs-over-masks-requires : tie.Need-costs-over-masks-requires
+costs-over-masks-requires c κs =
+    let b = c .before .before .before .before in
+    let s = b .before .before .before .before .before in
+    (costing-on (s .pre) (b .fill-masks .ensures .len), b .fill-masks .ensures .masks)
 
 fill-u32-requires : tie.Need-fill-u32-requires
 fill-u32-requires c κs = search needs
@@ -20,9 +26,15 @@ same-length-2 c = search needs
 returns : tie.Need-returns
 returns c =
     let b = c .before .before .before .before .before .before .before .before in
-    filled-costs (b .costs-and-order .ensures) (c .before .before .fill-u32 .ensures)
+    filled-costs (b .costs-over-masks .ensures) (c .before .before .fill-u32 .ensures)
 
 pub fill-costs-spec : {M : Type 1} → statement M
 fill-costs-spec =
     tie.close
-    (tie.spec costs-and-order-requires fill-u32-requires same-length same-length-2 returns)
+    (tie.spec
+    fill-masks-requires
+    costs-over-masks-requires
+    fill-u32-requires
+    same-length
+    same-length-2
+    returns)

@@ -1,5 +1,5 @@
--- `floor::blocked_at` meets its contract: outside the map each test gives the blocked answer, inside it the cell is read.
--- Assumes nothing.
+-- `floor::blocked_at` meets its contract: outside the map each test gives the blocked answer, inside it the cell is
+-- read. Assumes nothing.
 use mathlib.Core.Path.{_≡_, sym, ap, _∙_}
 use mathlib.Core.Bool.{not}
 use native.Mathlib.Omega.{arith}

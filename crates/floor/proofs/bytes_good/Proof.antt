@@ -1,4 +1,5 @@
--- `floor::bytes_good` meets its contract: the largest byte so far tells whether the bytes passed are all 0 or 1. Assumes nothing.
+-- `floor::bytes_good` meets its contract: the largest byte so far tells whether the bytes passed are all 0 or 1.
+-- Assumes nothing.
 use Prim.Native.Nat.{_-_}
 use native.Mathlib.Omega.{arith}
 use borrow.Author.Needs.{needs}
@@ -28,7 +29,8 @@ loop-less : tie.Need-loop-less Inv-loop μ-loop
 loop-less c = search needs
 
 loop-again : tie.Need-loop-again Inv-loop μ-loop
-loop-again c = largest-more (c .larger .result) (c .before .before .before .loop .inv) (omega arith) (c .larger .ensures)
+loop-again c =
+    largest-more (c .larger .result) (c .before .before .before .loop .inv) (omega arith) (c .larger .ensures)
 
 returns : tie.Need-returns Inv-loop μ-loop
 returns c = largest-done (c .before .loop .inv) (omega arith)

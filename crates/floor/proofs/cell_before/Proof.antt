@@ -1,9 +1,9 @@
--- `floor::cell_before` meets its contract: the cell's number lies in the map, which is small. Assumes nothing.
+-- `floor::cell_before` meets its contract: the cell's number lies in the map. Assumes nothing.
 use Prim.Native.Nat.{_-_, _+_, _*_, _<_}
 use mathlib.Core.Path.{refl}
 use native.Mathlib.Omega.{arith}
 use lib.ListN.{length}
-use Rattle.floor.proofs.Numbers.{cell-inside, map-small}
+use Rattle.floor.proofs.Numbers.{mul-fits, mul-add-fits, cell-inside}
 use borrow.Author.Needs.{needs}
 use Rattle.floor.proofs.cell_before.Statement.{statement}
 use Rattle.floor.proofs.cell_before.Tie as tie
@@ -15,13 +15,13 @@ sub-t6 : tie.Need-sub-t6
 sub-t6 c = search needs
 
 mul-t7 : tie.Need-mul-t7
-mul-t7 c = omega (arith, inside c, map-small (c .pre .0))
+mul-t7 c = record { fits = mul-fits (omega arith) (omega arith) }
 
 sub-t8 : tie.Need-sub-t8
 sub-t8 c = search needs
 
 add-t9 : tie.Need-add-t9
-add-t9 c = omega (arith, inside c, map-small (c .pre .0))
+add-t9 c = record { fits = mul-add-fits (omega arith) (omega arith) (omega arith) }
 
 returns : tie.Need-returns
 returns c = (refl, inside c)

@@ -1,8 +1,10 @@
 -- `moves::masked_step` meets its contract: the test is the row's bit. Assumes nothing.
 use Prim.Native.Nat.{_/_, _%_, _^_}
-use mathlib.Core.Path.{_≡_}
+use mathlib.Core.Path.{_≡_, ap}
 use mathlib.Core.Bool.{true, false}
+use native.Mathlib.Omega.{arith}
 use borrow.Author.Tests.{eq-eqb, ne-eqb}
+use Rattle.moves.specs.declared.Step.the-variants.{To}
 use Rattle.moves.specs.Steps.{stepOf}
 use Rattle.moves.specs.Masks.{bit}
 use borrow.Author.Needs.{needs}
@@ -22,16 +24,18 @@ shr-if1 : tie.Need-shr-if1
 shr-if1 c = search needs
 
 add-t9 : tie.Need-add-t9
-add-t9 c = search needs
+add-t9 c =
+    let t = c .before .before in
+    omega (arith, t .before .pre .enough (set t))
 
 sub-t10 : tie.Need-sub-t10
 sub-t10 c =
     let t = c .before .before .before in
-    t .before .pre .enough (set t)
+    omega (arith, t .before .pre .enough (set t))
 
 returns : tie.Need-returns
 unfolding stepOf
-returns c = rw (set (c .before .before .before))
+returns c = rw (set (c .before .before .before)) (ap (λ n. To (record { 0 = n })) (omega arith))
 
 returns-2 : tie.Need-returns-2
 unfolding stepOf

@@ -8,14 +8,14 @@ use Rattle.moves.proofs.row_at.Tie as tie
 lawful : (s : tie.Start) → LawfulMove (s .args .rows) (s .args .m)
 lawful s = lawful-move (s .args .rows) (s .args .m) (s .pre .0) (s .pre .1)
 
-mul-result : tie.Need-mul-result
-mul-result c = omega (arith, lawful (c .before) .in-table)
+mul-past : tie.Need-mul-past
+mul-past c = omega (arith, lawful (c .before) .in-table)
 
 add-result : tie.Need-add-result
-add-result c = omega (arith, lawful (c .before .before) .in-table)
+add-result c = omega (arith, lawful (c .before) .in-table)
 
 returns : tie.Need-returns
-returns c = (refl, lawful (c .before .before) .in-table)
+returns c = (refl, lawful (c .before) .in-table)
 
 pub row-at-spec : {M : Type 1} → statement M
-row-at-spec = tie.close (tie.spec mul-result add-result returns)
+row-at-spec = tie.close (tie.spec mul-past add-result returns)

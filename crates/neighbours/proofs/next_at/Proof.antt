@@ -6,7 +6,8 @@ use native.Mathlib.Omega.{arith}
 use borrow.Author.Tests.{not-true, not-false}
 use lib.ListN.{length}
 use Rattle.paths.specs.Route.{nextVertex}
-use Rattle.neighbours.specs.Reach.{readStep}
+use Rattle.neighbours.specs.declared.Reach.{Reach}
+use Rattle.neighbours.specs.Reach.{tableOf, readStep}
 use Rattle.neighbours.specs.Choice.{candidateOf, traversalOf}
 use Rattle.neighbours.proofs.Steps.{stepOf-off, stepOf-to}
 use Rattle.neighbours.proofs.Choice.{BestScan, best-start, best-off, best-first}
@@ -17,29 +18,29 @@ use Rattle.neighbours.proofs.next_at.Statement.{statement}
 use Rattle.neighbours.proofs.next_at.Tie as tie
 
 abbrev Inv-loop : tie.InvT-loop
-Inv-loop mask d e f b goal v t best₀ high₀ m₀ m-end best high m = BestScan (traversalOf f b)
-    (candidateOf t mask d e goal v) (t .count) m best high
+Inv-loop count row up down cost mask d e f b goal v best₀ high₀ m₀ best high m =
+    BestScan (traversalOf f b) (candidateOf (tableOf count row up down cost) mask d e goal v) count m best high
 
 abbrev μ-loop : tie.MeasureT-loop
-μ-loop mask d e f b goal v t best₀ high₀ m₀ m-end best high m = t .count - m
+μ-loop count row up down cost mask d e f b goal v best₀ high₀ m₀ best high m = count - m
+
+abbrev table : tie.Start Inv-loop μ-loop → Reach
+table s = let a = s .args in tableOf (a .count) (a .row .now) (a .up .now) (a .down .now) (a .cost .now)
 
 abbrev start : tie.In-loop Inv-loop μ-loop → tie.Start Inv-loop μ-loop
-start c = c .before .before .before .before .before .before
+start c = c .before .before .before .before .before .before .before .before .before .before
 
 -- the turn of the loop in which a far end is known
 abbrev turn-of : tie.After-known-told Inv-loop μ-loop → tie.In-loop Inv-loop μ-loop
 turn-of c = c .before .before .before .before .before .before .before
 
-turn : (c : tie.In-loop Inv-loop μ-loop) → c .before .loop .m < start c .args .t1 .count
+turn : (c : tie.In-loop Inv-loop μ-loop) → c .before .loop .m < start c .args .count
 turn c = omega arith
-
-below : (c : tie.In-loop Inv-loop μ-loop) → c .before .loop .m < 8
-below c = omega (arith, turn c, start c .pre .0 .here .few)
 
 -- the far end of the move, once it is known to be there
 goes : (c : tie.After-known-told Inv-loop μ-loop)
-    → let a = start (turn-of c) .args in
-    readStep (a .t1) (a .mask) (a .v) (turn-of c .before .loop .m) ≡ some (c .before .w .given .0 .0 .0)
+    → let s = start (turn-of c) in
+    readStep (table s) (s .args .mask) (s .args .v) (turn-of c .before .loop .m) ≡ some (c .before .w .given .0 .0 .0)
 unfolding readStep
 goes c = stepOf-to _ _ (sym (c .before .before .before .neighbour .ensures) ∙ c .before .w .given .1)
 
@@ -55,8 +56,9 @@ far-of c = c .before .before .before
 
 taken : (c : tie.Else1 Inv-loop μ-loop)
     → let l = turn-of (far-of c) in
-    let a = start l .args in
-    candidateOf (a .t1) (a .mask) (a .d .now) (a .e .now) (a .goal) (a .v) (l .before .loop .m) ≡ some
+    let s = start l in
+    let a = s .args in
+    candidateOf (table s) (a .mask) (a .d .now) (a .e .now) (a .goal) (a .v) (l .before .loop .m) ≡ some
     (far-of c .before .w .given .0 .0 .0)
 taken c = candidate-on _ _ _ _ _ _ (goes (far-of c)) (sym (c .before .follows .ensures) ∙ not-false _ (c .if1 .left))
 
@@ -64,26 +66,26 @@ loop-holds : tie.Need-loop-holds Inv-loop μ-loop
 loop-holds c = best-start
 
 mul-neighbour : tie.Need-mul-neighbour Inv-loop μ-loop
-mul-neighbour c = omega (arith, below c)
+mul-neighbour c = omega (arith, start c .pre .0 .lent .rows)
 
-element-copy-out-neighbour : tie.Need-element-copy-out-neighbour Inv-loop μ-loop
-element-copy-out-neighbour c = below c
+shared-slice-read-neighbour : tie.Need-shared-slice-read-neighbour Inv-loop μ-loop
+shared-slice-read-neighbour c = omega (arith, start (c .before) .pre .0 .lent .rows)
 
 mul-neighbour-2 : tie.Need-mul-neighbour-2 Inv-loop μ-loop
-mul-neighbour-2 c = omega (arith, below (c .before))
+mul-neighbour-2 c = omega (arith, start (c .before) .pre .0 .lent .ups)
 
-element-copy-out-neighbour-2 : tie.Need-element-copy-out-neighbour-2 Inv-loop μ-loop
-element-copy-out-neighbour-2 c = below (c .before)
+shared-slice-read-neighbour-2 : tie.Need-shared-slice-read-neighbour-2 Inv-loop μ-loop
+shared-slice-read-neighbour-2 c = omega (arith, start (c .before .before) .pre .0 .lent .ups)
 
 mul-neighbour-3 : tie.Need-mul-neighbour-3 Inv-loop μ-loop
-mul-neighbour-3 c = omega (arith, below (c .before .before))
+mul-neighbour-3 c = omega (arith, start (c .before .before) .pre .0 .lent .downs)
 
-element-copy-out-neighbour-3 : tie.Need-element-copy-out-neighbour-3 Inv-loop μ-loop
-element-copy-out-neighbour-3 c = below (c .before .before)
+shared-slice-read-neighbour-3 : tie.Need-shared-slice-read-neighbour-3 Inv-loop μ-loop
+shared-slice-read-neighbour-3 c = omega (arith, start (c .before .before .before) .pre .0 .lent .downs)
 
 neighbour-requires : tie.Need-neighbour-requires Inv-loop μ-loop
 neighbour-requires c κs =
-    let l = c .before .before .before in start l .pre .0 .here .readable (l .before .loop .m) (turn l) .movable
+    let l = c .before .before .before in start l .pre .0 .here .movable (l .before .loop .m) (turn l)
 
 enum-known-w : tie.Need-enum-known-w Inv-loop μ-loop
 enum-known-w c = search needs
@@ -105,10 +107,10 @@ loop-again c =
     (sym (c .before .before .neighbour .ensures) ∙ c .enum-told .given .1)))
 
 mul-follows : tie.Need-mul-follows Inv-loop μ-loop
-mul-follows c = omega (arith, below (turn-of c))
+mul-follows c = omega (arith, start (turn-of c) .pre .0 .lent .costs)
 
-element-copy-out-follows : tie.Need-element-copy-out-follows Inv-loop μ-loop
-element-copy-out-follows c = below (turn-of c)
+shared-slice-read-follows : tie.Need-shared-slice-read-follows Inv-loop μ-loop
+shared-slice-read-follows c = omega (arith, start (turn-of (c .before)) .pre .0 .lent .costs)
 
 follows-requires : tie.Need-follows-requires Inv-loop μ-loop
 follows-requires c κs =
@@ -166,8 +168,8 @@ loop-again-4 : tie.Need-loop-again-4 Inv-loop μ-loop
 loop-again-4 c =
     let k = c .before .before .before .before in
     let l = turn-of (far-of k) in
-    best-lower (far-of k .before .w .given .0 .0 .0) (c .before .before .before .traversal-at .result) (l .before .loop .inv)
-    (turn l) (taken k)
+    best-lower (far-of k .before .w .given .0 .0 .0) (c .before .before .before .traversal-at .result)
+    (l .before .loop .inv) (turn l) (taken k)
     (c .before .before .before .traversal-at .ensures) (c .before .enum-told2 .given .0 .0 .0)
     (c .before .enum-told2 .given .1) (omega arith)
 
@@ -198,11 +200,11 @@ next-at-spec =
     μ-loop
     loop-holds
     mul-neighbour
-    element-copy-out-neighbour
+    shared-slice-read-neighbour
     mul-neighbour-2
-    element-copy-out-neighbour-2
+    shared-slice-read-neighbour-2
     mul-neighbour-3
-    element-copy-out-neighbour-3
+    shared-slice-read-neighbour-3
     neighbour-requires
     enum-known-w
     enum-told
@@ -210,7 +212,7 @@ next-at-spec =
     loop-less
     loop-again
     mul-follows
-    element-copy-out-follows
+    shared-slice-read-follows
     follows-requires
     add-m-2
     loop-less-2

@@ -1,4 +1,5 @@
 -- `planner::plan` meets its contract: a job of bad shape is refused, and any other is planned. Assumes nothing.
+use mathlib.Core.Path.{refl}
 use Rattle.planner.proofs.Shaped.{good-job, plans-unfit, plans-fit}
 use borrow.Author.Needs.{needs}
 use Rattle.planner.proofs.plan.Statement.{statement}
@@ -19,7 +20,7 @@ plan-job-requires c κs =
     good-job _ _ _ (at .before .before .job-of .ensures) (at .job2 .given .1)
 
 returns : tie.Need-returns
-returns c = plans-unfit (c .before .before .before .job-of .ensures) (c .before .job .given .1)
+returns c = plans-unfit (cc) refl
 
 same-length : tie.Need-same-length
 same-length c = search needs

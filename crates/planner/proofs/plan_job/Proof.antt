@@ -1,26 +1,31 @@
--- `planner::plan_job` meets its contract: the lengths of the slices pass the test or not, and then the job is finished
--- from the costs from a. Assumes nothing.
-use borrow.Author.Tests.{not-true, not-false}
+-- `planner::plan_job` meets its contract: the lengths of the slices pass the test or not, and then the masks are
+-- stored, the costs from a are filled, and the job is finished from them. Assumes nothing.
+use mathlib.Core.Path.{refl}
+use borrow.Author.Tests.{not-false}
 use Rattle.floor.specs.Floor.{vertices}
-use Rattle.planner.specs.Parts.{Lent}
-use Rattle.planner.proofs.Shaped.{lent-of, costing-of, finishable-of, job-unsized, job-sized}
+use Rattle.planner.specs.Parts.{FullSlices}
+use Rattle.planner.proofs.Shaped.{lent-of, costing-of, finishable-of, lengths-bad, job-unsized, job-sized}
 use borrow.Author.Needs.{needs}
 use Rattle.planner.proofs.plan_job.Statement.{statement}
 use Rattle.planner.proofs.plan_job.Tie as tie
 
--- The places: where the function begins, at the test, and after the costs from a.
+-- The places: where the function begins, at the test, and after the masks and the costs from a.
 abbrev start : tie.After-lengths-good → tie.Start
 start c = c .before .before .before .before .before .before .before .before .before
 
-abbrev tested : tie.After-fill-costs → tie.Else1
-tested c = c .before .before .before
+abbrev tested : tie.After-fill-masks → tie.Else1
+tested c = c .before .before
 
-abbrev costed : tie.After-finish-arg6 → tie.After-fill-costs
+abbrev masked : tie.After-costs-over-masks → tie.After-fill-masks
+masked c = c .before .before .before .before .before
+
+abbrev costed : tie.After-finish-over-masks-arg6 → tie.After-costs-over-masks
 costed c = c .before .before .before .before .before .before .before .before .before .before
 
 -- The slices have the lengths that they need.
 lent : (c : tie.Else1) → let s = start (c .before) .args in
-    Lent (vertices (s .w) (s .h)) (s .d .now) (s .e .now) (s .f .now) (s .back .now) (s .route .now) (s .work .now)
+    FullSlices (vertices (s .w) (s .h))
+    (s .d .now) (s .e .now) (s .f .now) (s .back .now) (s .route .now) (s .work .now)
 lent c =
     let s = start (c .before) .args in
     lent-of (s .d .now) (s .e .now) (s .f .now) (s .back .now) (s .route .now) (s .work .now)
@@ -33,18 +38,24 @@ lengths-good-requires : tie.Need-lengths-good-requires
 lengths-good-requires c κs = search needs
 
 returns : tie.Need-returns
-returns c =
-    job-unsized (c .before .before .vertex-count .ensures .0) (c .before .lengths-good .ensures)
-    (not-true _ (c .if1 .taken))
+returns c = job-unsized (search lengths-bad) refl
 
-fill-costs-requires : tie.Need-fill-costs-requires
-fill-costs-requires c κs = costing-of (start (c .before .before .before) .pre) (lent (c .before .before))
+fill-masks-requires : tie.Need-fill-masks-requires
+fill-masks-requires c κs =
+    (start (c .before .before) .pre .sized, lent (c .before) .work-len)
 
-finish-requires : tie.Need-finish-requires
-finish-requires c κs =
-    let at = costed c in
-    finishable-of (start (tested at .before) .pre) (lent (tested at)) (at .fill-costs .ensures .costs)
-    (at .fill-costs .kept .1 .1 .1 .1 .1 .0) (at .fill-costs .kept .1 .1 .1 .1 .1 .1 .0)
+costs-over-masks-requires : tie.Need-costs-over-masks-requires
+costs-over-masks-requires c κs =
+    let m = c .before .before .before .before in (
+      costing-of (start (tested m .before) .pre) (lent (tested m)) (m .fill-masks .ensures .len),
+      m .fill-masks .ensures .masks,
+    )
+
+finish-over-masks-requires : tie.Need-finish-over-masks-requires
+finish-over-masks-requires c κs =
+    let C = costed c .costs-over-masks .ensures in
+    let at = tested (masked (costed c)) in
+    (finishable-of (start (at .before) .pre) (lent at) (C .costs) (C .work-len), C .masks)
 
 same-length : tie.Need-same-length
 same-length c = search needs
@@ -67,7 +78,7 @@ same-length-6 c = search needs
 returns-2 : tie.Need-returns-2
 returns-2 c =
     let at = c .before .before .before .before .before .before .before .before .before .before in
-    job-sized (lent (tested (costed (at .before)))) (at .finish .ensures)
+    job-sized (lent (tested (masked (costed (at .before))))) (at .finish-over-masks .ensures)
 
 pub plan-job-spec : {M : Type 1} → statement M
 plan-job-spec =
@@ -76,8 +87,9 @@ plan-job-spec =
     vertex-count-requires
     lengths-good-requires
     returns
-    fill-costs-requires
-    finish-requires
+    fill-masks-requires
+    costs-over-masks-requires
+    finish-over-masks-requires
     same-length
     same-length-2
     same-length-3

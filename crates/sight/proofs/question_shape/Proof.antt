@@ -4,8 +4,7 @@ use mathlib.Core.Path.{_≡_, sym, _∙_}
 use Rattle.floor.specs.Refusals.{floorShape, endShape, andThen}
 use Rattle.floor.specs.declared.Shape.{Shape}
 use Rattle.floor.specs.declared.Shape.the-variants.{Good}
-use Rattle.floor.proofs.Shapes.{good-floor}
-use Rattle.sight.proofs.Question.{then-refused, then-good}
+use Rattle.floor.proofs.Shapes.{then-refused, then-good, good-floor}
 use borrow.Author.Needs.{needs}
 use Rattle.sight.proofs.question_shape.Statement.{statement}
 use Rattle.sight.proofs.question_shape.Tie as tie

@@ -51,7 +51,8 @@ loop-again c =
     let l = c .before .before .before .loop in
     let e = c .before .before .before .before .vertex-count .ensures .0 in
     let yes = vertex-yes (s .args .w) (s .args .h) (s .args .list .now) (l .k) (omega (arith, e)) in
-    passed-more (isVertex (s .args .w) (s .args .h) (s .args .list .now) (l .k)) (l .inv) (omega arith) refl (ap not yes)
+    passed-more (isVertex (s .args .w) (s .args .h) (s .args .list .now) (l .k)) (l .inv) (omega arith) refl
+    (ap not yes)
 
 returns-2 : tie.Need-returns-2 Inv-loop μ-loop
 returns-2 c = passed-all (c .before .loop .inv) (omega arith)

@@ -54,14 +54,16 @@ returns-4 c =
     let t = c .before .before .before .before in
     let a = start t .args in
     shape-good (a .w) (a .h) (a .map .now) (a .list .now) (a .places) (a .n) (map-good t)
-    (c .before .before .before .if1 .left) (c .before .before .if2 .left) (sym (c .before .joined .ensures) ∙ c .if3 .taken)
+    (c .before .before .before .if1 .left) (c .before .before .if2 .left)
+    (sym (c .before .joined .ensures) ∙ c .if3 .taken)
 
 returns-5 : tie.Need-returns-5
 returns-5 c =
     let t = c .before .before .before .before in
     let a = start t .args in
     shape-unjoined (a .w) (a .h) (a .map .now) (a .list .now) (a .places) (a .n) (map-good t)
-    (c .before .before .before .if1 .left) (c .before .before .if2 .left) (sym (c .before .joined .ensures) ∙ c .if3 .left)
+    (c .before .before .before .if1 .left) (c .before .before .if2 .left)
+    (sym (c .before .joined .ensures) ∙ c .if3 .left)
 
 pub list-shape-spec : {M : Type 1} → statement M
 list-shape-spec =

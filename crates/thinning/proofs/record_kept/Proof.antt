@@ -6,10 +6,16 @@ use native.Mathlib.Omega.{arith}
 use borrow.Author.Needs.{needs}
 use lib.ListN.{length}
 use Rattle.floor.specs.Floor.{Floor, floorOf}
-use Rattle.thinning.specs.Thinning.{seen, nextKept, keptPositions}
+use Rattle.thinning.specs.Thinning.{seen, seesNext, nextKept, keptPositions}
 use Rattle.thinning.proofs.Shapes.{Joined, joined-list, joined-sees}
 use Rattle.thinning.proofs.Kept.{Next, next-kept}
-use Rattle.thinning.proofs.Recording.{Recording, recording-first, recording-more, recording-length, recording-done}
+use Rattle.thinning.proofs.Recording.{
+  Recording,
+  recording-first,
+  recording-more,
+  recording-length,
+  recording-done,
+}
 use Rattle.thinning.proofs.record_kept.Statement.{statement}
 use Rattle.thinning.proofs.record_kept.Tie as tie
 
@@ -56,7 +62,11 @@ add-loop : tie.Need-add-loop Inv-loop μ-loop
 add-loop c = search needs
 
 next-kept-requires : tie.Need-next-kept-requires Inv-loop μ-loop
-next-kept-requires c κs = (search needs, joined (start (c .before)) .listed, omega arith)
+unfolding seesNext
+next-kept-requires c κs =
+    let j = joined (start (c .before)) in
+    let l : suc (c .before .loop .i) < start (c .before) .args .n = omega arith in
+    (search needs, record { listed = j .listed; more = l; sees = joined-sees j (c .before .loop .i) l })
 
 cast-out : tie.Need-cast-out Inv-loop μ-loop
 cast-out c =

@@ -15,7 +15,8 @@ start t = t .before .before .before .before .before .before
 
 abbrev shape : tie.Start → Shape
 shape s =
-    listShape (s .args .w) (s .args .h) (s .args .map .now) (s .args .list .now) (length (s .args .out .now)) (s .args .n)
+    listShape (s .args .w) (s .args .h) (s .args .map .now) (s .args .list .now) (length (s .args .out .now))
+    (s .args .n)
 
 -- Where the list is recorded, nothing is refused.
 good : (t : tie.After-enum-told) → shape (start t) ≡ Good

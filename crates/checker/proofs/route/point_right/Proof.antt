@@ -7,12 +7,13 @@ use Rattle.floor.proofs.Numbers.{vertices-le}
 use Rattle.moves.specs.declared.Rows.{Rows}
 use Rattle.moves.specs.Steps.{stepOf}
 use Rattle.paths.specs.Graph.{Graph}
-use Rattle.paths.specs.Sheet.{Sheet}
+use Rattle.paths.specs.Sheet.{Sheet, sheetOf}
 use Rattle.paths.specs.Local.{localNext}
 use Rattle.grid.specs.Grid.{floorGraph}
+use Rattle.neighbours.specs.declared.Reach.{Reach}
+use Rattle.neighbours.specs.Reach.{tableOf}
 use Rattle.neighbours.proofs.Steps.{stepOf-off, stepOf-to}
 use Rattle.neighbours.proofs.Built.{Faces}
-use Rattle.checker.specs.Answer.{sheetOf}
 use Rattle.checker.specs.Tests.{Routing}
 use Rattle.checker.proofs.Passes.{vertex-faces}
 use Rattle.checker.proofs.Points.{point-past, point-outside, point-end, point-short, point-stuck, point-next}
@@ -25,21 +26,24 @@ abbrev sheet : tie.Start → Sheet
 sheet s = sheetOf (s .args .d .now) (s .args .e .now) (s .args .f .now) (s .args .back .now) (s .args .route .now)
     (s .args .n)
 
+abbrev table : tie.Start → Reach
+table s = let a = s .args in tableOf (a .count) (a .row .now) (a .up .now) (a .down .now) (a .cost .now)
+
 abbrev Ready : tie.Start → Rows → Type 0
-Ready s q = Routing (s .args .w) (s .args .h) (s .args .map .now) q (s .args .t) (s .args .b) (sheet s)
+Ready s q = Routing (s .args .w) (s .args .h) (s .args .map .now) q (table s) (s .args .b) (sheet s)
 
 abbrev graph : tie.Start → Rows → Graph
 graph s q = floorGraph (floorOf (s .args .w) (s .args .h) (s .args .map .now)) q
 
 abbrev start : tie.After-point → tie.Start
-start c = c .before .before .before .before .before .before .before .before
+start c = c .before .before .before .before .before .before .before .before .before .before .before .before
 
 -- the point, where its next vertex is asked for
 abbrev asked : tie.After-open-moves → tie.After-point
 asked c = c .before .before .before .before .before .before .before
 
 faces : (c : tie.After-open-moves) (q : Rows) → Ready (start (asked c)) q
-    → Faces (graph (start (asked c)) q) (start (asked c) .args .t) (c .open-moves .result) (asked c .point .result)
+    → Faces (graph (start (asked c)) q) (table (start (asked c))) (c .open-moves .result) (asked c .point .result)
 faces c q p =
     vertex-faces (p .posed .job .floor) (p .posed .job .listed) (p .built) (routing-in p (omega arith))
     (rw (c .before .before .column-of .ensures .0, c .before .row-of .ensures .0) at (c .open-moves .ensures))
@@ -127,7 +131,9 @@ returns-5 c =
     (stepOf-off _ (sym (next n q p) ∙ c .enum-told .given .1))
 
 add-point : tie.Need-add-point
-add-point c = search needs
+add-point c =
+    let o = c .before .before .before .before in
+    omega (arith, o .before .before .before .if4 .left, start (asked o) .fits .n)
 
 mul-point-2 : tie.Need-mul-point-2
 mul-point-2 c =

@@ -7,9 +7,9 @@ use lib.ListN.{length}
 use Rattle.floor.specs.Floor.{floorOf, vertices}
 use Rattle.floor.proofs.Numbers.{vertices-le}
 use Rattle.paths.specs.Graph.{Graph}
-use Rattle.paths.specs.Sheet.{Sheet}
+use Rattle.paths.specs.Sheet.{Sheet, sheetOf}
 use Rattle.grid.specs.Grid.{floorGraph}
-use Rattle.checker.specs.Answer.{sheetOf}
+use Rattle.neighbours.specs.Reach.{tableOf}
 use Rattle.checker.specs.Tests.{Routing}
 use Rattle.checker.proofs.Points.{PointScan, points-start, points-stop, points-more, points-done, routing-of}
 use Rattle.checker.proofs.Points.{points-none, points-many, points-elsewhere, points-all}
@@ -18,10 +18,11 @@ use Rattle.checker.proofs.route.route_right.Statement.{statement}
 use Rattle.checker.proofs.route.route_right.Tie as tie
 
 abbrev Inv-loop : tie.InvT-loop
-Inv-loop w h map a b d e f back route n t i₀ i-end i = PointScan w h map t b (sheetOf d e f back route n) i
+Inv-loop w h map a b d e f back route n count row up down cost i₀ i-end i =
+    PointScan w h map (tableOf count row up down cost) b (sheetOf d e f back route n) i
 
 abbrev μ-loop : tie.MeasureT-loop
-μ-loop w h map a b d e f back route n t i₀ i-end i = length route - i
+μ-loop w h map a b d e f back route n count row up down cost i₀ i-end i = length route - i
 
 abbrev sheet : tie.Start Inv-loop μ-loop → Sheet
 sheet s = sheetOf (s .args .d .now) (s .args .e .now) (s .args .f .now) (s .args .back .now) (s .args .route .now)
@@ -46,10 +47,18 @@ routing c =
     let s = start (begun p) in
     routing-of (s .pre .0) (c .reach-of .ensures) (s .pre .1) (omega arith)
 
+abbrev built : tie.At-loop Inv-loop μ-loop → tie.After-reach-of Inv-loop μ-loop
+built l = l .before .before .before .before .before
+
+-- the turn of the loop in which a place was tested
+abbrev turn-of : tie.After-point-right Inv-loop μ-loop → tie.In-loop Inv-loop μ-loop
+turn-of c = c .before .before .before .before .before
+
 turn : (c : tie.In-loop Inv-loop μ-loop)
-    → let s = start (begun (c .before .before .before .before)) in c .before .loop .i < vertices (s .args .w)
-    (s .args .h)
-turn c = let s = start (begun (c .before .before .before .before)) in omega (arith, s .pre .0 .shape .route)
+    → let s = start (begun (built (c .before) .before .before)) in
+    c .before .loop .i < vertices (s .args .w) (s .args .h)
+turn c =
+    let s = start (begun (built (c .before) .before .before)) in omega (arith, s .pre .0 .shape .route)
 
 returns : tie.Need-returns Inv-loop μ-loop
 returns c =
@@ -81,16 +90,28 @@ reach-of-requires c κs = let j = start (begun (c .before)) .pre .0 .job in (j .
 loop-holds : tie.Need-loop-holds Inv-loop μ-loop
 loop-holds c = points-start
 
+slice-aggregate-point-right : tie.Need-slice-aggregate-point-right Inv-loop μ-loop
+slice-aggregate-point-right c = search needs
+
+slice-aggregate-point-right-2 : tie.Need-slice-aggregate-point-right-2 Inv-loop μ-loop
+slice-aggregate-point-right-2 c = search needs
+
+slice-aggregate-point-right-3 : tie.Need-slice-aggregate-point-right-3 Inv-loop μ-loop
+slice-aggregate-point-right-3 c = search needs
+
+slice-aggregate-point-right-4 : tie.Need-slice-aggregate-point-right-4 Inv-loop μ-loop
+slice-aggregate-point-right-4 c = search needs
+
 point-right-requires : tie.Need-point-right-requires Inv-loop μ-loop
 point-right-requires c κs =
-    let r = c .before .before in
+    let r = built (c .before .before .before .before .before) in
     let s = start (begun (r .before .before)) in
     ((s .args .rows, routing r), omega arith)
 
 returns-4 : tie.Need-returns-4 Inv-loop μ-loop
 returns-4 c =
-    let l = c .before .before in
-    let r = l .before .before in
+    let l = turn-of (c .before) in
+    let r = built (l .before) in
     let p = r .before .before in
     let s = start (begun p) in
     points-all (graph s) (s .args .a) (s .args .b) (sheet s) (omega arith) (omega (arith, s .pre .0 .shape .route))
@@ -100,8 +121,8 @@ returns-4 c =
 
 add-i : tie.Need-add-i Inv-loop μ-loop
 add-i c =
-    let l = c .before .before in
-    let j = start (begun (l .before .before .before .before)) .pre .0 .job .floor in
+    let l = turn-of (c .before) in
+    let j = start (begun (built (l .before) .before .before)) .pre .0 .job .floor in
     omega (arith, turn l, vertices-le (j .wide) (j .high))
 
 loop-less : tie.Need-loop-less Inv-loop μ-loop
@@ -109,14 +130,14 @@ loop-less c = search needs
 
 loop-again : tie.Need-loop-again Inv-loop μ-loop
 loop-again c =
-    let l = c .before .before in
+    let l = turn-of (c .before) in
     points-more (l .before .loop .inv) (turn l) (c .before .point-right .result) (c .before .point-right .ensures)
     (c .if4 .left)
 
 returns-5 : tie.Need-returns-5 Inv-loop μ-loop
 returns-5 c =
     let l = c .before in
-    let r = l .before in
+    let r = built l in
     let p = r .before .before in
     let s = start (begun p) in
     points-all (graph s) (s .args .a) (s .args .b) (sheet s) (omega arith) (omega (arith, s .pre .0 .shape .route))
@@ -136,6 +157,10 @@ route-right-spec =
     returns-3
     reach-of-requires
     loop-holds
+    slice-aggregate-point-right
+    slice-aggregate-point-right-2
+    slice-aggregate-point-right-3
+    slice-aggregate-point-right-4
     point-right-requires
     returns-4
     add-i

@@ -6,14 +6,22 @@ use borrow.Author.Tests.{not-true, not-false}
 use lib.ListN.{length}
 use Rattle.paths.specs.Graph.{Graph}
 use Rattle.paths.specs.Local.{entry}
-use Rattle.neighbours.specs.Reach.{star}
+use Rattle.neighbours.specs.declared.Reach.{Reach}
+use Rattle.neighbours.specs.Reach.{tableOf, star}
 use Rattle.checker.proofs.Counts.{count-off, count-start, count-over, count-sum}
 use borrow.Author.Needs.{needs}
 use Rattle.checker.proofs.vertices.count_right.Statement.{statement}
 use Rattle.checker.proofs.vertices.count_right.Tie as tie
 
+abbrev table : tie.Start → Reach
+table s = let a = s .args in tableOf (a .count) (a .row .now) (a .up .now) (a .down .now) (a .cost .now)
+
 abbrev graph : tie.Start → Graph
-graph s = star (length (s .args .d .now)) (s .args .t) (s .args .mask)
+graph s = star (length (s .args .d .now)) (table s) (s .args .mask)
+
+-- where the count was read
+abbrev start : tie.After-shared-slice-known7 → tie.Start
+start c = c .before .before .before .before .before .before .before
 
 mul-x : tie.Need-mul-x
 mul-x c = search needs
@@ -23,14 +31,14 @@ shared-slice-read-x c = search needs
 
 returns : tie.Need-returns
 returns c =
-    let s = c .before .before .before .before in
+    let s = start (c .before) in
     let a = s .args in
     count-off (graph s) (a .source) (a .on) (entry (a .d .now)) (entry (a .f .now)) (a .v)
     (not-true _ (c .if1 .taken))
 
 returns-2 : tie.Need-returns-2
 returns-2 c =
-    let s = c .before .before .before .before .before in
+    let s = start (c .before .before) in
     let a = s .args in
     count-start (graph s) (a .source) (a .on) (entry (a .d .now)) (entry (a .f .now)) (a .v)
     (not-false _ (c .before .if1 .left)) (c .if2 .taken)
@@ -47,17 +55,17 @@ enum-told c = search needs
 returns-3 : tie.Need-returns-3
 returns-3 c =
     let i = c .before .before in
-    let s = i .before .before .before .before .before .before in
+    let s = start (i .before .before .before) in
     let a = s .args in
     count-over (graph s) (a .source) (a .on) (entry (a .d .now)) (entry (a .f .now)) (a .v)
     (not-false _ (i .before .before .if1 .left)) (i .before .if2 .left)
-    (omega (arith, i .before .before .before .shared-slice-known3 .given (a .v)))
+    (omega (arith, i .before .before .before .shared-slice-known7 .given (a .v)))
     (sym (i .inflow-at .ensures) ∙ c .enum-told .given .1)
 
 returns-4 : tie.Need-returns-4
 returns-4 c =
     let i = c .before .before .before in
-    let s = i .before .before .before .before .before .before in
+    let s = start (i .before .before .before) in
     let a = s .args in
     count-sum (graph s) (a .source) (a .on) (entry (a .d .now)) (entry (a .f .now)) (a .v)
     (not-false _ (i .before .before .if1 .left)) (i .before .if2 .left)

@@ -1,18 +1,28 @@
 -- `checker::vertices::vertex_right` meets its contract: the cost from a, then the other numbers. Assumes nothing.
 use lib.ListN.{length}
-use Rattle.neighbours.specs.Reach.{star}
+use Rattle.paths.specs.Graph.{Graph}
+use Rattle.neighbours.specs.Reach.{tableOf, star}
 use Rattle.checker.proofs.Vertex.{vertex-cost, vertex-counts, vertex-blank}
 use borrow.Author.Needs.{needs}
 use Rattle.checker.proofs.vertices.vertex_right.Statement.{statement}
 use Rattle.checker.proofs.vertices.vertex_right.Tie as tie
+
+abbrev graph : tie.Start → Graph
+graph s =
+    let a = s .args in
+    star (length (a .d .now)) (tableOf (a .count) (a .row .now) (a .up .now) (a .down .now) (a .cost .now)) (a .mask)
+
+abbrev start : tie.After-cost-right → tie.Start
+start c = c .before .before .before .before .before .before .before .before .before .before
 
 cost-right-requires : tie.Need-cost-right-requires
 cost-right-requires c κs = search needs
 
 returns : tie.Need-returns
 returns c =
-    let a = c .before .before .before .before .before .before .before .args in
-    vertex-cost (star (length (a .d .now)) (a .t) (a .mask)) (a .joined) (a .a) (a .b) (a .d .now) (a .e .now)
+    let s = start (c .before) in
+    let a = s .args in
+    vertex-cost (graph s) (a .joined) (a .a) (a .b) (a .d .now) (a .e .now)
     (a .f .now) (a .back .now)
     (a .route .now) (a .v) (c .before .cost-right .ensures) (c .if1 .taken)
 
@@ -22,8 +32,9 @@ counts-right-requires c κs = search needs
 returns-2 : tie.Need-returns-2
 returns-2 c =
     let k = c .before .before .before in
-    let a = k .before .before .before .before .before .before .args in
-    vertex-counts (star (length (a .d .now)) (a .t) (a .mask)) (a .joined) (a .a) (a .b) (a .d .now) (a .e .now)
+    let s = start k in
+    let a = s .args in
+    vertex-counts (graph s) (a .joined) (a .a) (a .b) (a .d .now) (a .e .now)
     (a .f .now) (a .back .now)
     (a .route .now) (a .v) (k .cost-right .ensures) (c .before .before .if1 .left) (c .before .if2 .taken)
     (c .counts-right .ensures)
@@ -34,8 +45,9 @@ blank-at-requires c κs = search needs
 returns-3 : tie.Need-returns-3
 returns-3 c =
     let k = c .before .before .before in
-    let a = k .before .before .before .before .before .before .args in
-    vertex-blank (star (length (a .d .now)) (a .t) (a .mask)) (a .joined) (a .a) (a .b) (a .d .now) (a .e .now)
+    let s = start k in
+    let a = s .args in
+    vertex-blank (graph s) (a .joined) (a .a) (a .b) (a .d .now) (a .e .now)
     (a .f .now) (a .back .now)
     (a .route .now) (a .v) (k .cost-right .ensures) (c .before .before .if1 .left) (c .before .if2 .left)
     (c .blank-at .ensures)

@@ -5,7 +5,8 @@ use native.Mathlib.Omega.{arith}
 use mathlib.Core.Path.{_≡_, ap}
 use Prim.Native.Nat.{_+_, _-_, _*_, _<_}
 use Rattle.floor.specs.Floor.{floorOf, vertices}
-use Rattle.distances.proofs.MaskRows.{Stepping, stepping-start, row-in, row-end, row-on, masks-all}
+use Rattle.neighbours.proofs.Along.{along-high}
+use Rattle.distances.proofs.MaskRows.{Stepping, stepping-start, row-end, row-on, masks-all}
 use Rattle.distances.proofs.masks.fill_masks.Statement.{statement}
 use Rattle.distances.proofs.masks.fill_masks.Tie as tie
 
@@ -37,17 +38,18 @@ loop-holds : tie.Need-loop-holds Inv-loop μ-loop
 loop-holds c = stepping-start _ _
 
 add-blocked-at : tie.Need-add-blocked-at Inv-loop μ-loop
-add-blocked-at c = omega (arith, c .before .loop .inv .column-in, start (c .before) .pre .0 .wide)
+add-blocked-at c = omega (arith, c .before .loop .inv .along .column-in, start (c .before) .pre .0 .wide)
 
 blocked-at-requires : tie.Need-blocked-at-requires Inv-loop μ-loop
 blocked-at-requires c κs = start (c .before) .pre .0
 
 add-blocked-at-2 : tie.Need-add-blocked-at-2 Inv-loop μ-loop
-add-blocked-at-2 c = let l = c .before .before in omega (arith, l .loop .inv .column-in, start l .pre .0 .wide)
+add-blocked-at-2 c = let l = c .before .before in omega (arith, l .loop .inv .along .column-in, start l .pre .0 .wide)
 
 add-blocked-at-3 : tie.Need-add-blocked-at-3 Inv-loop μ-loop
 add-blocked-at-3 c =
-    let l = c .before .before in omega (arith, row-in (l .loop .inv) (below (c .before)), start l .pre .0 .high)
+    let l = c .before .before in
+    omega (arith, along-high (l .loop .inv .along) (below (c .before)), start l .pre .0 .high)
 
 blocked-at-requires-2 : tie.Need-blocked-at-requires-2 Inv-loop μ-loop
 blocked-at-requires-2 c κs = start (c .before .before) .pre .0
@@ -71,7 +73,9 @@ slice-write-work c =
 
 add-y : tie.Need-add-y Inv-loop μ-loop
 add-y c =
-    let t = turn (c .before) in omega (arith, row-in (t .before .loop .inv) (below t), start (t .before) .pre .0 .high)
+    let t = turn (c .before) in
+    let l = t .before in
+    omega (arith, along-high (l .loop .inv .along) (below t), start l .pre .0 .high)
 
 add-v : tie.Need-add-v Inv-loop μ-loop
 add-v c = omega (arith, turn (c .before) .before .before .vertex-count .ensures .2)
@@ -87,7 +91,7 @@ loop-again c =
     (o .before .blocked-at2 .ensures) (o .open-rows .ensures) (c .if1 .taken)
 
 add-x : tie.Need-add-x Inv-loop μ-loop
-add-x c = let l = turn (c .before) .before in omega (arith, l .loop .inv .column-in, start l .pre .0 .wide)
+add-x c = let l = turn (c .before) .before in omega (arith, l .loop .inv .along .column-in, start l .pre .0 .wide)
 
 add-v-2 : tie.Need-add-v-2 Inv-loop μ-loop
 add-v-2 c = omega (arith, turn (c .before) .before .before .vertex-count .ensures .2)

@@ -1,50 +1,36 @@
--- `distances::merge::far_vertex` meets its contract: the bit of the row is 0 or 1. Assumes nothing.
-use native.Mathlib.Omega.{arith}
-use Rattle.distances.proofs.Relax.{ByBit, by-bit}
+-- `distances::merge::far_vertex` meets its contract: the test is the row's bit. Assumes nothing.
+use Prim.Native.Nat.{_/_, _%_, _^_}
+use mathlib.Core.Path.{_≡_}
+use mathlib.Core.Bool.{true, false}
+use borrow.Author.Tests.{eq-eqb, ne-eqb}
+use Rattle.moves.specs.Masks.{bit}
 use borrow.Author.Needs.{needs}
 use Rattle.distances.proofs.merge.far_vertex.Statement.{statement}
 use Rattle.distances.proofs.merge.far_vertex.Tie as tie
 
-abbrev start : tie.After-wide → tie.Start
-start c = c .before
+set : (c : tie.Then1) → let a = c .before .args in bit (a .mask) (a .row) ≡ true
+set c = let a = c .before .args in eq-eqb (a .mask / 2 ^ a .row % 2) 1 (c .if1 .taken)
 
-found : (c : tie.After-wide)
-    → let s = start c .args in ByBit (s .mask) (s .u) (s .row) (s .up) (s .down) (c .wide .result)
-found c = by-bit (c .wide .result) (start c .pre) (c .wide .ensures)
+unset : (c : tie.Else1) → let a = c .before .args in bit (a .mask) (a .row) ≡ false
+unset c = let a = c .before .args in ne-eqb (a .mask / 2 ^ a .row % 2) 1 (c .if1 .left)
 
-cast-wide : tie.Need-cast-wide
-cast-wide c = search needs
+cast-if1 : tie.Need-cast-if1
+cast-if1 c = search needs
 
-shr-wide : tie.Need-shr-wide
-shr-wide c = search needs
-
-wide-requires : tie.Need-wide-requires
-wide-requires c κs = search needs
-
-mul-result : tie.Need-mul-result
-mul-result c = omega (arith, found c .ups)
+shr-if1 : tie.Need-shr-if1
+shr-if1 c = search needs
 
 add-result : tie.Need-add-result
-add-result c = omega (arith, found c .ups, start c .pre .sum)
-
-mul-result-2 : tie.Need-mul-result-2
-mul-result-2 c = omega (arith, found c .enough, found c .ups, start c .pre .sum)
+add-result c = search needs
 
 sub-result : tie.Need-sub-result
-sub-result c = found c .enough
+sub-result c = c .before .pre .enough (set c)
 
 returns : tie.Need-returns
-returns c = found c .far
+returns c = rw (set c)
+
+returns-2 : tie.Need-returns-2
+returns-2 c = rw (unset c)
 
 pub far-vertex-spec : {M : Type 1} → statement M
-far-vertex-spec =
-    tie.close
-    (tie.spec
-    cast-wide
-    shr-wide
-    wide-requires
-    mul-result
-    add-result
-    mul-result-2
-    sub-result
-    returns)
+far-vertex-spec = tie.close (tie.spec cast-if1 shr-if1 add-result sub-result returns returns-2)

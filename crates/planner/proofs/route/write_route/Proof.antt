@@ -5,6 +5,8 @@ use native.Mathlib.Omega.{arith}
 use borrow.Author.Needs.{needs}
 use lib.ListN.{length}
 use Rattle.paths.specs.Graph.{Graph}
+use Rattle.neighbours.specs.declared.Reach.{Reach}
+use Rattle.neighbours.specs.Reach.{tableOf}
 use Rattle.planner.specs.Parts.{Walkable}
 use Rattle.planner.proofs.Walking.{
   Walking,
@@ -17,26 +19,32 @@ use Rattle.planner.proofs.Walking.{
   d-len,
   walking-room,
   walkable-choosing,
-  walkable-counted,
+  counts-len,
+  product-fits,
 }
 use Rattle.planner.proofs.route.write_route.Statement.{statement}
 use Rattle.planner.proofs.route.write_route.Tie as tie
 
 abbrev Inv-loop : tie.InvT-loop
-Inv-loop t a b d e f back work route₀ masks n₀ at₀ route n at = Stepping t a b d e f back work route₀ n at route
+Inv-loop count row up down cost a b d e f back work route₀ masks n₀ at₀ route n at =
+    Stepping (tableOf count row up down cost) a b d e f back work route₀ n at route
 
 abbrev μ-loop : tie.MeasureT-loop
-μ-loop t a b d e f back work route₀ masks n₀ at₀ route n at = length d - n
+μ-loop count row up down cost a b d e f back work route₀ masks n₀ at₀ route n at = length d - n
 
--- The place where the function begins, and what it requires: a graph, and that the lists are of it.
+-- The place where the function begins, the moves as they are lent, and what is required: a graph, and that the lists
+-- are of it.
 abbrev start : tie.At-loop Inv-loop μ-loop → tie.Start Inv-loop μ-loop
-start c = c .before .before .before .before .before .before .before
+start c = c .before .before .before .before .before .before .before .before .before .before .before
 
 abbrev graph : tie.At-loop Inv-loop μ-loop → Graph
 graph c = start c .pre .0
 
+abbrev table : tie.At-loop Inv-loop μ-loop → Reach
+table c = let a = start c .args in tableOf (a .count) (a .row .now) (a .up .now) (a .down .now) (a .cost .now)
+
 abbrev known : (c : tie.At-loop Inv-loop μ-loop)
-    → Walkable (graph c) (start c .args .t) (start c .args .a) (start c .args .b)
+    → Walkable (graph c) (table c) (start c .args .a) (start c .args .b)
     (start c .args .d .now) (start c .args .e .now) (start c .args .f .now) (start c .args .back .now)
     (start c .args .work .now) (start c .args .route .now)
 known c = start c .pre .1
@@ -62,7 +70,7 @@ reads-mask c =
 
 mul-masks : tie.Need-mul-masks Inv-loop μ-loop
 mul-masks c =
-    let s = c .before .before .before .before .before .before in
+    let s = c .before .before .before .before .before .before .before .before .before .before in
     omega (arith, d-len (s .pre .1), s .pre .1 .few)
 
 loop-holds : tie.Need-loop-holds Inv-loop μ-loop
@@ -80,22 +88,25 @@ slice-write-route c = fits (c .before)
 add-n : tie.Need-add-n Inv-loop μ-loop
 add-n c = omega (arith, room (c .before))
 
-add-next-at : tie.Need-add-next-at Inv-loop μ-loop
-add-next-at c = omega (arith, reads-mask (c .before))
+add-mask : tie.Need-add-mask Inv-loop μ-loop
+add-mask c = omega (arith, reads-mask (c .before))
 
-mul-next-at : tie.Need-mul-next-at Inv-loop μ-loop
-mul-next-at c = omega (arith, reads-mask (c .before))
+mul-mask : tie.Need-mul-mask Inv-loop μ-loop
+mul-mask c = omega (arith, reads-mask (c .before))
 
-shared-slice-read-next-at : tie.Need-shared-slice-read-next-at Inv-loop μ-loop
-shared-slice-read-next-at c = reads-mask (c .before .before) .0
+shared-slice-read-mask : tie.Need-shared-slice-read-mask Inv-loop μ-loop
+shared-slice-read-mask c = reads-mask (c .before .before) .0
 
 next-at-requires : tie.Need-next-at-requires Inv-loop μ-loop
 next-at-requires c κs =
     let at = c .before .before in
-    (walkable-choosing (known at) (at .loop .at) (walk at .inside), walkable-counted (known at))
+    let lens = counts-len (known at) in (
+      walkable-choosing (known at) (at .loop .at) (walk at .inside),
+      record { f-len = omega arith; b-len = omega arith; fit = product-fits (known at) },
+    )
 
-enum-known-w : tie.Need-enum-known-w Inv-loop μ-loop
-enum-known-w c = search needs
+enum-known-next : tie.Need-enum-known-next Inv-loop μ-loop
+enum-known-next c = search needs
 
 enum-told : tie.Need-enum-told Inv-loop μ-loop
 enum-told c = search needs
@@ -108,8 +119,9 @@ same-length c =
 returns : tie.Need-returns Inv-loop μ-loop
 returns c =
     let at = c .before .before .before .before .before in
-    step-stuck (at .loop .inv) (c .before .before .before .before .loop-test .taken) (c .before .before .next-at .result)
-    (c .before .before .next-at .ensures) (c .enum-told .given .1) (graph at) (known at)
+    step-stuck (at .loop .inv) (c .before .before .before .before .loop-test .taken)
+    (c .before .before .next-at .result) (c .before .before .next-at .ensures) (c .enum-told .given .1) (graph at)
+    (known at)
 
 loop-less : tie.Need-loop-less Inv-loop μ-loop
 loop-less c =
@@ -121,7 +133,7 @@ loop-again c =
     let at = c .before .before .before .before .before .before in
     step-more (at .loop .inv) (c .before .before .before .before .before .loop-test .taken)
     (c .before .before .before .next-at .result) (c .before .before .before .next-at .ensures)
-    (c .before .w .given .0 .0 .0) (c .before .w .given .1)
+    (c .before .next .given .0 .0 .0) (c .before .next .given .1)
 
 cast-route-2 : tie.Need-cast-route-2 Inv-loop μ-loop
 cast-route-2 c = omega (arith, inside (c .before))
@@ -153,11 +165,11 @@ write-route-spec =
     mul-route
     slice-write-route
     add-n
-    add-next-at
-    mul-next-at
-    shared-slice-read-next-at
+    add-mask
+    mul-mask
+    shared-slice-read-mask
     next-at-requires
-    enum-known-w
+    enum-known-next
     enum-told
     same-length
     returns

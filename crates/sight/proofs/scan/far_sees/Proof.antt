@@ -38,7 +38,8 @@ returns-3 c =
     let a = s .args in
     c .slanted-free .ensures
     ∙ sym
-    (slanted-sees (plan s) (a .x0) (a .y0) (a .x1) (a .y1) (s .pre .1) (c .before .before .if1 .left) (c .before .if2 .left))
+    (slanted-sees (plan s) (a .x0) (a .y0) (a .x1) (a .y1) (s .pre .1) (c .before .before .if1 .left)
+    (c .before .if2 .left))
 
 pub far-sees-spec : {M : Type 1} → statement M
 far-sees-spec =
