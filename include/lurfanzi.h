@@ -1,17 +1,31 @@
 /* Lurfanzi: verified route planning for carts on a floor of cells.
  *
  * Every function is total: any numbers and any bytes may be handed in. It ends, reads and writes nothing but the memory
- * it is lent, and answers with one of the numbers below. What each answer means, and what each lent number is afterwards,
- * is proved of the code for all inputs (crates/capi). The proofs do not cover this header; tests/c holds it to the code.
+ * it is lent, and answers with one of the numbers below. What each answer means, and what each lent number is
+ * afterwards, is proved of the code for all inputs (crates/capi). The proofs do not cover this header; tests/c holds it
+ * to the code.
  *
  * The floor. width and height are its sides in cells, 1 to 127; map has width * height bytes, row by row, 0 open and
- * 1 blocked. Vertices are the cell corners: the one in column x and row y has number x + y * (width + 1), and there are
- * V = (width + 1) * (height + 1) of them. neighbourhood is 4 or 8.
+ * 1 blocked. Byte i + j * width is the cell in column i and row j, between the corners (i, j) and (i + 1, j + 1). Every
+ * cell outside the map is blocked. Vertices are the cell corners: the one in column x and row y has number
+ * x + y * (width + 1), and there are V = (width + 1) * (height + 1) of them.
+ *
+ * Sight. Two vertices see each other when the straight segment between them enters the inside of no blocked cell, and
+ * no unit step of it runs along a grid line between two blocked cells. Going along one blocked cell is allowed, and so
+ * are touching one at a corner and passing between two that touch only at a corner. A vertex sees itself.
+ *
+ * Moves. neighbourhood 4 has the moves to the four vertices at the end of a cell side, at cost 408; 8 has the four
+ * across a cell too, at cost 577. Their order is (1, 0), (1, 1), (0, 1), (-1, 1), (-1, 0), (-1, -1), (0, -1), (1, -1),
+ * in columns and rows. A move is open when both ends are vertices of the floor and see each other.
  *
  * Memory. A slice is a pointer and the number of its elements. The pointer of a slice with elements must be valid for
  * all of them and aligned for their type; the pointer of a slice of length 0 may be anything, null included, and is
  * not used. A slice that a call writes may overlap no other slice of the call: a list must not be thinned onto itself.
  * Numbers are 32 bits wide or a size_t, so that none is cut down on its way in.
+ *
+ * The library is built for x86-64. It uses the C library's memcpy and memset, no heap, no static memory and less than
+ * 4 KiB of stack; calls at the same time are safe on different memory, and on the same memory where none of them
+ * writes it.
  */
 #ifndef LURFANZI_H
 #define LURFANZI_H
@@ -32,10 +46,11 @@ enum {
     LURFANZI_BAD_NEIGHBOURHOOD = 4, /* the neighbourhood is not 4 or 8 */
     LURFANZI_BAD_END = 5,           /* an end is not below V */
     LURFANZI_BAD_SLICE_LENGTH = 6,  /* a lent slice has another length than asked */
-    LURFANZI_NO_ROUTE = 7,          /* no open walk joins the ends */
+    LURFANZI_NO_ROUTE = 7,          /* no open walk joins the ends; from lurfanzi_check: a true no-route sheet */
     LURFANZI_TOO_MANY = 8,          /* the cheapest routes number more than 2^64 - 1 */
     LURFANZI_FALSE_SHEET = 9,       /* the sheet is not a true one */
-    LURFANZI_NOT_JOINED = 10        /* the list is not a joined list of vertices */
+    LURFANZI_NOT_JOINED = 10        /* n is 0 or above list_length, or one of the first n numbers is not below V or
+                                       does not see the next */
 };
 
 /* The sight question's own answers. Only LURFANZI_SIGHT_YES says that the way is clear. */
@@ -44,7 +59,7 @@ enum {
     LURFANZI_SIGHT_NO = 100
 };
 
-/* The cost where no open walk joins two vertices. */
+/* The cost where no open walk joins two vertices; it stands in d and e. */
 #define LURFANZI_UNREACHABLE UINT32_C(4294967295)
 
 /* Do the vertices a and b see each other?
@@ -60,9 +75,11 @@ typedef struct {
     uint8_t answer;  /* 0, or a refusal 1 to 8; the other members are 0 at a refusal */
 } lurfanzi_plan_result;
 
-/* Plans the central route from vertex a to vertex b, and fills its sheet.
+/* Plans the central route from vertex a to vertex b, and fills its sheet. From each vertex the route takes, of the open
+ * moves that lead on along a cheapest route, the one to the vertex with the highest f * back, of equals the first in the
+ * order of moves. With a = b it is that one vertex, at cost 0.
  *
- * d, e       V costs: d from a, e to b
+ * d, e       V costs: d from a, e to b; LURFANZI_UNREACHABLE where there is no walk
  * f, back    V counts of cheapest walks: f from a, back to b; 0 off the cheapest routes
  * route      V vertices: the points of the route, then 0
  * work       4 * V numbers of working memory; what it holds at entry does not matter
@@ -80,8 +97,10 @@ lurfanzi_plan_result lurfanzi_plan(
 
 /* Checks a filled sheet from any planner, with n the number of its route's points. Writes nothing.
  *
- * Answers 0 exactly when every slice and n are the true route sheet, LURFANZI_NO_ROUTE exactly when they are the true
- * no-route sheet (d true, all else 0), and LURFANZI_FALSE_SHEET for every other sheet; or refuses with 1 to 6.
+ * Answers 0 exactly when every slice and n are the true route sheet, as lurfanzi_plan leaves it at answer 0;
+ * LURFANZI_NO_ROUTE exactly when they are the true no-route sheet, as it leaves it at answer 7, with n = 0; and
+ * LURFANZI_FALSE_SHEET for every other sheet, also for an n above V and for every sheet of a job that lurfanzi_plan
+ * answers with 8. Or it refuses with 1 to 6: each of the five slices must have V places.
  */
 uint8_t lurfanzi_check(
     uint32_t width, uint32_t height, const uint8_t *map, size_t map_length, uint32_t neighbourhood, uint32_t a, uint32_t b,
@@ -93,9 +112,11 @@ typedef struct {
     uint8_t answer;  /* 0, or a refusal: 1, 2, 3, 6 or 10 */
 } lurfanzi_thin_result;
 
-/* Thins the first n vertices of list to the positions that a cart needs: each kept vertex sees the next.
+/* Thins the first n vertices of list to the positions that a cart needs. Position 0 is kept; after a kept position the
+ * next is the last one before the first position that it does not see, or n - 1 where it sees all; so n - 1 is kept, and
+ * each kept vertex sees the next. With n = 1 position 0 alone is kept. Vertices may stand in the list more than once.
  *
- * list       at most 16,384 vertices; places past n are not read
+ * list       at most 16,384 places; those past n are not read
  * out        as long as list: at answer 0 the kept positions in list, then 0; untouched at a refusal
  */
 lurfanzi_thin_result lurfanzi_thin(

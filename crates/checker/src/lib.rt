@@ -10,6 +10,7 @@ ghost use Rattle.grid.specs.declared.Job.the-variants.{Fit};
 ghost use Rattle.checker.specs.Answer.{sheetSized, judged, checkAnswer, checkNumber};
 ghost use Rattle.checker.specs.Tests.{routeTest, noRouteTest, Fitting, Posed};
 use floor::Refusal;
+use floor::Vertex;
 use grid::Job;
 use moves::Rows;
 
@@ -37,8 +38,8 @@ fn is_route(
     h: usize,
     map: &[u8],
     rows: Rows,
-    a: usize,
-    b: usize,
+    a: Vertex,
+    b: Vertex,
     d: &[u32],
     e: &[u32],
     f: &[u64],
@@ -46,17 +47,20 @@ fn is_route(
     route: &[u16],
     n: usize,
 ) -> bool
-    requires { ⌜ Posed w h (now map) rows a b (sheetOf (now d) (now e) (now f) (now back) (now route) n) ⌝ }
-    ensures { λ r. ⌜ r ≡ routeTest (floorGraph (floorOf w h (now (map .entry))) rows) a b
+    requires { ⌜ Posed w h (now map) rows (a .0) (b .0)
+        (sheetOf (now d) (now e) (now f) (now back) (now route) n) ⌝ }
+    ensures { λ r. ⌜ r ≡ routeTest (floorGraph (floorOf w h (now (map .entry))) rows) (a .0) (b .0)
         (sheetOf (now (d .entry)) (now (e .entry)) (now (f .entry)) (now (back .entry)) (now (route .entry)) n) ⌝ }
 {
-    if d[b] == 4294967295 {
+    let start = a.0;
+    let goal = b.0;
+    if d[goal] == paths::UNREACHABLE {
         return false;
     }
-    if d[a] != 0 {
+    if d[start] != 0 {
         return false;
     }
-    if e[b] != 0 {
+    if e[goal] != 0 {
         return false;
     }
     if !vertices::vertices_right(w, h, map, rows, true, a, b, d, e, f, back, route) {
@@ -71,8 +75,8 @@ fn is_no_route(
     h: usize,
     map: &[u8],
     rows: Rows,
-    a: usize,
-    b: usize,
+    a: Vertex,
+    b: Vertex,
     d: &[u32],
     e: &[u32],
     f: &[u64],
@@ -80,17 +84,20 @@ fn is_no_route(
     route: &[u16],
     n: usize,
 ) -> bool
-    requires { ⌜ Posed w h (now map) rows a b (sheetOf (now d) (now e) (now f) (now back) (now route) n) ⌝ }
-    ensures { λ r. ⌜ r ≡ noRouteTest (floorGraph (floorOf w h (now (map .entry))) rows) a b
+    requires { ⌜ Posed w h (now map) rows (a .0) (b .0)
+        (sheetOf (now d) (now e) (now f) (now back) (now route) n) ⌝ }
+    ensures { λ r. ⌜ r ≡ noRouteTest (floorGraph (floorOf w h (now (map .entry))) rows) (a .0) (b .0)
         (sheetOf (now (d .entry)) (now (e .entry)) (now (f .entry)) (now (back .entry)) (now (route .entry)) n) ⌝ }
 {
-    if d[b] != 4294967295 {
+    let start = a.0;
+    let goal = b.0;
+    if d[goal] != paths::UNREACHABLE {
         return false;
     }
     if n != 0 {
         return false;
     }
-    if d[a] != 0 {
+    if d[start] != 0 {
         return false;
     }
     vertices::vertices_right(w, h, map, rows, false, a, b, d, e, f, back, route)
@@ -122,8 +129,8 @@ fn judge(
     h: usize,
     map: &[u8],
     rows: Rows,
-    a: usize,
-    b: usize,
+    a: Vertex,
+    b: Vertex,
     d: &[u32],
     e: &[u32],
     f: &[u64],
@@ -131,8 +138,8 @@ fn judge(
     route: &[u16],
     n: usize,
 ) -> Checked
-    requires { ⌜ Fitting w h (now map) rows a b ⌝ }
-    ensures { λ r. ⌜ r ≡ judged w h (now (map .entry)) a b
+    requires { ⌜ Fitting w h (now map) rows (a .0) (b .0) ⌝ }
+    ensures { λ r. ⌜ r ≡ judged w h (now (map .entry)) (a .0) (b .0)
         (sheetOf (now (d .entry)) (now (e .entry)) (now (f .entry)) (now (back .entry)) (now (route .entry)) n)
         (Fit rows) ⌝ }
 {
@@ -171,7 +178,20 @@ pub fn check(
 {
     let job = grid::job_of(w, h, map, nb, a, b);
     match job {
-        Job::Fit(rows) => judge(w, h, map, rows, a, b, d, e, f, back, route, n),
+        Job::Fit(rows) => judge(
+            w,
+            h,
+            map,
+            rows,
+            Vertex(a),
+            Vertex(b),
+            d,
+            e,
+            f,
+            back,
+            route,
+            n,
+        ),
         Job::Unfit(r) => Checked::Refused(r),
     }
 }

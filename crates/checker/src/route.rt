@@ -12,11 +12,11 @@ use floor::Vertex;
 use moves::Rows;
 use moves::Step;
 
-// A route's point as an index.
-fn point(x: u16) -> usize
-    ensures { λ r. ⌜ r ≡ x ⌝ }
+// A route's point as a vertex.
+fn point(x: u16) -> Vertex
+    ensures { λ r. ⌜ r .0 ≡ x ⌝ }
 {
-    x as usize
+    Vertex(x as usize)
 }
 
 // Place i of a route of n points is right: b is the last point, each other is followed by its next vertex, and past the
@@ -30,7 +30,7 @@ fn point_right(
     up: &[usize],
     down: &[usize],
     cost: &[u32],
-    b: usize,
+    b: Vertex,
     d: &[u32],
     e: &[u32],
     f: &[u64],
@@ -39,35 +39,47 @@ fn point_right(
     n: usize,
     i: usize,
 ) -> bool
-    requires { ⌜ ((q : Rows) × Routing w h (now map) q (tableOf count (now row) (now up) (now down) (now cost)) b
+    requires { ⌜ ((q : Rows) × Routing w h (now map) q (tableOf count (now row) (now up) (now down) (now cost)) (b .0)
         (sheetOf (now d) (now e) (now f) (now back) (now route) n)) × (i < length (now route)) ⌝ }
     ensures { λ r. ⌜ ((q : Rows) → Routing w h (now (map .entry)) q
-        (tableOf count (now (row .entry)) (now (up .entry)) (now (down .entry)) (now (cost .entry))) b
+        (tableOf count (now (row .entry)) (now (up .entry)) (now (down .entry)) (now (cost .entry))) (b .0)
         (sheetOf (now (d .entry)) (now (e .entry)) (now (f .entry)) (now (back .entry)) (now (route .entry)) n)
-        → r ≡ pointTest (floorGraph (floorOf w h (now (map .entry))) q) b
+        → r ≡ pointTest (floorGraph (floorOf w h (now (map .entry))) q) (b .0)
         (sheetOf (now (d .entry)) (now (e .entry)) (now (f .entry)) (now (back .entry)) (now (route .entry)) n) i) ⌝ }
 {
     let at = point(route[i]);
     if n <= i {
-        return at == 0;
+        return at.0 == 0;
     }
-    if d.len() <= at {
+    if d.len() <= at.0 {
         return false;
     }
-    if at == b {
+    if at.0 == b.0 {
         return i + 1 == n;
     }
     if n <= i + 1 {
         return false;
     }
-    let x = floor::column_of(w, Vertex(at));
-    let y = floor::row_of(w, h, Vertex(at));
+    let x = floor::column_of(w, at);
+    let y = floor::row_of(w, h, at);
     let mask = moves::open_moves(w, h, map, x, y);
-    let Step::To(u) = neighbours::next_at(count, row, up, down, cost, mask, d, e, f, back, b, at)
-    else {
+    let Step::To(u) = neighbours::next_at(
+        count,
+        row,
+        up,
+        down,
+        cost,
+        mask,
+        d,
+        e,
+        f,
+        back,
+        b.0,
+        at.0,
+    ) else {
         return false;
     };
-    u.0 == point(route[i + 1])
+    u.0 == point(route[i + 1]).0
 }
 
 // The route and its point count are right.
@@ -76,8 +88,8 @@ pub fn route_right(
     h: usize,
     map: &[u8],
     rows: Rows,
-    a: usize,
-    b: usize,
+    a: Vertex,
+    b: Vertex,
     d: &[u32],
     e: &[u32],
     f: &[u64],
@@ -85,9 +97,9 @@ pub fn route_right(
     route: &[u16],
     n: usize,
 ) -> bool
-    requires { ⌜ Posed w h (now map) rows a b
+    requires { ⌜ Posed w h (now map) rows (a .0) (b .0)
         (sheetOf (now d) (now e) (now f) (now back) (now route) n) × FitCounts (length (now d)) (now f) (now back) ⌝ }
-    ensures { λ r. ⌜ r ≡ pointsTest (floorGraph (floorOf w h (now (map .entry))) rows) a b
+    ensures { λ r. ⌜ r ≡ pointsTest (floorGraph (floorOf w h (now (map .entry))) rows) (a .0) (b .0)
         (sheetOf (now (d .entry)) (now (e .entry)) (now (f .entry)) (now (back .entry)) (now (route .entry)) n) ⌝ }
 {
     if n < 1 {
@@ -96,7 +108,7 @@ pub fn route_right(
     if route.len() < n {
         return false;
     }
-    if point(route[0]) != a {
+    if point(route[0]).0 != a.0 {
         return false;
     }
     let t = neighbours::reach_of(w, rows);

@@ -10,6 +10,7 @@ ghost use Rattle.grid.specs.Grid.{floorGraph};
 ghost use Rattle.neighbours.specs.Reach.{tableOf, star, Lent, Here};
 ghost use Rattle.checker.specs.Tests.{numbersOf, blankOf, countsTest, vertexTest, verticesTest};
 ghost use Rattle.checker.specs.Tests.{Posed, AtVertex};
+use floor::Vertex;
 use moves::Rows;
 use neighbours::Sum;
 
@@ -143,18 +144,21 @@ pub fn vertices_right(
     map: &[u8],
     rows: Rows,
     joined: bool,
-    a: usize,
-    b: usize,
+    a: Vertex,
+    b: Vertex,
     d: &[u32],
     e: &[u32],
     f: &[u64],
     back: &[u64],
     route: &[u16],
 ) -> bool
-    requires { ⌜ Posed w h (now map) rows a b (sheetOf (now d) (now e) (now f) (now back) (now route) 0) ⌝ }
-    ensures { λ r. ⌜ r ≡ verticesTest joined (floorGraph (floorOf w h (now (map .entry))) rows) a b
+    requires { ⌜ Posed w h (now map) rows (a .0) (b .0)
+        (sheetOf (now d) (now e) (now f) (now back) (now route) 0) ⌝ }
+    ensures { λ r. ⌜ r ≡ verticesTest joined (floorGraph (floorOf w h (now (map .entry))) rows) (a .0) (b .0)
         (sheetOf (now (d .entry)) (now (e .entry)) (now (f .entry)) (now (back .entry)) (now (route .entry)) 0) ⌝ }
 {
+    let start = a.0;
+    let goal = b.0;
     let t = neighbours::reach_of(w, rows);
     let count = t.count;
     let row = t.row;
@@ -177,8 +181,8 @@ pub fn vertices_right(
             &cost,
             mask,
             joined,
-            a,
-            b,
+            start,
+            goal,
             d,
             e,
             f,

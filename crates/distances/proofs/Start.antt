@@ -14,8 +14,11 @@ use lib.ListN.{length, getD, set, replicate, length-set, length-replicate, getD-
 use lib.Seq.{getD-set-same, getD-set-other}
 use Rattle.basics.proofs.Order.{eq-or-ne}
 use Rattle.basics.proofs.Bounded.{pick-no}
+use Rattle.moves.specs.declared.Rows.{Rows}
 use Rattle.moves.specs.declared.Class.{Class}
+use Rattle.moves.specs.Moves.{rowAt}
 use Rattle.moves.specs.Classes.{Member, classAt}
+use Rattle.moves.proofs.Bits.{set-pos}
 use Rattle.paths.specs.Graph.{Graph}
 use Rattle.paths.specs.Distance.{unreachable}
 use Rattle.paths.specs.Local.{entry}
@@ -84,15 +87,15 @@ module _ (g : Graph) (a : ℕ) (work : List ℕ) (few : g .size ≤ 16384) (i : 
     bounded = λ j h. omega (arith, cost-0 j h);
   }
 
-  pub merging-start : (l : List Class) (pos d : List ℕ) → d ≡ none → CostClasses g l
-      → ((k : ℕ) → k < 3 → classAt l k .first < g .moves → getD pos k 0 ≡ 0)
-      → Merging g a 1 l pos (set d a 0) work₀ work₀
-  merging-start l pos d e C firsts = rw e (record {
+  pub merging-start : (r : Rows) (l : List Class) (pos d : List ℕ) → d ≡ none → CostClasses g r l
+      → ((k : ℕ) → k < 3 → 0 < classAt l k .rows → getD pos k 0 ≡ 0)
+      → Merging g r a 1 l pos (set d a 0) work₀ work₀
+  merging-start r l pos d e C firsts = rw e (record {
     settled = settled-start;
     classes = C;
     passed = λ k h. record {
       room = λ f. omega (arith, firsts k h f);
-      relaxed = λ j m w p M lt. absurd (omega (arith, M .at, firsts k h (omega (arith, M .at))));
+      relaxed = λ j m w p M lt. absurd (omega (arith, firsts k h (set-pos (classAt l k .rows) (rowAt r m) M)));
       pending = λ j h p. omega (arith, cost-0 j h);
     };
     rest = λ j h. refl;
@@ -102,21 +105,21 @@ module _ (g : Graph) (a : ℕ) (work : List ℕ) (few : g .size ≤ 16384) (i : 
   pub start-rest : (j : ℕ) → g .size < j → entry work₀ j ≡ entry work j
   start-rest j h = getD-set-other work 0 j a 0 (λ e. omega arith)
 
-pub three-first : (c₀ c₁ c₂ : Class) (count p q r : ℕ) → (c₀ .first < count → p ≡ 0) → (c₁ .first < count → q ≡ 0)
-    → (c₂ .first < count → r ≡ 0)
-    → (k : ℕ) → k < 3 → classAt (c₀ ∷ c₁ ∷ c₂ ∷ []) k .first < count → getD (p ∷ q ∷ r ∷ []) k 0 ≡ 0
-three-first c₀ c₁ c₂ count p q r x y z zero h f = x f
-three-first c₀ c₁ c₂ count p q r x y z (suc zero) h f = y f
-three-first c₀ c₁ c₂ count p q r x y z (suc (suc zero)) h f = z f
-three-first c₀ c₁ c₂ count p q r x y z (suc (suc (suc k))) h f = absurd (omega arith)
+pub three-first : (c₀ c₁ c₂ : Class) (p q r : ℕ) → (0 < c₀ .rows → p ≡ 0) → (0 < c₁ .rows → q ≡ 0)
+    → (0 < c₂ .rows → r ≡ 0)
+    → (k : ℕ) → k < 3 → 0 < classAt (c₀ ∷ c₁ ∷ c₂ ∷ []) k .rows → getD (p ∷ q ∷ r ∷ []) k 0 ≡ 0
+three-first c₀ c₁ c₂ p q r x y z zero h f = x f
+three-first c₀ c₁ c₂ p q r x y z (suc zero) h f = y f
+three-first c₀ c₁ c₂ p q r x y z (suc (suc zero)) h f = z f
+three-first c₀ c₁ c₂ p q r x y z (suc (suc (suc k))) h f = absurd (omega arith)
 
 -- the classes of an array, read one by one
-pub three-classes : {g : Graph} {l : List Class} → CostClasses g l
-    → CostClasses g (classAt l 0 ∷ classAt l 1 ∷ classAt l 2 ∷ [])
-three-classes {g} {l} C = record {
-  each = λ k h. subst (OneCost g) (sym (same k h)) (C .each k h);
+pub three-classes : {g : Graph} {r : Rows} {l : List Class} → CostClasses g r l
+    → CostClasses g r (classAt l 0 ∷ classAt l 1 ∷ classAt l 2 ∷ [])
+three-classes {g} {r} {l} C = record {
+  each = λ k h. subst (OneCost g r) (sym (same k h)) (C .each k h);
   covers = λ m lt. let q = C .covers m lt in
-      (q .0, q .1, subst (λ c. Member c m) (sym (same (q .0) (q .1))) (q .2));
+      (q .0, q .1, subst (λ c. Member r c m) (sym (same (q .0) (q .1))) (q .2));
 }
   where
     same : (k : ℕ) → k < 3 → classAt (classAt l 0 ∷ classAt l 1 ∷ classAt l 2 ∷ []) k ≡ classAt l k

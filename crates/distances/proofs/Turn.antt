@@ -2,7 +2,7 @@
 --
 --   key-in, key-out       == the key of a place that is settled, and of one that is not
 --   keyed                 == the keys can be worked out
---   masked-same           == masks past the order are as they were
+--   steps-same            == masks past the order are as they were, so they give the same steps
 --   passed-same           == a position that stays
 --   passed-next           == the position that moves on by one
 --   Least ..              == position k has the least key
@@ -23,17 +23,19 @@ use lib.Seq.{getD-set-same, getD-set-other}
 use Rattle.basics.proofs.Order.{le-or-lt, eq-or-ne}
 use Rattle.basics.proofs.Lists.{tabulate-of}
 use Rattle.basics.proofs.Bounded.{pick-yes, pick-no}
+use Rattle.moves.specs.declared.Rows.{Rows}
 use Rattle.moves.specs.declared.Class.{Class}
+use Rattle.moves.specs.Moves.{rowAt}
+use Rattle.moves.specs.Masks.{maskedEnd, Movable}
 use Rattle.moves.specs.Classes.{Member, classAt}
+use Rattle.moves.proofs.Bits.{set-pos}
 use Rattle.paths.specs.Graph.{Graph, Lawful}
 use Rattle.paths.specs.Distance.{unreachable, distance}
 use Rattle.paths.specs.Local.{entry}
 use Rattle.paths.proofs.Costs.{walked-true}
-use Rattle.neighbours.specs.declared.Reach.{Reach}
-use Rattle.neighbours.specs.Reach.{readStep, Here}
-use Rattle.distances.specs.Order.{maskAt, Masked, SettledCosts}
-use Rattle.distances.specs.Merge.{keyOf, Keyed, tableOf, Table, OneCost, Settled, Ready, Grown, Relaxing, Relaxed}
-use Rattle.distances.specs.Merge.{Passed, Merging, remaining}
+use Rattle.distances.specs.Order.{maskAt, SettledCosts}
+use Rattle.distances.specs.Merge.{keyOf, Keyed, offsetAt, Table, RowSteps, OneCost, Settled, Ready, Grown}
+use Rattle.distances.specs.Merge.{Relaxing, Relaxed, Passed, Merging, remaining}
 use Rattle.distances.proofs.Store.{last, settled-le}
 
 -- ---- keys
@@ -56,12 +58,13 @@ keyed S = record {
 
 -- ---- the masks
 
-pub masked-same : {g : Graph} {t : Reach} {work₀ work : List ℕ} → Masked g t work₀
-    → ((i : ℕ) → g .size < i → entry work i ≡ entry work₀ i) → Masked g t work
-masked-same {g} {t} {work₀} {work} M same = record {
-  count = M .count;
-  here = λ u i. subst (λ z. Here (g .size) t z u) (sym (kept u i)) (M .here u i);
-  step = λ u m i lt. ap (λ z. readStep t z u m) (kept u i) ∙ M .step u m i lt;
+pub steps-same : {g : Graph} {r : Rows} {up down work₀ work : List ℕ} → RowSteps g r up down work₀
+    → ((i : ℕ) → g .size < i → entry work i ≡ entry work₀ i) → RowSteps g r up down work
+steps-same {g} {r} {up} {down} {work₀} {work} M same = record {
+  movable = λ u m i lt.
+      subst (λ z. Movable z u (rowAt r m) (offsetAt up down (rowAt r m))) (sym (kept u i)) (M .movable u m i lt);
+  step = λ u m i lt.
+      ap (λ z. maskedEnd z u (rowAt r m) (offsetAt up down (rowAt r m))) (kept u i) ∙ M .step u m i lt;
 }
   where
     kept : (u : ℕ) → u < g .size → maskAt (g .size) work u ≡ maskAt (g .size) work₀ u
@@ -69,24 +72,24 @@ masked-same {g} {t} {work₀} {work} M same = record {
 
 -- ---- the positions
 
-module _ {g : Graph} {a n r key : ℕ} {d d′ work work′ : List ℕ} (S : Settled g a n d work)
-    (R : Ready g a r key d′ work′) (G : Grown (g .size) n r key d d′ work work′) where
+module _ {g : Graph} {a n s key : ℕ} {d d′ work work′ : List ℕ} (S : Settled g a n d work)
+    (R : Ready g a s key d′ work′) (G : Grown (g .size) n s key d d′ work work′) where
   -- what stood before stands where it stood, at its cost
   stays : (i : ℕ) → i < n → entry d′ (entry work′ i) ≡ entry d (entry work i)
   stays i h = ap (entry d′) (G .same-order i h) ∙ G .same-cost (entry work i) (S .ordered .placed i h)
 
-  module _ {c : Class} {p : ℕ} (c-low : c .cost ≤ 4095) (P : Passed g n c p d work) where
-    relaxed-on : (i m w : ℕ) → i < p → Member c m → m < g .moves → g .step m (entry work′ i) ≡ some w
+  module _ {r : Rows} {c : Class} {p : ℕ} (c-low : c .cost ≤ 4095) (P : Passed g r n c p d work) where
+    relaxed-on : (i m w : ℕ) → i < p → Member r c m → m < g .moves → g .step m (entry work′ i) ≡ some w
         → entry d′ w ≤ entry d′ (entry work′ i) + c .cost
     relaxed-on i m w h M lt st =
-        let l : i < n = omega (arith, P .room (omega (arith, M .at))) in
+        let l : i < n = omega (arith, P .room (set-pos (c .rows) (rowAt r m) M)) in
         let was = P .relaxed i m w h M lt (ap (λ z. g .step m z) (sym (G .same-order i l)) ∙ st) in
         let b = S .bounded i l in
         let v = S .few in
-        let s = settled-le S in
+        let e = settled-le S in
         omega (arith, stays i l, G .same-cost w (omega arith))
 
-    pub passed-same : key ≤ keyOf n p (c .cost) d work → Passed g r c p d′ work′
+    pub passed-same : key ≤ keyOf n p (c .cost) d work → Passed g r s c p d′ work′
     passed-same le = record {
       room = λ f. omega (arith, P .room f, G .more);
       relaxed = relaxed-on;
@@ -96,8 +99,8 @@ module _ {g : Graph} {a n r key : ℕ} {d d′ work work′ : List ℕ} (S : Set
     }
 
     pub passed-next : p < n → key ≡ entry d (entry work p) + c .cost
-        → ((m w : ℕ) → Member c m → m < g .moves → g .step m (entry work p) ≡ some w → entry d′ w ≤ key)
-        → Passed g r c (p + 1) d′ work′
+        → ((m w : ℕ) → Member r c m → m < g .moves → g .step m (entry work p) ≡ some w → entry d′ w ≤ key)
+        → Passed g r s c (p + 1) d′ work′
     passed-next lt is done = record {
       room = λ f. omega (arith, G .more);
       relaxed = λ i m w h M t st. ⊎-elim (λ q. relaxed-on i m w q M t st)
@@ -145,17 +148,17 @@ remaining-falls v (x ∷ l) (suc k) h s = omega (arith, remaining-falls v l k (o
 -- ---- a turn
 
 -- What a turn of class k needs, and what it leaves.
-pub record Turn (g : Graph) (row up down : List ℕ) (a n k key : ℕ) (l : List Class) (pos d work₀ work : List ℕ)
+pub record Turn (g : Graph) (r : Rows) (up down : List ℕ) (a n k key : ℕ) (l : List Class) (pos d work₀ work : List ℕ)
     : Type 0 where
-  pub relaxing : Relaxing g row up down (classAt l k) a (getD pos k 0) key n d work
+  pub relaxing : Relaxing g r up down (classAt l k) a (getD pos k 0) key n d work
   pub small : getD pos k 0 < 16384
   pub falls : remaining (g .size) (set pos k (getD pos k 0 + 1)) < remaining (g .size) pos
-  pub next : {r : ℕ} {d′ work′ : List ℕ}
-      → Relaxed g a (entry work (getD pos k 0)) (classAt l k) (g .moves) key n r d d′ work work′
-      → Merging g a r l (set pos k (getD pos k 0 + 1)) d′ work₀ work′
+  pub next : {s : ℕ} {d′ work′ : List ℕ}
+      → Relaxed g r a (entry work (getD pos k 0)) (classAt l k) key n s d d′ work work′
+      → Merging g r a s l (set pos k (getD pos k 0 + 1)) d′ work₀ work′
 
-module _ {g : Graph} {a n k key : ℕ} {l : List Class} {pos d work₀ work : List ℕ} (K : Merging g a n l pos d work₀ work)
-    (T : Least n k key l pos d work) where
+module _ {g : Graph} {r : Rows} {a n k key : ℕ} {l : List Class} {pos d work₀ work : List ℕ}
+    (K : Merging g r a n l pos d work₀ work) (T : Least n k key l pos d work) where
   module _ (low : key < unreachable) where
     abbrev p : ℕ
     p = getD pos k 0
@@ -174,14 +177,15 @@ module _ {g : Graph} {a n k key : ℕ} {l : List Class} {pos d work₀ work : Li
     key-is : key ≡ entry d (entry work p) + c .cost
     key-is = T .is ∙ key-in n p (c .cost) d work before-end
 
-    one-cost : OneCost g c
+    one-cost : OneCost g r c
     one-cost = K .classes .each k (T .one)
 
-    relaxing : {row up down : List ℕ} → Table g row up down → Masked g (tableOf (g .moves) row up down) work₀
-        → Relaxing g row up down c a p key n d work
-    relaxing B M = let S = K .settled in let i = S .ordered .inside p before-end in record {
+    relaxing : {up down : List ℕ} → Lawful g → Table g r up down → RowSteps g r up down work₀
+        → Relaxing g r up down c a p key n d work
+    relaxing L B M = let S = K .settled in let i = S .ordered .inside p before-end in record {
+      lawful = L;
       table = B;
-      masked = masked-same M (K .rest);
+      steps = steps-same M (K .rest);
       class = one-cost;
       ready = record {
         settled = S;
@@ -197,32 +201,32 @@ module _ {g : Graph} {a n k key : ℕ} {l : List Class} {pos d work₀ work : Li
       };
     }
 
-    merging-next : {r : ℕ} {d′ work′ : List ℕ} → length pos ≡ 3
-        → Relaxed g a (entry work p) c (g .moves) key n r d d′ work work′
-        → Merging g a r l (set pos k (p + 1)) d′ work₀ work′
-    merging-next {r} {d′} {work′} len P = record {
+    merging-next : {s : ℕ} {d′ work′ : List ℕ} → length pos ≡ 3
+        → Relaxed g r a (entry work p) c key n s d d′ work work′
+        → Merging g r a s l (set pos k (p + 1)) d′ work₀ work′
+    merging-next {s} {d′} {work′} len P = record {
       settled = P .ready .settled;
       classes = K .classes;
       passed = λ j h. ⊎-elim
-          (λ e. subst (λ z. Passed g r (classAt l z) (getD (set pos k (p + 1)) z 0) d′ work′) (sym e) moved)
-          (λ e. subst (λ z. Passed g r (classAt l j) z d′ work′) (sym (getD-set-other pos k j (p + 1) 0 e))
+          (λ e. subst (λ z. Passed g r s (classAt l z) (getD (set pos k (p + 1)) z 0) d′ work′) (sym e) moved)
+          (λ e. subst (λ z. Passed g r s (classAt l j) z d′ work′) (sym (getD-set-other pos k j (p + 1) 0 e))
           (stayed j h)) (eq-or-ne j k);
       rest = λ i h. P .grown .same-rest i h ∙ K .rest i h;
     }
       where
-        moved : Passed g r c (getD (set pos k (p + 1)) k 0) d′ work′
-        moved = subst (λ z. Passed g r c z d′ work′) (sym (getD-set-same pos k (p + 1) 0 (omega (arith, T .one))))
+        moved : Passed g r s c (getD (set pos k (p + 1)) k 0) d′ work′
+        moved = subst (λ z. Passed g r s c z d′ work′) (sym (getD-set-same pos k (p + 1) 0 (omega (arith, T .one))))
             (passed-next (K .settled) (P .ready) (P .grown) (one-cost .high) (K .passed k (T .one)) before-end key-is
             (λ m w M lt. P .relaxed m w M lt))
 
-        stayed : (j : ℕ) → j < 3 → Passed g r (classAt l j) (getD pos j 0) d′ work′
+        stayed : (j : ℕ) → j < 3 → Passed g r s (classAt l j) (getD pos j 0) d′ work′
         stayed j h =
             passed-same (K .settled) (P .ready) (P .grown) (K .classes .each j h .high) (K .passed j h) (T .least j h)
 
-    pub turn : {row up down : List ℕ} → Table g row up down → Masked g (tableOf (g .moves) row up down) work₀
-        → length pos ≡ 3 → Turn g row up down a n k key l pos d work₀ work
-    turn B M len = record {
-      relaxing = relaxing B M;
+    pub turn : {up down : List ℕ} → Lawful g → Table g r up down → RowSteps g r up down work₀ → length pos ≡ 3
+        → Turn g r up down a n k key l pos d work₀ work
+    turn L B M len = record {
+      relaxing = relaxing L B M;
       small = omega (arith, before-all, K .settled .few);
       falls = remaining-falls (g .size) pos k (omega (arith, T .one)) before-all;
       next = merging-next len;

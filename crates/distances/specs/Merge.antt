@@ -1,30 +1,35 @@
 -- The ordered merge: what its functions promise each other. Nobody has to believe these: they stand in contracts of
 -- private functions and in loop invariants.
 --
---   by up down               == a change by up less down
 --   costGiven c key          == the cost c after key was offered: the key where there was none
 --   countGiven c             == how many vertices that adds to the settled
 --   Given ..                 == what an offer stores: the cost, and the vertex at the end of the order
 --   keyOf n p c d work       == the key of place p of the order for moves of cost c; `unreachable` past the n settled
 --   Keyed n d work           == the keys of the first n places can be worked out
 --   Lowest r k0 k1 k2        == r is the number of the least key; 3 where no key is below `unreachable`
---   tableOf n row up down    == the table of n moves as the merge reads it: the costs stand in the classes
---   Table g row up down      == the lists have a place for every move
---   OneCost g c              == the moves of class c all have its cost
---   CostClasses g l          == the three classes of l have every move of g
+--   offsetAt up down k       == by how much the move of row k changes a vertex number
+--   farAt up down u k        == where it leads from u
+--   Table g r up down        == the lists have a place for the row of every move
+--   RowSteps g r up down ..  == the masks, with the offsets of the rows, give the steps of the graph g
+--   OneCost g r c            == the rows of class c are rows of moves of g, which all have its cost
+--   CostClasses g r l        == the three classes of l have every move of g
 --   reached l                == how many costs of the list l are below `unreachable`
 --   Settled g a n d work     == n vertices have a cost, each that of a walk from a; they stand in order
 --   Ready ..                 == they cost at most key, which may be given to more
 --   KeyWalk g a u c key      == a walk from a to u and a move of cost c from there cost key together
 --   Grown ..                 == from n settled vertices to r, those added at cost key; all else is as it was
+--   OpenRow ..               == row k is that of a move of class c, which leads from u where its offset does
+--   Offering ..              == what the offer of a key along an open row takes
+--   Offered ..               == what it leaves: x costs at most key
 --   Relaxing ..              == what the relaxing of a class of moves takes
---   Relaxed ..               == the far ends of the moves of class c from u, of those below m, cost at most key
+--   Relaxed ..               == the far ends of the moves of class c from u cost at most key
 --   Passed ..                == what holds of one class and its position p in the order
 --   Merging ..               == what holds at each turn of the merge, of the classes l and their positions pos
 --   Mergeable ..             == what the merge takes
 --   remaining v pos          == what the positions have before them: the merge's measure
-use Prim.Native.Nat.{ℕ, _+_, _-_, _*_, _≤_, _<_}
+use Prim.Native.Nat.{ℕ, _+_, _-_, _*_, _^_, _≤_, _<_}
 use mathlib.Core.Path.{_≡_}
+use mathlib.Core.Bool.{true}
 use mathlib.Core.Option.{some}
 use mathlib.Core.List.{List, [], _∷_}
 use lib.Dec.{ltb, eqb}
@@ -32,18 +37,17 @@ use lib.ListN.{length, getD, set}
 use Rattle.basics.specs.Bounded.{pick}
 use Rattle.moves.specs.declared.Class.{Class}
 use Rattle.moves.specs.declared.Offset.{Offset}
+use Rattle.moves.specs.declared.Rows.{Rows}
+use Rattle.moves.specs.Moves.{rowAt}
+use Rattle.moves.specs.Masks.{bit, maskedEnd, Movable}
 use Rattle.moves.specs.Classes.{Member, classAt}
 use Rattle.paths.specs.Graph.{Graph, Lawful}
 use Rattle.paths.specs.Distance.{unreachable}
 use Rattle.paths.specs.Local.{entry}
 use Rattle.paths.proofs.Listing.{HasWalk}
-use Rattle.neighbours.specs.declared.Reach.{Reach}
-use Rattle.distances.specs.Order.{Ordered, Masked}
+use Rattle.distances.specs.Order.{Ordered, maskAt}
 
 -- ---- one vertex
-
-abbrev pub by : ℕ → ℕ → Offset
-by up down = record { up = up; down = down }
 
 abbrev pub costGiven : ℕ → ℕ → ℕ
 costGiven c key = pick (eqb c unreachable) key c
@@ -74,24 +78,30 @@ pub record Lowest (r k0 k1 k2 : ℕ) : Type 0 where
 
 -- ---- the moves
 
-abbrev pub tableOf : ℕ → List ℕ → List ℕ → List ℕ → Reach
-tableOf n row up down = record { count = n; row = row; up = up; down = down; cost = [] }
+abbrev pub offsetAt : List ℕ → List ℕ → ℕ → Offset
+offsetAt up down k = record { up = entry up k; down = entry down k }
 
-pub record Table (g : Graph) (row up down : List ℕ) : Type 0 where
-  pub few : g .moves ≤ 8
-  pub rows : g .moves ≤ length row
-  pub ups : g .moves ≤ length up
-  pub downs : g .moves ≤ length down
+abbrev pub farAt : List ℕ → List ℕ → ℕ → ℕ → ℕ
+farAt up down u k = u + entry up k - entry down k
 
-pub record OneCost (g : Graph) (c : Class) : Type 0 where
-  pub stride-pos : 1 ≤ c .stride
-  pub short : c .stride ≤ g .moves
+pub record Table (g : Graph) (r : Rows) (up down : List ℕ) : Type 0 where
+  pub ups : (m : ℕ) → m < g .moves → rowAt r m < length up
+  pub downs : (m : ℕ) → m < g .moves → rowAt r m < length down
+
+pub record RowSteps (g : Graph) (r : Rows) (up down work : List ℕ) : Type 0 where
+  pub movable : (u m : ℕ) → u < g .size → m < g .moves
+      → Movable (maskAt (g .size) work u) u (rowAt r m) (offsetAt up down (rowAt r m))
+  pub step : (u m : ℕ) → u < g .size → m < g .moves
+      → maskedEnd (maskAt (g .size) work u) u (rowAt r m) (offsetAt up down (rowAt r m)) ≡ g .step m u
+
+pub record OneCost (g : Graph) (r : Rows) (c : Class) : Type 0 where
   pub high : c .cost ≤ 4095
-  pub same : (m : ℕ) → Member c m → m < g .moves → g .cost m ≡ c .cost
+  pub same : (m : ℕ) → Member r c m → m < g .moves → g .cost m ≡ c .cost
+  pub found : (k : ℕ) → bit (c .rows) k ≡ true → (m : ℕ) × (m < g .moves) × (rowAt r m ≡ k)
 
-pub record CostClasses (g : Graph) (l : List Class) : Type 0 where
-  pub each : (k : ℕ) → k < 3 → OneCost g (classAt l k)
-  pub covers : (m : ℕ) → m < g .moves → (k : ℕ) × (k < 3) × Member (classAt l k) m
+pub record CostClasses (g : Graph) (r : Rows) (l : List Class) : Type 0 where
+  pub each : (k : ℕ) → k < 3 → OneCost g r (classAt l k)
+  pub covers : (m : ℕ) → m < g .moves → (k : ℕ) × (k < 3) × Member r (classAt l k) m
 
 -- ---- the settled vertices
 
@@ -130,43 +140,71 @@ pub record Grown (v n r key : ℕ) (d d′ work work′ : List ℕ) : Type 0 whe
   pub same-cost : (u : ℕ) → entry d u < unreachable → entry d′ u ≡ entry d u
   pub fresh : (i : ℕ) → n ≤ i → i < r → entry d′ (entry work′ i) ≡ key
 
+-- ---- one row
+
+pub record OpenRow (g : Graph) (r : Rows) (up down : List ℕ) (c : Class) (u k : ℕ) : Type 0 where
+  pub move : ℕ
+  pub listed : move < g .moves
+  pub row : rowAt r move ≡ k
+  pub cost : g .cost move ≡ c .cost
+  pub goes : g .step move u ≡ some (farAt up down u k)
+  pub few : k < 32
+  pub up-in : k < length up
+  pub down-in : k < length down
+  pub sum : u + entry up k < 2 ^ 32
+  pub enough : entry down k ≤ u + entry up k
+
+pub record Offering (g : Graph) (r : Rows) (up down : List ℕ) (c : Class) (a u k key n : ℕ) (d work : List ℕ)
+    : Type 0 where
+  pub lawful : Lawful g
+  pub row : OpenRow g r up down c u k
+  pub ready : Ready g a n key d work
+  pub walk : KeyWalk g a u (c .cost) key
+
+pub record Offered (g : Graph) (a x key n r : ℕ) (d d′ work work′ : List ℕ) : Type 0 where
+  pub ready : Ready g a r key d′ work′
+  pub grown : Grown (g .size) n r key d d′ work work′
+  pub low : entry d′ x ≤ key
+
 -- ---- one class of moves
 
-pub record Relaxing (g : Graph) (row up down : List ℕ) (c : Class) (a p key n : ℕ) (d work : List ℕ) : Type 0 where
-  pub table : Table g row up down
-  pub masked : Masked g (tableOf (g .moves) row up down) work
-  pub class : OneCost g c
+pub record Relaxing (g : Graph) (r : Rows) (up down : List ℕ) (c : Class) (a p key n : ℕ) (d work : List ℕ)
+    : Type 0 where
+  pub lawful : Lawful g
+  pub table : Table g r up down
+  pub steps : RowSteps g r up down work
+  pub class : OneCost g r c
   pub ready : Ready g a n key d work
   pub place : p < n
   pub walk : KeyWalk g a (entry work p) (c .cost) key
 
-pub record Relaxed (g : Graph) (a u : ℕ) (c : Class) (m key n r : ℕ) (d d′ work work′ : List ℕ) : Type 0 where
-  pub ready : Ready g a r key d′ work′
-  pub grown : Grown (g .size) n r key d d′ work work′
-  pub relaxed : (k w : ℕ) → Member c k → k < m → g .step k u ≡ some w → entry d′ w ≤ key
+pub record Relaxed (g : Graph) (r : Rows) (a u : ℕ) (c : Class) (key n s : ℕ) (d d′ work work′ : List ℕ) : Type 0 where
+  pub ready : Ready g a s key d′ work′
+  pub grown : Grown (g .size) n s key d d′ work work′
+  pub relaxed : (m w : ℕ) → Member r c m → m < g .moves → g .step m u ≡ some w → entry d′ w ≤ key
 
 -- ---- the merge
 
 -- Before place p no move of the class gives a lower cost; from p on, no key is less than a cost that was given. (Where
 -- the class has no move, p may be anything.)
-pub record Passed (g : Graph) (n : ℕ) (c : Class) (p : ℕ) (d work : List ℕ) : Type 0 where
-  pub room : c .first < g .moves → p ≤ n
-  pub relaxed : (i m w : ℕ) → i < p → Member c m → m < g .moves → g .step m (entry work i) ≡ some w
+pub record Passed (g : Graph) (r : Rows) (n : ℕ) (c : Class) (p : ℕ) (d work : List ℕ) : Type 0 where
+  pub room : 0 < c .rows → p ≤ n
+  pub relaxed : (i m w : ℕ) → i < p → Member r c m → m < g .moves → g .step m (entry work i) ≡ some w
       → entry d w ≤ entry d (entry work i) + c .cost
   pub pending : (i : ℕ) → i < n → p < n → entry d (entry work i) ≤ entry d (entry work p) + c .cost
 
-pub record Merging (g : Graph) (a n : ℕ) (l : List Class) (pos d work₀ work : List ℕ) : Type 0 where
+pub record Merging (g : Graph) (r : Rows) (a n : ℕ) (l : List Class) (pos d work₀ work : List ℕ) : Type 0 where
   pub settled : Settled g a n d work
-  pub classes : CostClasses g l
-  pub passed : (k : ℕ) → k < 3 → Passed g n (classAt l k) (getD pos k 0) d work
+  pub classes : CostClasses g r l
+  pub passed : (k : ℕ) → k < 3 → Passed g r n (classAt l k) (getD pos k 0) d work
   pub rest : (i : ℕ) → g .size < i → entry work i ≡ entry work₀ i
 
-pub record Mergeable (g : Graph) (row up down : List ℕ) (l : List Class) (a : ℕ) (d work : List ℕ) : Type 0 where
+pub record Mergeable (g : Graph) (r : Rows) (up down : List ℕ) (l : List Class) (a : ℕ) (d work : List ℕ) : Type 0 where
   pub few : g .size ≤ 16384
   pub lawful : Lawful g
-  pub table : Table g row up down
-  pub masked : Masked g (tableOf (g .moves) row up down) work
-  pub classes : CostClasses g l
+  pub table : Table g r up down
+  pub steps : RowSteps g r up down work
+  pub classes : CostClasses g r l
   pub source : a < g .size
   pub d-len : length d ≡ g .size
   pub work-len : length work ≡ 4 * g .size

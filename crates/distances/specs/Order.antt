@@ -1,5 +1,6 @@
 -- The costs from one vertex, and what stands in the working slice beside them: the vertices that have a cost, in order,
--- and the masks of the open moves of all.
+-- and the masks of the open moves of all. Nobody has to believe these: the planner's contract is stated by the
+-- definitions of paths.
 --
 --   maskAt v work u        == the mask of vertex u: the masks begin at place 2 * v, where there are v vertices
 --   Ordered v n D O        == O 0, .. O (n - 1) are the vertices below v that have a cost, each once, by rising cost D

@@ -11,7 +11,8 @@ use moves::Rows;
 pub mod masks; // masks.rt: the open moves of every vertex
 mod merge; // merge.rt: the vertices settled in order of cost
 
-// Fills d with the costs from a, where `work` has the masks; leaves the order beside them, and answers its length.
+// Fills d with the costs from a, where `work` has the masks; leaves the order beside them, and answers its length. The
+// offsets are those of the whole table, since a mask has a bit for each of its rows.
 pub fn costs_over_masks(
     w: usize,
     h: usize,
@@ -25,12 +26,11 @@ pub fn costs_over_masks(
     requires { ⌜ OpenMasks (floorOf w h (now map)) (now work) ⌝ }
     ensures { λ n. ⌜ OrderedCosts (floorOf w h (now (map .entry))) rows (a .0) n (now (d .exit)) (now (work .exit)) ⌝ }
 {
-    let t = neighbours::reach_of(w, rows);
-    let row = t.row;
+    let t = neighbours::reach_of(w, moves::all_rows());
     let up = t.up;
     let down = t.down;
     let classes = moves::classes_of(rows);
-    merge::settle(w, h, map, rows, &row, &up, &down, classes, a.0, d, work)
+    merge::settle(w, h, map, rows, &up, &down, classes, a.0, d, work)
 }
 
 // Fills d with the costs from a, and `work` with 0. One of the planner's two inner operations, whole by itself: it

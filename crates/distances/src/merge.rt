@@ -7,10 +7,9 @@ ghost use lib.ListN.{length};
 ghost use Rattle.floor.specs.Floor.{floorOf};
 ghost use Rattle.grid.specs.Grid.{floorGraph};
 ghost use Rattle.paths.specs.Local.{entry};
-ghost use Rattle.moves.specs.Masks.{Movable, maskedVertex};
 ghost use Rattle.distances.specs.Order.{SettledCosts};
-ghost use Rattle.distances.specs.Merge.{by, costGiven, countGiven, Given, keyOf, Keyed, Lowest};
-ghost use Rattle.distances.specs.Merge.{Relaxing, Relaxed, Mergeable};
+ghost use Rattle.distances.specs.Merge.{costGiven, countGiven, Given, keyOf, Keyed, Lowest};
+ghost use Rattle.distances.specs.Merge.{farAt, Offering, Offered, Relaxing, Relaxed, Mergeable};
 use moves::Class;
 use moves::Rows;
 
@@ -19,18 +18,6 @@ fn wide(x: u32) -> usize
     ensures { λ r. ⌜ r ≡ x ⌝ }
 {
     x as usize
-}
-
-// Where a move leads from u, by the mask of u's open moves: u changed by `up` less `down`, where the mask has the bit
-// of the move's row; else u itself. Compiled it is a choice of two numbers, with no branch.
-fn far_vertex(mask: u32, u: usize, row: usize, up: usize, down: usize) -> usize
-    requires { ⌜ Movable mask u row (by up down) ⌝ }
-    ensures { λ r. ⌜ r ≡ maskedVertex mask u row (by up down) ⌝ }
-{
-    if (mask >> row) % 2 == 1 {
-        return u + up - down;
-    }
-    u
 }
 
 // The cost c after key was offered: the key where there was none.
@@ -65,16 +52,42 @@ fn offer(x: usize, key: u32, n: usize, d: &mut [u32], work: &mut [u32]) -> usize
     n + count_given(c)
 }
 
-// Gives the key to the far ends of the moves of a class from the vertex at place p of the order. `row`, `up` and `down`
-// have the row of each move and by how much it changes a vertex number; they are lent, since a table passed by value
-// would be copied at each turn. Floor and source are for the contract only.
+// Gives the key to the far end of the open move of a row from vertex u, in the same way. `up` and `down` have by how
+// much the move of each row changes a vertex number; they are lent, since a table passed by value would be copied at
+// each turn. Floor, source and class are for the contract only.
+fn relax_row(
+    w: usize,
+    h: usize,
+    map: &[u8],
+    rows: Rows,
+    a: usize,
+    up: &[usize],
+    down: &[usize],
+    class: Class,
+    u: usize,
+    row: usize,
+    key: u32,
+    n: usize,
+    d: &mut [u32],
+    work: &mut [u32],
+) -> usize
+    requires { ⌜ Offering (floorGraph (floorOf w h (now map)) rows) rows (now up) (now down) class a u row key n
+        (now d) (now work) ⌝ }
+    ensures { λ r. ⌜ Offered (floorGraph (floorOf w h (now (map .entry))) rows) a
+        (farAt (now (up .entry)) (now (down .entry)) u row) key n r (now (d .entry)) (now (d .exit))
+        (now (work .entry)) (now (work .exit)) ⌝ }
+{
+    offer(u + up[row] - down[row], key, n, d, work)
+}
+
+// Gives the key to the far ends of the open moves of a class from the vertex at place p of the order: of the rows whose
+// bit both the class and the vertex's mask have, the lowest first.
 fn relax_class(
     w: usize,
     h: usize,
     map: &[u8],
     rows: Rows,
     a: usize,
-    row: &[usize],
     up: &[usize],
     down: &[usize],
     class: Class,
@@ -84,19 +97,19 @@ fn relax_class(
     d: &mut [u32],
     work: &mut [u32],
 ) -> usize
-    requires { ⌜ Relaxing (floorGraph (floorOf w h (now map)) rows) (now row) (now up) (now down) class a p key n
+    requires { ⌜ Relaxing (floorGraph (floorOf w h (now map)) rows) rows (now up) (now down) class a p key n
         (now d) (now work) ⌝ }
-    ensures { λ r. ⌜ Relaxed (floorGraph (floorOf w h (now (map .entry))) rows) a (entry (now (work .entry)) p) class
-        (rows .count) key n r (now (d .entry)) (now (d .exit)) (now (work .entry)) (now (work .exit)) ⌝ }
+    ensures { λ r. ⌜ Relaxed (floorGraph (floorOf w h (now (map .entry))) rows) rows a (entry (now (work .entry)) p)
+        class key n r (now (d .entry)) (now (d .exit)) (now (work .entry)) (now (work .exit)) ⌝ }
 {
     let u = wide(work[p]);
     let mask = work[2 * d.len() + u];
     let mut k = n;
-    let mut m = class.first;
-    while m < rows.count {
-        let x = far_vertex(mask, u, row[m], up[m], down[m]);
-        k = offer(x, key, k, d, work);
-        m += class.stride;
+    let mut rest = mask & class.rows;
+    while 0 < rest {
+        let row = wide(u32::trailing_zeros(rest));
+        k = relax_row(w, h, map, rows, a, up, down, class, u, row, key, k, d, work);
+        rest = rest & (rest - 1);
     }
     k
 }
@@ -133,10 +146,10 @@ fn lowest(k0: u32, k1: u32, k2: u32) -> u8
 }
 
 // Where the position of a class starts: past all v vertices for a class of no move.
-fn first_place(class: Class, count: usize, v: usize) -> usize
-    ensures { λ r. ⌜ (class .first < count → r ≡ 0) ⌝ }
+fn first_place(class: Class, v: usize) -> usize
+    ensures { λ r. ⌜ (0 < class .rows → r ≡ 0) ⌝ }
 {
-    if class.first < count {
+    if 0 < class.rows {
         return 0;
     }
     v
@@ -149,7 +162,6 @@ pub fn settle(
     h: usize,
     map: &[u8],
     rows: Rows,
-    row: &[usize],
     up: &[usize],
     down: &[usize],
     classes: [Class; 3],
@@ -157,7 +169,7 @@ pub fn settle(
     d: &mut [u32],
     work: &mut [u32],
 ) -> usize
-    requires { ⌜ Mergeable (floorGraph (floorOf w h (now map)) rows) (now row) (now up) (now down) classes a
+    requires { ⌜ Mergeable (floorGraph (floorOf w h (now map)) rows) rows (now up) (now down) classes a
         (now d) (now work) ⌝ }
     ensures { λ n. ⌜ SettledCosts (floorGraph (floorOf w h (now (map .entry))) rows) a n (now (d .exit))
         (now (work .entry)) (now (work .exit)) ⌝ }
@@ -169,9 +181,9 @@ pub fn settle(
     let c1 = classes[1];
     let c2 = classes[2];
     let mut n: usize = 1;
-    let mut p0 = first_place(c0, rows.count, d.len());
-    let mut p1 = first_place(c1, rows.count, d.len());
-    let mut p2 = first_place(c2, rows.count, d.len());
+    let mut p0 = first_place(c0, d.len());
+    let mut p1 = first_place(c1, d.len());
+    let mut p2 = first_place(c2, d.len());
     loop {
         let k0 = key_at(n, p0, c0.cost, d, work);
         let k1 = key_at(n, p1, c1.cost, d, work);
@@ -181,16 +193,16 @@ pub fn settle(
             return n;
         }
         if k == 0 {
-            n = relax_class(w, h, map, rows, a, row, up, down, c0, p0, k0, n, d, work);
+            n = relax_class(w, h, map, rows, a, up, down, c0, p0, k0, n, d, work);
             p0 += 1;
             continue;
         }
         if k == 1 {
-            n = relax_class(w, h, map, rows, a, row, up, down, c1, p1, k1, n, d, work);
+            n = relax_class(w, h, map, rows, a, up, down, c1, p1, k1, n, d, work);
             p1 += 1;
             continue;
         }
-        n = relax_class(w, h, map, rows, a, row, up, down, c2, p2, k2, n, d, work);
+        n = relax_class(w, h, map, rows, a, up, down, c2, p2, k2, n, d, work);
         p2 += 1;
     }
 }

@@ -1,4 +1,4 @@
-// One job of the office program, planned, thinned and written as lines, and one turn of the program.
+// One job of the program, planned, thinned and written as lines, and one turn of the program.
 ghost use mathlib.Core.Path.{_≡_};
 ghost use Prim.Native.Nat.{_≤_};
 ghost use Rattle.floor.specs.Floor.{floorOf};

@@ -1,146 +1,128 @@
 -- The classes of moves of one cost: a test that antt computes for the rows of each neighbourhood, and what it gives.
 --
---   one-class, two-classes   == the classes that the code makes, where all moves cost the same and where they alternate
---   member-first, -next      == the members in order
---   member-between           == no member stands between two neighbouring ones
-use Prim.Native.Nat.{ℕ, suc, _+_, _-_, _*_, _/_, _%_, _≤_, _<_}
-use mathlib.Core.Path.{_≡_, refl, sym, _∙_}
-use mathlib.Core.Logic.{_⊎_, inl, inr, ⊎-elim}
-use mathlib.Core.Bool.{Bool, true, _&&_, _||_, not}
+--   three-moves   == a neighbourhood has three moves at least
+--   three-classes == the classes of the costs of its first three are the classes of its moves
+--   whole-listed  == the whole table is a neighbourhood
+use Prim.Native.Nat.{ℕ, _^_, _≤_}
+use mathlib.Core.Path.{_≡_, refl}
+use mathlib.Core.Logic.{⊎-elim}
+use mathlib.Core.Bool.{Bool, true, _||_, not}
 use mathlib.Core.List.{List, [], _∷_}
 use native.Mathlib.Omega.{arith}
-use native.Mathlib.Nat.{div-add-mod', mul-le-mul}
-use borrow.Author.Tests.{eqb-true, eq-eqb, leb-true, le-leb, not-true}
-use lib.Arith.{digits-mod}
-use lib.Dec.{leb, eqb}
+use borrow.Author.Tests.{eqb-true, leb-true, ltb-true, not-true}
+use lib.Bits.{bitOr}
+use lib.Dec.{leb, ltb, eqb}
 use lib.ListN.{length, getD}
 use Rattle.basics.specs.Bounded.{every, any, bounded-opened}
-use Rattle.basics.proofs.Order.{le-or-lt}
-use Rattle.basics.proofs.Bools.{and-intro, and-left, and-right, or-cases, not-both}
+use Rattle.basics.proofs.Bools.{or-cases, not-both}
 use Rattle.basics.proofs.Bounded.{every-at, any-cases}
 use Rattle.moves.specs.declared.Rows.{Rows}
 use Rattle.moves.specs.declared.Class.{Class}
-use Rattle.moves.specs.Moves.{rowsOf, moveAt}
+use Rattle.moves.specs.Moves.{moves, rowsOf, rowAt, moveAt, neighbourhoodOf}
 use Rattle.moves.specs.Table.{Listed}
-use Rattle.moves.specs.Classes.{classOf, classAt, Member, CostClass, Classes}
+use Rattle.moves.specs.Masks.{bit}
+use Rattle.moves.specs.Classes.{classAt, CostClass, Classes, rowsCosting, classFor}
+use Rattle.moves.proofs.Bits.{set-below}
 use Rattle.moves.proofs.Table.{listed-found}
-
--- ---- members
-
-pub member-first : (c : Class) → Member c (c .first)
-member-first c = record { index = 0; at = omega arith }
-
-pub member-next : {c : Class} {m : ℕ} → Member c m → Member c (m + c .stride)
-member-next {c} {m} h = record { index = suc (h .index); at = omega (arith, h .at) }
-
-pub member-between : {c : Class} {m n : ℕ} → Member c m → Member c n → n < m + c .stride → (n < m) ⊎ (n ≡ m)
-member-between {c} {m} {n} h k l =
-    ⊎-elim
-    (λ (p : suc (h .index) ≤ k .index).
-    let q = mul-le-mul {n₁ = c .stride} {m₁ = suc (h .index)} {n₂ = c .stride} {m₂ = k .index} (omega arith) p in
-    absurd (omega (arith, h .at, k .at)))
-    (λ (p : k .index < suc (h .index)).
-    let q = mul-le-mul {n₁ = c .stride} {m₁ = k .index} {n₂ = c .stride} {m₂ = h .index} (omega arith) (omega arith) in
-    ⊎-elim (λ (z : suc n ≤ m). inl z) (λ (z : m < suc n). inr (omega (arith, h .at, k .at))) (le-or-lt (suc n) m))
-    (le-or-lt (suc (h .index)) (k .index))
 
 -- ---- the test
 
-abbrev memberTest : Class → ℕ → Bool
-memberTest c m = leb (c .first) m && eqb ((m - c .first) % c .stride) 0
+abbrev memberTest : Rows → Class → ℕ → Bool
+memberTest r c m = bit (c .rows) (rowAt r m)
 
 abbrev costTest : Rows → Class → ℕ → Bool
-costTest r c m = not (memberTest c m) || eqb (moveAt r m .cost) (c .cost)
+costTest r c m = not (memberTest r c m) || eqb (moveAt r m .cost) (c .cost)
+
+abbrev rowTest : Rows → Class → ℕ → Bool
+rowTest r c k = not (bit (c .rows) k) || any (r .count) (λ m. eqb (rowAt r m) k)
 
 abbrev classTests : Rows → Class → List Bool
 classTests r c =
-    leb 1 (c .stride)
-    ∷ leb (c .stride) (r .count)
-    ∷ leb (c .first) (r .count)
-    ∷ leb 1 (c .cost)
+    leb 1 (c .cost)
     ∷ leb (c .cost) 4095
     ∷ every (r .count) (costTest r c)
+    ∷ ltb (c .rows) (2 ^ length moves)
+    ∷ every (length moves) (rowTest r c)
     ∷ []
 
 abbrev classTest : Rows → Class → Bool
 classTest r c = every (length (classTests r c)) (λ k. getD (classTests r c) k true)
 
-abbrev coverTest : List Class → ℕ → Bool
-coverTest l m = any 3 (λ k. memberTest (classAt l k) m)
+abbrev coverTest : Rows → List Class → ℕ → Bool
+coverTest r l m = any 3 (λ k. memberTest r (classAt l k) m)
 
-member-true : (c : Class) (m : ℕ) → 1 ≤ c .stride → Member c m → memberTest c m ≡ true
-member-true c m p h =
-    let z : m - c .first ≡ h .index * c .stride + 0 = omega (arith, h .at) in
-    and-intro (leb (c .first) m) (eqb ((m - c .first) % c .stride) 0) (le-leb (c .first) m (omega (arith, h .at)))
-    (eq-eqb ((m - c .first) % c .stride) 0 (rw z (digits-mod (h .index) {m = c .stride} {r = 0} (omega arith))))
-
-true-member : (c : Class) (m : ℕ) → memberTest c m ≡ true → Member c m
-true-member c m e =
-    let rest = (m - c .first) % c .stride in
-    let a = leb-true (c .first) m (and-left (leb (c .first) m) (eqb rest 0) e) in
-    let b = eqb-true rest 0 (and-right (leb (c .first) m) (eqb rest 0) e) in
-    record { index = (m - c .first) / c .stride; at = omega (arith, div-add-mod' (m - c .first) (c .stride)) }
+-- What holds where a condition does.
+then-true : (a b : Bool) → (not a || b) ≡ true → a ≡ true → b ≡ true
+then-true a b e p = ⊎-elim (λ n. not-both a p (not-true a n)) (λ q. q) (or-cases (not a) b e)
 
 class-true : (r : Rows) (c : Class) → classTest r c ≡ true → CostClass r c
 class-true r c e =
     let test = every-at (length (classTests r c)) (λ k. getD (classTests r c) k true) e in
-    let pos = leb-true 1 (c .stride) (test 0 (omega arith)) in
+    let small = ltb-true (c .rows) (2 ^ length moves) (test 3 (omega arith)) in
     record {
-      stride-pos = pos;
-      short = leb-true _ _ (test 1 (omega arith));
-      within = leb-true _ _ (test 2 (omega arith));
-      low = leb-true _ _ (test 3 (omega arith));
-      high = leb-true _ _ (test 4 (omega arith));
-      same = λ m h l.
-          ⊎-elim (λ n. not-both (memberTest c m) (member-true c m pos h) (not-true (memberTest c m) n))
-          (λ q. eqb-true _ _ q) (or-cases (not (memberTest c m)) (eqb (moveAt r m .cost) (c .cost))
-          (every-at (r .count) (costTest r c) (test 5 (omega arith)) m l));
+      low = leb-true _ _ (test 0 (omega arith));
+      high = leb-true _ _ (test 1 (omega arith));
+      same = λ m M l. eqb-true _ _ (then-true (memberTest r c m) _ (every-at (r .count) (costTest r c)
+          (test 2 (omega arith)) m l) M);
+      found = λ k b.
+          let there = any-cases (r .count) (λ m. eqb (rowAt r m) k) (then-true (bit (c .rows) k) _
+          (every-at (length moves) (rowTest r c) (test 4 (omega arith)) k
+          (set-below (c .rows) (length moves) k small b)) b) in
+          (there .0, there .1, eqb-true _ _ (there .2));
     }
 
 -- The three classes pass.
 record Tested (r : Rows) (l : List Class) : Type 0 where
   pub three : length l ≡ 3
   pub each : every 3 (λ k. classTest r (classAt l k)) ≡ true
-  pub covers : every (r .count) (coverTest l) ≡ true
+  pub covers : every (r .count) (coverTest r l) ≡ true
 
 tested : (r : Rows) (l : List Class) → Tested r l → Classes r l
 tested r l t = record {
   three = t .three;
   each = λ k h. class-true r (classAt l k) (every-at 3 (λ k. classTest r (classAt l k)) (t .each) k h);
   covers = λ m h.
-      let c = any-cases 3 (λ k. memberTest (classAt l k) m) (every-at (r .count) (coverTest l) (t .covers) m h) in
-      (c .0, c .1, true-member (classAt l (c .0)) m (c .2));
+      any-cases 3 (λ k. memberTest r (classAt l k) m) (every-at (r .count) (coverTest r l) (t .covers) m h);
 }
 
 -- ---- the classes of each neighbourhood
 
--- All moves in one class of cost a, and every other move in each of two, of costs a and b.
-abbrev oneClass : Rows → ℕ → List Class
-oneClass r a = classOf 0 1 a ∷ classOf (r .count) 1 a ∷ classOf (r .count) 1 a ∷ []
+abbrev firstClass : Rows → Class
+firstClass r = classFor r 0 0
 
-abbrev twoClasses : Rows → ℕ → ℕ → List Class
-twoClasses r a b = classOf 0 2 a ∷ classOf 1 2 b ∷ classOf (r .count) 1 a ∷ []
+abbrev secondClass : Rows → Class
+secondClass r = classFor r 1 (firstClass r .rows)
 
-cardinal-classes : Tested (rowsOf 0 2 4) (oneClass (rowsOf 0 2 4) 408)
-unfolding bounded-opened
+abbrev thirdClass : Rows → Class
+thirdClass r = classFor r 2 (bitOr (firstClass r .rows) (secondClass r .rows))
+
+abbrev classesFor : Rows → List Class
+classesFor r = firstClass r ∷ secondClass r ∷ thirdClass r ∷ []
+
+cardinal-classes : Tested (rowsOf 0 2 4) (classesFor (rowsOf 0 2 4))
+unfolding bounded-opened rowsCosting
 cardinal-classes = record { three = refl; each = refl; covers = refl }
 
-whole-classes : Tested (rowsOf 0 1 8) (twoClasses (rowsOf 0 1 8) 408 577)
-unfolding bounded-opened
+whole-classes : Tested (rowsOf 0 1 8) (classesFor (rowsOf 0 1 8))
+unfolding bounded-opened rowsCosting
 whole-classes = record { three = refl; each = refl; covers = refl }
 
-pub two-moves : {r : Rows} → Listed r → 2 ≤ r .count
-two-moves {r} h = ⊎-elim (λ e. rw e (omega arith)) (λ e. rw e (omega arith)) (listed-found h .is)
+module _ {r : Rows} (h : Listed r) where
+  pub three-moves : 3 ≤ r .count
+  three-moves = ⊎-elim (λ e. rw e (omega arith)) (λ e. rw e (omega arith)) (listed-found h .is)
 
-module _ (r : Rows) (h : Listed r) (a b : ℕ) (first : a ≡ moveAt r 0 .cost) (second : b ≡ moveAt r 1 .cost) where
-  pub one-class : a ≡ b → Classes r (oneClass r a)
-  one-class e =
-      ⊎-elim (λ q. let z : _≡_ {A = ℕ} 408 577 = rw q at (sym first ∙ e ∙ second) in absurd (omega arith))
-      (λ q. rw first (rw q (tested (rowsOf 0 2 4) (oneClass (rowsOf 0 2 4) 408) cardinal-classes))) (listed-found h .is)
+  pub listed-classes : Classes r (classesFor r)
+  listed-classes =
+      ⊎-elim (λ e. rw e (tested (rowsOf 0 1 8) (classesFor (rowsOf 0 1 8)) whole-classes))
+      (λ e. rw e (tested (rowsOf 0 2 4) (classesFor (rowsOf 0 2 4)) cardinal-classes)) (listed-found h .is)
 
-  pub two-classes : (a ≡ b → ⊥) → Classes r (twoClasses r a b)
-  two-classes ne =
-      ⊎-elim
-      (λ q. rw (first, second) (rw q (tested (rowsOf 0 1 8) (twoClasses (rowsOf 0 1 8) 408 577) whole-classes)))
-      (λ q. let z : moveAt r 0 .cost ≡ moveAt r 1 .cost = rw q in absurd (ne (first ∙ z ∙ sym second)))
-      (listed-found h .is)
+  -- the classes as the code makes them, one after the other
+  pub three-classes : (a b c : Class) → a ≡ classFor r 0 0 → b ≡ classFor r 1 (a .rows)
+      → c ≡ classFor r 2 (bitOr (a .rows) (b .rows)) → Classes r (a ∷ b ∷ c ∷ [])
+  three-classes a b c p q s = rw (s, q, p) listed-classes
+
+-- ---- the whole table
+
+pub whole-listed : Listed (rowsOf 0 1 (length moves))
+unfolding neighbourhoodOf
+whole-listed = record { number = 8; known = refl }

@@ -3,4 +3,5 @@ pub mod Signs
 pub mod Steps
 pub mod Masks
 pub mod Masked
+pub mod Bits
 pub mod Classes

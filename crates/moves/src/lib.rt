@@ -7,11 +7,11 @@ ghost use lib.IntN.{natAbs};
 ghost use Rattle.basics.specs.Bounded.{pick};
 ghost use Rattle.floor.specs.Floor.{Sized, floorOf};
 ghost use lib.ListN.{length};
-ghost use Rattle.moves.specs.Moves.{moves, neighbourhoodOf, rowAt, moveAt};
+ghost use Rattle.moves.specs.Moves.{moves, neighbourhoodOf, rowsOf, rowAt, moveAt};
 ghost use Rattle.moves.specs.Steps.{shifted, farEndAt, openEndAt, stepOf};
 ghost use Rattle.moves.specs.Table.{Listed, lawfulRows, Short, OnFloor, partsOf, placeOf, spotOf};
 ghost use Rattle.moves.specs.Masks.{openRows, RowBits, OpenMask, offsetOf, Movable, maskedEnd};
-ghost use Rattle.moves.specs.Classes.{Classes};
+ghost use Rattle.moves.specs.Classes.{rowCosting, rowsCosting, classFor, Classes};
 use floor::Vertex;
 
 // A move: its signed offsets in columns and rows, and its cost.
@@ -46,10 +46,9 @@ pub struct Offset {
     pub down: usize,
 }
 
-// Moves of one cost among a neighbourhood's: `first`, then each `stride` after the one before.
+// Moves of one cost among a neighbourhood's: a bit for each of their rows of the table. No bit: a class of no move.
 pub struct Class {
-    pub first: usize,
-    pub stride: usize,
+    pub rows: u32,
     pub cost: u32,
 }
 
@@ -127,6 +126,17 @@ pub fn rows_of(n: usize) -> Neighbourhood
         });
     }
     Neighbourhood::Unknown
+}
+
+// The rows of the whole table, in its order: move k of these is row k.
+pub fn all_rows() -> Rows
+    ensures { λ r. ⌜ r ≡ rowsOf 0 1 (length moves) ⌝ }
+{
+    Rows {
+        first: 0,
+        stride: 1,
+        count: 8,
+    }
 }
 
 // The table's row of move m of a neighbourhood.
@@ -266,7 +276,8 @@ pub fn offset_of(w: usize, rows: Rows, m: usize) -> Offset
     }
 }
 
-// Vertex v moved by the offset of a row, where the mask of v has that row's bit: where the move is open.
+// Vertex v moved by the offset of a row, where the mask of v has that row's bit: where the move is open. A move that is
+// shut answers `Off`, as one that leaves the floor does.
 pub fn masked_step(mask: u32, v: Vertex, row: usize, o: Offset) -> Step
     requires { ⌜ Movable mask (v .0) row o ⌝ }
     ensures { λ r. ⌜ r ≡ stepOf (maskedEnd mask (v .0) row o) ⌝ }
@@ -277,35 +288,56 @@ pub fn masked_step(mask: u32, v: Vertex, row: usize, o: Offset) -> Step
     Step::Off
 }
 
-// The moves of a neighbourhood by cost, in three classes. A class that is not used starts past the last move.
+// The bit of the row of move m, where the move costs c.
+fn row_costing(rows: Rows, m: usize, c: u32) -> u32
+    requires { ⌜ (lawfulRows rows ≡ true) × (m < rows .count) ⌝ }
+    ensures { λ r. ⌜ r ≡ rowCosting rows c m ⌝ }
+{
+    let k = row_at(rows, m);
+    if move_at(rows, m).cost == c {
+        return 1u32 << k;
+    }
+    0
+}
+
+// The rows of the moves that cost c, a bit for each.
+fn rows_costing(rows: Rows, c: u32) -> u32
+    requires { ⌜ lawfulRows rows ≡ true ⌝ }
+    ensures { λ r. ⌜ r ≡ rowsCosting rows c (rows .count) ⌝ }
+{
+    let mut bits: u32 = 0;
+    for m in 0..rows.count {
+        bits = bits | row_costing(rows, m, c);
+    }
+    bits
+}
+
+// The class of the moves that cost what move m does: of no move, where another class has taken them.
+fn class_of(rows: Rows, m: usize, taken: u32) -> Class
+    requires { ⌜ (lawfulRows rows ≡ true) × (m < rows .count) ⌝ }
+    ensures { λ r. ⌜ r ≡ classFor rows m taken ⌝ }
+{
+    let cost = move_at(rows, m).cost;
+    let same = rows_costing(rows, cost);
+    if same & taken == 0 {
+        return Class {
+            rows: same,
+            cost: cost,
+        };
+    }
+    Class {
+        rows: 0,
+        cost: cost,
+    }
+}
+
+// The moves of a neighbourhood by cost, in three classes: those of the costs of its first three moves.
 pub fn classes_of(rows: Rows) -> [Class; 3]
     requires { ⌜ Listed rows ⌝ }
     ensures { λ r. ⌜ Classes rows r ⌝ }
 {
-    let even = move_at(rows, 0).cost;
-    let odd = move_at(rows, 1).cost;
-    let none = Class {
-        first: rows.count,
-        stride: 1,
-        cost: even,
-    };
-    if even == odd {
-        let all = Class {
-            first: 0,
-            stride: 1,
-            cost: even,
-        };
-        return [all, none, none];
-    }
-    let evens = Class {
-        first: 0,
-        stride: 2,
-        cost: even,
-    };
-    let odds = Class {
-        first: 1,
-        stride: 2,
-        cost: odd,
-    };
-    [evens, odds, none]
+    let first = class_of(rows, 0, 0);
+    let second = class_of(rows, 1, first.rows);
+    let third = class_of(rows, 2, first.rows | second.rows);
+    [first, second, third]
 }

@@ -114,7 +114,7 @@ pub fn cost_right(
         }
         tight = true;
     }
-    if here == 4294967295 {
+    if d[v] == paths::UNREACHABLE {
         return true;
     }
     if v == source {
@@ -167,11 +167,10 @@ pub fn on_way(d: &[u32], e: &[u32], goal: usize, v: usize) -> bool
     requires { ⌜ (goal < length (now d)) × (v < length (now d)) × (v < length (now e)) ⌝ }
     ensures { λ r. ⌜ r ≡ onShortest (entry (now (d .entry))) (entry (now (e .entry))) goal v ⌝ }
 {
-    let total = cost_at(d, goal);
-    if total == 4294967295 {
+    if d[goal] == paths::UNREACHABLE {
         return false;
     }
-    cost_at(d, v) + cost_at(e, v) == total
+    cost_at(d, v) + cost_at(e, v) == cost_at(d, goal)
 }
 
 // Whether the route may go from v to w by a move that costs c: w is on the way and costs just the move more than v.

@@ -1,5 +1,6 @@
-// Walks, costs, counts and the central route, over any table of moves: definitions in specs/, laws in proofs/. The one
-// function is the constant that code above writes where no walk joins two vertices.
+// Walks, costs, counts and the central route, over any table of moves: definitions in specs/, laws in proofs/. The code
+// is one constant, which crates above write where no walk joins two vertices, and a function that ties it to its
+// definition.
 //
 // Document 01's terms, and what they are called here:
 //
@@ -25,7 +26,7 @@ ghost use Rattle.paths.specs.Distance.{unreachable};
 // The cost where no walk joins two vertices: document 01's M.
 pub const UNREACHABLE: u32 = 4294967295;
 
-// The same as a number of 32 bits.
+// The constant is the definition's number. Nothing calls this: it stands for its contract.
 pub fn unreachable_cost() -> u32
     ensures { λ r. ⌜ r ≡ unreachable ⌝ }
 {

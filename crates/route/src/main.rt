@@ -1,4 +1,4 @@
-// The office program: reads a stream of records from standard input, plans the jobs on its floor and writes their lines
+// The program: reads a stream of records from standard input, plans the jobs on its floor and writes their lines
 // to standard output.
 //
 // What it writes is `programText` of the crate jobs: the laws `program-map` and `program-bad` there say what the first

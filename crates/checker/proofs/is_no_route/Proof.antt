@@ -30,13 +30,13 @@ shared-slice-read-if1 c = search needs
 returns : tie.Need-returns
 returns c =
     let s = c .before .before .before .before .before .before .before .before in
-    noRoute-reached (graph s) (s .args .a) (s .args .b) (sheet s) (c .if1 .taken)
+    noRoute-reached (graph s) (s .args .a .0) (s .args .b .0) (sheet s) (c .if1 .taken)
 
 returns-2 : tie.Need-returns-2
 returns-2 c =
     let k = c .before in
     let s = start k in
-    noRoute-counted (graph s) (s .args .a) (s .args .b) (sheet s) (k .if1 .left) (c .if2 .taken)
+    noRoute-counted (graph s) (s .args .a .0) (s .args .b .0) (sheet s) (k .if1 .left) (c .if2 .taken)
 
 mul-if3 : tie.Need-mul-if3
 mul-if3 c = search needs
@@ -48,7 +48,7 @@ returns-3 : tie.Need-returns-3
 returns-3 c =
     let k = c .before .before .before in
     let s = start k in
-    noRoute-start (graph s) (s .args .a) (s .args .b) (sheet s) (k .if1 .left) (c .before .before .if2 .left)
+    noRoute-start (graph s) (s .args .a .0) (s .args .b .0) (sheet s) (k .if1 .left) (c .before .before .if2 .left)
     (c .if3 .taken)
 
 vertices-right-requires : tie.Need-vertices-right-requires
@@ -62,11 +62,11 @@ returns-4 c =
     let k = c .before .before .before .before in
     let s = start k in
     let a = s .args in
-    noRoute-vertices (graph s) (a .a) (a .b) (sheet s) (k .if1 .left) (c .before .before .before .if2 .left)
+    noRoute-vertices (graph s) (a .a .0) (a .b .0) (sheet s) (k .if1 .left) (c .before .before .before .if2 .left)
     (c .before .if3 .left)
     (c .vertices-right .ensures
     ∙ vertices-uncounted (a .d .now) (a .e .now) (a .f .now) (a .back .now) (a .route .now) (a .n) false (graph s)
-    (a .a) (a .b))
+    (a .a .0) (a .b .0))
 
 pub is-no-route-spec : {M : Type 1} → statement M
 is-no-route-spec =

@@ -30,20 +30,20 @@ graph s = floorGraph (floorOf (s .args .w) (s .args .h) (s .args .map .now)) (s 
 abbrev start : tie.Else1 → tie.Start
 start c = c .before .before .before .before .before .before .before .before
 
-near : (c : tie.Else1) → entry (start c .args .d .now) (start c .args .b) < unreachable
-near c = omega (arith, c .before .shared-slice-known7 .given (start c .args .b))
+near : (c : tie.Else1) → entry (start c .args .d .now) (start c .args .b .0) < unreachable
+near c = omega (arith, c .before .shared-slice-known7 .given (start c .args .b .0))
 
 abbrev first : tie.After-vertices-right → tie.Else1
 first c = c .before .before .before .before .before
 
 vertices : (c : tie.After-vertices-right)
-    → let s = start (first c) in c .vertices-right .result ≡ verticesTest true (graph s) (s .args .a) (s .args .b)
+    → let s = start (first c) in c .vertices-right .result ≡ verticesTest true (graph s) (s .args .a .0) (s .args .b .0)
     (sheet s)
 vertices c =
     let a = start (first c) .args in
     c .vertices-right .ensures
     ∙ vertices-uncounted (a .d .now) (a .e .now) (a .f .now) (a .back .now) (a .route .now) (a .n) true
-    (graph (start (first c))) (a .a) (a .b)
+    (graph (start (first c))) (a .a .0) (a .b .0)
 
 mul-if1 : tie.Need-mul-if1
 mul-if1 c = search needs
@@ -54,7 +54,7 @@ shared-slice-read-if1 c = search needs
 returns : tie.Need-returns
 returns c =
     let s = c .before .before .before .before .before .before .before .before in
-    route-unreached (graph s) (s .args .a) (s .args .b) (sheet s) (c .if1 .taken)
+    route-unreached (graph s) (s .args .a .0) (s .args .b .0) (sheet s) (c .if1 .taken)
 
 mul-if2 : tie.Need-mul-if2
 mul-if2 c = search needs
@@ -66,7 +66,7 @@ returns-2 : tie.Need-returns-2
 returns-2 c =
     let k = c .before .before in
     let s = start k in
-    route-start (graph s) (s .args .a) (s .args .b) (sheet s) (near k) (c .if2 .taken)
+    route-start (graph s) (s .args .a .0) (s .args .b .0) (sheet s) (near k) (c .if2 .taken)
 
 mul-if3 : tie.Need-mul-if3
 mul-if3 c = search needs
@@ -78,7 +78,8 @@ returns-3 : tie.Need-returns-3
 returns-3 c =
     let k = c .before .before .before .before in
     let s = start k in
-    route-end (graph s) (s .args .a) (s .args .b) (sheet s) (near k) (c .before .before .if2 .left) (c .if3 .taken)
+    route-end (graph s) (s .args .a .0) (s .args .b .0) (sheet s) (near k) (c .before .before .if2 .left)
+    (c .if3 .taken)
 
 vertices-right-requires : tie.Need-vertices-right-requires
 vertices-right-requires c κs =
@@ -90,7 +91,7 @@ returns-4 : tie.Need-returns-4
 returns-4 c =
     let v = c .before in
     let s = start (first v) in
-    route-vertices (graph s) (s .args .a) (s .args .b) (sheet s) (near (first v))
+    route-vertices (graph s) (s .args .a .0) (s .args .b .0) (sheet s) (near (first v))
     (v .before .before .before .if2 .left) (v .before .if3 .left)
     (vertices v) (c .if4 .taken)
 
@@ -100,20 +101,20 @@ route-right-requires c κs =
     let s = start (first v) in (
       s .pre,
       subst (λ (n : ℕ). FitCounts n (s .args .f .now) (s .args .back .now)) (sym (s .pre .shape .d))
-          (counts-fit (graph s) (s .args .a) (s .args .b) (sheet s) (near (first v))
+          (counts-fit (graph s) (s .args .a .0) (s .args .b .0) (sheet s) (near (first v))
           (v .before .before .before .if2 .left) (v .before .if3 .left) (vertices v) (c .if4 .left)
           (floor-lawful (floorOf (s .args .w) (s .args .h) (s .args .map .now)) (s .args .rows)
           (listed-lawful (s .pre .job .listed)))
           (s .pre .job .start) (s .pre .job .end) (omega
-          (arith, first v .before .before .before .before .shared-slice-known4 .given (s .args .b)))),
+          (arith, first v .before .before .before .before .shared-slice-known4 .given (s .args .b .0)))),
     )
 
 returns-5 : tie.Need-returns-5
 returns-5 c =
     let v = c .before .before in
     let s = start (first v) in
-    route-points (graph s) (s .args .a) (s .args .b) (sheet s) (near (first v)) (v .before .before .before .if2 .left)
-    (v .before .if3 .left)
+    route-points (graph s) (s .args .a .0) (s .args .b .0) (sheet s) (near (first v))
+    (v .before .before .before .if2 .left) (v .before .if3 .left)
     (vertices v) (c .before .if4 .left) (c .route-right .ensures)
 
 pub is-route-spec : {M : Type 1} → statement M

@@ -1,40 +1,25 @@
--- `moves::classes_of` meets its contract: the costs of the first two moves say which classes there are.
--- Assumes nothing.
-use mathlib.Core.Path.{_≡_, ap}
+-- `moves::classes_of` meets its contract: each class is that of one of the first three moves. Assumes nothing.
 use native.Mathlib.Omega.{arith}
-use Rattle.moves.specs.declared.Move.{Move}
-use Rattle.moves.specs.Moves.{moveAt}
 use Rattle.moves.proofs.Table.{listed-lawful}
-use Rattle.moves.proofs.Classes.{two-moves, one-class, two-classes}
+use Rattle.moves.proofs.Classes.{three-moves, three-classes}
 use Rattle.moves.proofs.classes_of.Statement.{statement}
 use Rattle.moves.proofs.classes_of.Tie as tie
 
-move-at-requires : tie.Need-move-at-requires
-move-at-requires c κs = (listed-lawful (c .pre), omega (arith, two-moves (c .pre)))
+class-of-requires : tie.Need-class-of-requires
+class-of-requires c κs = (listed-lawful (c .pre), omega (arith, three-moves (c .pre)))
 
-move-at-requires-2 : tie.Need-move-at-requires-2
-move-at-requires-2 c κs = (listed-lawful (c .before .pre), omega (arith, two-moves (c .before .pre)))
+class-of-requires-2 : tie.Need-class-of-requires-2
+class-of-requires-2 c κs = let s = c .before in (listed-lawful (s .pre), omega (arith, three-moves (s .pre)))
 
--- The costs of the first two moves.
-even : (c : tie.After-move-at2) → c .before .move-at .result .cost ≡ moveAt (c .before .before .args .rows) 0 .cost
-even c = ap (λ (m : Move). m .cost) (c .before .move-at .ensures)
-
-odd : (c : tie.After-move-at2) → c .move-at2 .result .cost ≡ moveAt (c .before .before .args .rows) 1 .cost
-odd c = ap (λ (m : Move). m .cost) (c .move-at2 .ensures)
+class-of-requires-3 : tie.Need-class-of-requires-3
+class-of-requires-3 c κs =
+    let s = c .before .before .before .before in (listed-lawful (s .pre), omega (arith, three-moves (s .pre)))
 
 returns : tie.Need-returns
 returns c =
-    let t = c .before in
-    let s = t .before .before in
-    one-class (s .args .rows) (s .pre) (t .before .move-at .result .cost) (t .move-at2 .result .cost) (even t) (odd t)
-    (c .if1 .taken)
-
-returns-2 : tie.Need-returns-2
-returns-2 c =
-    let t = c .before in
-    let s = t .before .before in
-    two-classes (s .args .rows) (s .pre) (t .before .move-at .result .cost) (t .move-at2 .result .cost) (even t) (odd t)
-    (c .if1 .left)
+    let b = c .before .before .before in
+    let a = b .before in
+    three-classes (a .before .pre) _ _ _ (a .class-of .ensures) (b .class-of2 .ensures) (c .class-of3 .ensures)
 
 pub classes-of-spec : {M : Type 1} → statement M
-classes-of-spec = tie.close (tie.spec move-at-requires move-at-requires-2 returns returns-2)
+classes-of-spec = tie.close (tie.spec class-of-requires class-of-requires-2 class-of-requires-3 returns)

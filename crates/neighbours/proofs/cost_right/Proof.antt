@@ -157,19 +157,25 @@ loop-again-3 c =
     let l = turn-of k in
     scan-tight (k .before .w .given .0 .0 .0) (l .before .loop .inv) (turn l) (goes k) (omega arith) (omega arith)
 
+mul-if3 : tie.Need-mul-if3 Inv-loop μ-loop
+mul-if3 c = search needs
+
+shared-slice-read-if3 : tie.Need-shared-slice-read-if3 Inv-loop μ-loop
+shared-slice-read-if3 c = search needs
+
 returns-2 : tie.Need-returns-2 Inv-loop μ-loop
 returns-2 c =
-    let l = c .before .before in
+    let l = c .before .before .before in
     scan-unreached (entered l .args .source) (l .loop .inv) (omega arith) (omega arith) (omega arith)
 
 returns-3 : tie.Need-returns-3 Inv-loop μ-loop
 returns-3 c =
-    let l = c .before .before .before in
+    let l = c .before .before .before .before in
     scan-source (entered l .args .source) (l .loop .inv) (omega arith) (omega arith) (c .if4 .taken)
 
 returns-4 : tie.Need-returns-4 Inv-loop μ-loop
 returns-4 c =
-    let l = c .before .before .before in
+    let l = c .before .before .before .before in
     scan-end (entered l .args .source) (l .loop .inv) (omega arith) (omega arith)
     (λ e. omega arith) (c .if4 .left)
 
@@ -206,6 +212,8 @@ cost-right-spec =
     add-m-3
     loop-less-3
     loop-again-3
+    mul-if3
+    shared-slice-read-if3
     returns-2
     returns-3
     returns-4)

@@ -30,7 +30,7 @@ abbrev table : tie.Start → Reach
 table s = let a = s .args in tableOf (a .count) (a .row .now) (a .up .now) (a .down .now) (a .cost .now)
 
 abbrev Ready : tie.Start → Rows → Type 0
-Ready s q = Routing (s .args .w) (s .args .h) (s .args .map .now) q (table s) (s .args .b) (sheet s)
+Ready s q = Routing (s .args .w) (s .args .h) (s .args .map .now) q (table s) (s .args .b .0) (sheet s)
 
 abbrev graph : tie.Start → Rows → Graph
 graph s q = floorGraph (floorOf (s .args .w) (s .args .h) (s .args .map .now)) q
@@ -38,12 +38,19 @@ graph s q = floorGraph (floorOf (s .args .w) (s .args .h) (s .args .map .now)) q
 abbrev start : tie.After-point → tie.Start
 start c = c .before .before .before .before .before .before .before .before .before .before .before .before
 
+-- the tests passed before: the place is one of the route's, and the point stands on the floor
+abbrev placed : tie.Else2 → tie.Else1
+placed c = c .before .before
+
+abbrev inside : tie.Else3 → tie.Else2
+inside c = c .before .before .before
+
 -- the point, where its next vertex is asked for
 abbrev asked : tie.After-open-moves → tie.After-point
-asked c = c .before .before .before .before .before .before .before
+asked c = placed (inside (c .before .before .before .before)) .before
 
 faces : (c : tie.After-open-moves) (q : Rows) → Ready (start (asked c)) q
-    → Faces (graph (start (asked c)) q) (table (start (asked c))) (c .open-moves .result) (asked c .point .result)
+    → Faces (graph (start (asked c)) q) (table (start (asked c))) (c .open-moves .result) (asked c .point .result .0)
 faces c q p =
     vertex-faces (p .posed .job .floor) (p .posed .job .listed) (p .built) (routing-in p (omega arith))
     (rw (c .before .before .column-of .ensures .0, c .before .row-of .ensures .0) at (c .open-moves .ensures))
@@ -51,7 +58,7 @@ faces c q p =
 -- the next vertex, as the test asks for it
 next : (c : tie.After-next-at) (q : Rows) → Ready (start (asked (c .before))) q
     → let s = start (asked (c .before)) in
-    c .next-at .result ≡ stepOf (localNext (graph s q) (s .args .b) (sheet s) (asked (c .before) .point .result))
+    c .next-at .result ≡ stepOf (localNext (graph s q) (s .args .b .0) (sheet s) (asked (c .before) .point .result .0))
 next c q p = c .next-at .ensures ∙ ap stepOf (next-local p (faces (c .before) q p))
 
 mul-point : tie.Need-mul-point
@@ -65,17 +72,17 @@ point-requires c κs = search needs
 
 returns : tie.Need-returns
 returns c =
-    let k = c .before in
+    let k = c .before .before in
     let s = start k in
-    λ q p. point-past (graph s q) (s .args .b) (sheet s) (s .args .i) (k .point .result) (k .point .ensures)
-    (c .if1 .taken)
+    λ q p. point-past (graph s q) (s .args .b .0) (sheet s) (s .args .i) (k .point .result .0) (k .point .ensures)
+    (c .before .if1 .taken)
 
 returns-2 : tie.Need-returns-2
 returns-2 c =
-    let k = c .before .before in
+    let k = c .before .before .before in
     let s = start k in
-    λ q p. point-outside (graph s q) (s .args .b) (sheet s) (s .args .i) (k .point .result) (k .point .ensures)
-    (c .before .if1 .left)
+    λ q p. point-outside (graph s q) (s .args .b .0) (sheet s) (s .args .i) (k .point .result .0) (k .point .ensures)
+    (c .before .before .if1 .left)
     (omega (arith, p .posed .shape .d))
 
 add-result : tie.Need-add-result
@@ -83,21 +90,23 @@ add-result c = search needs
 
 returns-3 : tie.Need-returns-3
 returns-3 c =
-    let k = c .before .before .before in
+    let o = c .before .before .before in
+    let k = placed o .before in
     let s = start k in
-    λ q p. point-end (graph s q) (s .args .b) (sheet s) (s .args .i) (k .point .result) (k .point .ensures)
-    (c .before .before .if1 .left)
-    (routing-in p (c .before .if2 .left)) (c .if3 .taken)
+    λ q p. point-end (graph s q) (s .args .b .0) (sheet s) (s .args .i) (k .point .result .0) (k .point .ensures)
+    (placed o .if1 .left)
+    (routing-in p (o .if2 .left)) (c .if3 .taken)
 
 add-if4 : tie.Need-add-if4
 add-if4 c = search needs
 
 returns-4 : tie.Need-returns-4
 returns-4 c =
-    let k = c .before .before .before .before in
+    let o = inside (c .before) in
+    let k = placed o .before in
     let s = start k in
-    λ q p. point-short (graph s q) (s .args .b) (sheet s) (s .args .i) (k .point .result) (k .point .ensures)
-    (c .before .before .before .if1 .left) (routing-in p (c .before .before .if2 .left)) (c .before .if3 .left)
+    λ q p. point-short (graph s q) (s .args .b .0) (sheet s) (s .args .i) (k .point .result .0) (k .point .ensures)
+    (placed o .if1 .left) (routing-in p (o .if2 .left)) (c .before .if3 .left)
     (c .if4 .taken)
 
 column-of-requires : tie.Need-column-of-requires
@@ -125,8 +134,9 @@ returns-5 c =
     let k = asked (n .before) in
     let s = start k in
     let i = n .before .before .before .before in
-    λ q p. point-stuck (graph s q) (s .args .b) (sheet s) (s .args .i) (k .point .result) (k .point .ensures)
-    (i .before .before .before .if1 .left) (routing-in p (i .before .before .if2 .left)) (i .before .if3 .left)
+    let o = inside (i .before) in
+    λ q p. point-stuck (graph s q) (s .args .b .0) (sheet s) (s .args .i) (k .point .result .0) (k .point .ensures)
+    (placed o .if1 .left) (routing-in p (o .if2 .left)) (i .before .if3 .left)
     (i .if4 .left)
     (stepOf-off _ (sym (next n q p) ∙ c .enum-told .given .1))
 
@@ -150,15 +160,17 @@ point-requires-2 c κs = search needs
 
 returns-6 : tie.Need-returns-6
 returns-6 c =
-    let n = c .before .before .before .before .before .before in
+    let n = c .before .before .before .before .before .before .before in
     let k = asked (n .before) in
     let s = start k in
     let i = n .before .before .before .before in
-    let u = c .before .before .before .before .u .given in
-    λ q p. point-next (graph s q) (s .args .b) (sheet s) (s .args .i) (k .point .result) (k .point .ensures)
-    (i .before .before .before .if1 .left) (routing-in p (i .before .before .if2 .left)) (i .before .if3 .left)
+    let o = inside (i .before) in
+    let u = c .before .before .before .before .before .u .given in
+    λ q p. point-next (graph s q) (s .args .b .0) (sheet s) (s .args .i) (k .point .result .0) (k .point .ensures)
+    (placed o .if1 .left) (routing-in p (o .if2 .left)) (i .before .if3 .left)
     (i .if4 .left)
-    (u .0 .0 .0) (c .before .point2 .result) (stepOf-to _ _ (sym (next n q p) ∙ u .1)) (c .before .point2 .ensures)
+    (u .0 .0 .0) (c .before .before .point2 .result .0) (stepOf-to _ _ (sym (next n q p) ∙ u .1))
+    (c .before .before .point2 .ensures)
 
 pub point-right-spec : {M : Type 1} → statement M
 point-right-spec =

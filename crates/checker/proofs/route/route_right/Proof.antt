@@ -18,11 +18,11 @@ use Rattle.checker.proofs.route.route_right.Statement.{statement}
 use Rattle.checker.proofs.route.route_right.Tie as tie
 
 abbrev Inv-loop : tie.InvT-loop
-Inv-loop w h map a b d e f back route n count row up down cost i₀ i-end i =
-    PointScan w h map (tableOf count row up down cost) b (sheetOf d e f back route n) i
+Inv-loop w h map b d e f back route n count row up down cost i₀ i-end i =
+    PointScan w h map (tableOf count row up down cost) (b .0) (sheetOf d e f back route n) i
 
 abbrev μ-loop : tie.MeasureT-loop
-μ-loop w h map a b d e f back route n count row up down cost i₀ i-end i = length route - i
+μ-loop w h map b d e f back route n count row up down cost i₀ i-end i = length route - i
 
 abbrev sheet : tie.Start Inv-loop μ-loop → Sheet
 sheet s = sheetOf (s .args .d .now) (s .args .e .now) (s .args .f .now) (s .args .back .now) (s .args .route .now)
@@ -38,12 +38,16 @@ start c = c .before .before .before .before .before .before .before
 abbrev begun : tie.After-point Inv-loop μ-loop → tie.Else1 Inv-loop μ-loop
 begun c = c .before .before .before
 
+-- the first point of the route
+abbrev pointed : tie.After-reach-of Inv-loop μ-loop → tie.After-point Inv-loop μ-loop
+pointed c = c .before .before .before .before
+
 routing : (c : tie.After-reach-of Inv-loop μ-loop)
-    → let s = start (begun (c .before .before)) in
-    Routing (s .args .w) (s .args .h) (s .args .map .now) (s .args .rows) (c .reach-of .result) (s .args .b)
+    → let s = start (begun (pointed c)) in
+    Routing (s .args .w) (s .args .h) (s .args .map .now) (s .args .rows) (c .reach-of .result) (s .args .b .0)
     (sheet s)
 routing c =
-    let p = c .before .before in
+    let p = pointed c in
     let s = start (begun p) in
     routing-of (s .pre .0) (c .reach-of .ensures) (s .pre .1) (omega arith)
 
@@ -55,20 +59,21 @@ abbrev turn-of : tie.After-point-right Inv-loop μ-loop → tie.In-loop Inv-loop
 turn-of c = c .before .before .before .before .before
 
 turn : (c : tie.In-loop Inv-loop μ-loop)
-    → let s = start (begun (built (c .before) .before .before)) in
+    → let s = start (begun (pointed (built (c .before)))) in
     c .before .loop .i < vertices (s .args .w) (s .args .h)
 turn c =
-    let s = start (begun (built (c .before) .before .before)) in omega (arith, s .pre .0 .shape .route)
+    let s = start (begun (pointed (built (c .before)))) in omega (arith, s .pre .0 .shape .route)
 
 returns : tie.Need-returns Inv-loop μ-loop
 returns c =
     let s = c .before .before .before .before .before .before .before in
-    points-none (graph s) (s .args .a) (s .args .b) (sheet s) (c .if1 .taken)
+    points-none (graph s) (s .args .a .0) (s .args .b .0) (sheet s) (c .if1 .taken)
 
 returns-2 : tie.Need-returns-2 Inv-loop μ-loop
 returns-2 c =
     let s = start (c .before) in
-    points-many (graph s) (s .args .a) (s .args .b) (sheet s) (omega arith) (omega (arith, s .pre .0 .shape .route))
+    points-many (graph s) (s .args .a .0) (s .args .b .0) (sheet s) (omega arith)
+    (omega (arith, s .pre .0 .shape .route))
 
 shared-slice-read-point : tie.Need-shared-slice-read-point Inv-loop μ-loop
 shared-slice-read-point c = omega arith
@@ -78,14 +83,14 @@ point-requires c κs = search needs
 
 returns-3 : tie.Need-returns-3 Inv-loop μ-loop
 returns-3 c =
-    let p = c .before in
+    let p = c .before .before .before in
     let s = start (begun p) in
-    points-elsewhere (graph s) (s .args .a) (s .args .b) (sheet s) (omega arith)
+    points-elsewhere (graph s) (s .args .a .0) (s .args .b .0) (sheet s) (omega arith)
     (omega (arith, s .pre .0 .shape .route))
     (λ e. c .if3 .taken (p .point .ensures ∙ e))
 
 reach-of-requires : tie.Need-reach-of-requires Inv-loop μ-loop
-reach-of-requires c κs = let j = start (begun (c .before)) .pre .0 .job in (j .floor .wide, j .listed)
+reach-of-requires c κs = let j = start (begun (c .before .before .before)) .pre .0 .job in (j .floor .wide, j .listed)
 
 loop-holds : tie.Need-loop-holds Inv-loop μ-loop
 loop-holds c = points-start
@@ -105,16 +110,17 @@ slice-aggregate-point-right-4 c = search needs
 point-right-requires : tie.Need-point-right-requires Inv-loop μ-loop
 point-right-requires c κs =
     let r = built (c .before .before .before .before .before) in
-    let s = start (begun (r .before .before)) in
+    let s = start (begun (pointed r)) in
     ((s .args .rows, routing r), omega arith)
 
 returns-4 : tie.Need-returns-4 Inv-loop μ-loop
 returns-4 c =
     let l = turn-of (c .before) in
     let r = built (l .before) in
-    let p = r .before .before in
+    let p = pointed r in
     let s = start (begun p) in
-    points-all (graph s) (s .args .a) (s .args .b) (sheet s) (omega arith) (omega (arith, s .pre .0 .shape .route))
+    points-all (graph s) (s .args .a .0) (s .args .b .0) (sheet s) (omega arith)
+    (omega (arith, s .pre .0 .shape .route))
     (sym (p .point .ensures) ∙ r .before .if3 .left) false
     (points-stop (l .before .loop .inv) (turn l) (c .before .point-right .result) (c .before .point-right .ensures)
     (routing r) (c .if4 .taken))
@@ -122,7 +128,7 @@ returns-4 c =
 add-i : tie.Need-add-i Inv-loop μ-loop
 add-i c =
     let l = turn-of (c .before) in
-    let j = start (begun (built (l .before) .before .before)) .pre .0 .job .floor in
+    let j = start (begun (pointed (built (l .before)))) .pre .0 .job .floor in
     omega (arith, turn l, vertices-le (j .wide) (j .high))
 
 loop-less : tie.Need-loop-less Inv-loop μ-loop
@@ -138,9 +144,10 @@ returns-5 : tie.Need-returns-5 Inv-loop μ-loop
 returns-5 c =
     let l = c .before in
     let r = built l in
-    let p = r .before .before in
+    let p = pointed r in
     let s = start (begun p) in
-    points-all (graph s) (s .args .a) (s .args .b) (sheet s) (omega arith) (omega (arith, s .pre .0 .shape .route))
+    points-all (graph s) (s .args .a .0) (s .args .b .0) (sheet s) (omega arith)
+    (omega (arith, s .pre .0 .shape .route))
     (sym (p .point .ensures) ∙ r .before .if3 .left) true
     (points-done (l .loop .inv) (omega (arith, s .pre .0 .shape .route)) (routing r))
 

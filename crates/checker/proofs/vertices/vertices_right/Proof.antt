@@ -17,11 +17,11 @@ use Rattle.checker.proofs.vertices.vertices_right.Statement.{statement}
 use Rattle.checker.proofs.vertices.vertices_right.Tie as tie
 
 abbrev Inv-loop : tie.InvT-loop
-Inv-loop w h map joined a b d e f back route count row up down cost x₀ y₀ nw₀ sw₀ v₀ v-end x y nw sw v =
+Inv-loop w h map joined d e f back route a b count row up down cost x₀ y₀ nw₀ sw₀ v₀ v-end x y nw sw v =
     VertexScan w h map joined a b (sheetOf d e f back route 0) (tableOf count row up down cost) x y v nw sw
 
 abbrev μ-loop : tie.MeasureT-loop
-μ-loop w h map joined a b d e f back route count row up down cost x₀ y₀ nw₀ sw₀ v₀ v-end x y nw sw v = length d - v
+μ-loop w h map joined d e f back route a b count row up down cost x₀ y₀ nw₀ sw₀ v₀ v-end x y nw sw v = length d - v
 
 abbrev built : tie.At-loop Inv-loop μ-loop → tie.After-reach-of Inv-loop μ-loop
 built l = l .before .before .before .before .before

@@ -12,33 +12,31 @@ use Rattle.moves.specs.declared.Class.{Class}
 use Rattle.moves.specs.Classes.{classAt}
 use Rattle.paths.specs.Graph.{Graph}
 use Rattle.paths.specs.Distance.{unreachable}
-use Rattle.distances.specs.Order.{Masked}
-use Rattle.neighbours.specs.declared.Reach.{Reach}
-use Rattle.distances.specs.Merge.{tableOf, Merging, remaining}
-use Rattle.distances.proofs.Turn.{keyed, masked-same, Keys, Least, least-of, Turn, turn, filled}
+use Rattle.distances.specs.Merge.{RowSteps, Merging, remaining}
+use Rattle.distances.proofs.Turn.{keyed, steps-same, Keys, Least, least-of, Turn, turn, filled}
 use Rattle.distances.proofs.Start.{merging-start, start-rest, three-first, three-classes}
 use Rattle.distances.proofs.merge.settle.Statement.{statement}
 use Rattle.distances.proofs.merge.settle.Tie as tie
 
 abbrev Inv-loop : tie.InvT-loop
-Inv-loop w h map rows row up down a d₀ work₀ c0 c1 c2 n₀ p0₀ p1₀ p2₀ d work n p0 p1 p2 =
-    Merging (floorGraph (floorOf w h map) rows) a n (c0 ∷ c1 ∷ c2 ∷ []) (p0 ∷ p1 ∷ p2 ∷ []) d work₀ work
+Inv-loop w h map rows up down a d₀ work₀ c0 c1 c2 n₀ p0₀ p1₀ p2₀ d work n p0 p1 p2 =
+    Merging (floorGraph (floorOf w h map) rows) rows a n (c0 ∷ c1 ∷ c2 ∷ []) (p0 ∷ p1 ∷ p2 ∷ []) d work₀ work
 
 abbrev μ-loop : tie.MeasureT-loop
-μ-loop w h map rows row up down a d₀ work₀ c0 c1 c2 n₀ p0₀ p1₀ p2₀ d work n p0 p1 p2 =
+μ-loop w h map rows up down a d₀ work₀ c0 c1 c2 n₀ p0₀ p1₀ p2₀ d work n p0 p1 p2 =
     remaining (floorGraph (floorOf w h map) rows .size) (p0 ∷ p1 ∷ p2 ∷ [])
 
 abbrev graph : tie.Start Inv-loop μ-loop → Graph
 graph s = floorGraph (floorOf (s .args .w) (s .args .h) (s .args .map .now)) (s .args .rows)
 
 abbrev class : tie.Start Inv-loop μ-loop → ℕ → Class
-class s k = classAt (s .args .t8) k
+class s k = classAt (s .args .t7) k
 
 abbrev classes : tie.Start Inv-loop μ-loop → List Class
 classes s = class s 0 ∷ class s 1 ∷ class s 2 ∷ []
 
 abbrev start : tie.After-slice-known3 Inv-loop μ-loop → tie.Start Inv-loop μ-loop
-start c = c .before .before .before .before .before .before .before .before .before .before
+start c = c .before .before .before .before .before .before .before .before .before
 
 abbrev from : tie.At-loop Inv-loop μ-loop → tie.Start Inv-loop μ-loop
 from c = start (c .before .before .before .before .before .before .before)
@@ -71,23 +69,25 @@ abbrev Chosen : tie.After-lowest Inv-loop μ-loop → ℕ → ℕ → Type 0
 Chosen c k key =
     let l = top c in Least (l .loop .n) k key (classes (from l)) (positions l) (l .loop .d) (l .loop .work)
 
-abbrev table : tie.Start Inv-loop μ-loop → Reach
-table s = tableOf (graph s .moves) (s .args .row .now) (s .args .up .now) (s .args .down .now)
-
-masked : (s : tie.Start Inv-loop μ-loop) → Masked (graph s) (table s) (set (s .args .work .now) 0 (s .args .a))
-masked s =
-    masked-same (s .pre .masked)
+steps : (s : tie.Start Inv-loop μ-loop)
+    → RowSteps (graph s) (s .args .rows) (s .args .up .now) (s .args .down .now)
+    (set (s .args .work .now) 0 (s .args .a))
+steps s =
+    steps-same (s .pre .steps)
     (start-rest (graph s) (s .args .a) (s .args .work .now) (s .pre .few) (s .pre .source) (s .pre .work-len))
 
 abbrev TurnOf : tie.After-lowest Inv-loop μ-loop → ℕ → ℕ → Type 0
 TurnOf c k key =
     let l = top c in
     let s = from l in
-    Turn (graph s) (s .args .row .now) (s .args .up .now) (s .args .down .now) (s .args .a) (l .loop .n) k key
-    (classes s) (positions l) (l .loop .d) (set (s .args .work .now) 0 (s .args .a)) (l .loop .work)
+    Turn (graph s) (s .args .rows) (s .args .up .now) (s .args .down .now) (s .args .a) (l .loop .n) k key (classes s)
+    (positions l) (l .loop .d) (set (s .args .work .now) 0 (s .args .a)) (l .loop .work)
 
 turn-of : (c : tie.After-lowest Inv-loop μ-loop) (k key : ℕ) → Chosen c k key → key < unreachable → TurnOf c k key
-turn-of c k key T low = let l = top c in turn (l .loop .inv) T low (from l .pre .table) (masked (from l)) refl
+turn-of c k key T low =
+    let l = top c in
+    let s = from l in
+    turn (l .loop .inv) T low (s .pre .lawful) (s .pre .table) (steps s) refl
 
 turn-0 : (c : tie.Then2 Inv-loop μ-loop) → TurnOf (c .before .before) 0 (key-0 (c .before .before))
 turn-0 c =
@@ -147,10 +147,10 @@ loop-holds : tie.Need-loop-holds Inv-loop μ-loop
 loop-holds c =
     let b = c .before .before .before .before .before .before in
     let s = start b in
-    merging-start (graph s) (s .args .a) (s .args .work .now) (s .pre .few) (s .pre .source) (s .pre .work-len) _ _ _
+    merging-start (graph s) (s .args .a) (s .args .work .now) (s .pre .few) (s .pre .source) (s .pre .work-len) _ _ _ _
     (b .before .before .fill-u32 .ensures ∙ ap (λ (v : ℕ). replicate v unreachable) (s .pre .d-len))
     (three-classes (s .pre .classes))
-    (three-first (class s 0) (class s 1) (class s 2) (s .args .rows .count) _ _ _
+    (three-first (class s 0) (class s 1) (class s 2) _ _ _
     (c .before .before .first-place .ensures) (c .before .first-place2 .ensures) (c .first-place3 .ensures))
 
 key-at-requires : tie.Need-key-at-requires Inv-loop μ-loop
