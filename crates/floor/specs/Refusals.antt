@@ -1,4 +1,5 @@
--- Document 01, "Answers by number": each refusal's number, and the refusals over the shape of a floor and of an end.
+-- Document 01, "Answers by number", and request 1 of document 02 for 12 to 14: each refusal's number, and the refusals
+-- over the shape of a floor and of an end. No refusal here has the number 11.
 --
 --   refusalNumber r    == the number of refusal r
 --   floorShape w h l   == refusals 1 to 3 of a floor, in order
@@ -23,6 +24,9 @@ use Rattle.floor.specs.declared.Refusal.the-variants.{
   TooMany,
   FalseSheet,
   NotJoined,
+  ClosureBounds,
+  SlotsFull,
+  SlotEmpty,
 }
 use Rattle.floor.specs.declared.Shape.{Shape}
 use Rattle.floor.specs.declared.Shape.the-variants.{Good, Refused}
@@ -38,6 +42,9 @@ refusalNumber NoRoute = 7
 refusalNumber TooMany = 8
 refusalNumber FalseSheet = 9
 refusalNumber NotJoined = 10
+refusalNumber ClosureBounds = 12
+refusalNumber SlotsFull = 13
+refusalNumber SlotEmpty = 14
 
 abbrev pub andThen : Shape → Shape → Shape
 andThen Good t = t

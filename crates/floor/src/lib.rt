@@ -14,7 +14,7 @@ pub struct Cell(pub usize);
 // The number of a vertex, a cell corner: column + row * (W + 1).
 pub struct Vertex(pub usize);
 
-// Every refusal of document 01, in the order of its numbers.
+// Every refusal of the papers, in the order of its numbers. No refusal here has the number 11.
 pub enum Refusal {
     Size,
     MapLength,
@@ -26,6 +26,9 @@ pub enum Refusal {
     TooMany,
     FalseSheet,
     NotJoined,
+    ClosureBounds,
+    SlotsFull,
+    SlotEmpty,
 }
 
 // What a test of an input's shape finds.
@@ -34,7 +37,7 @@ pub enum Shape {
     Refused(Refusal),
 }
 
-// Document 01's number of a refusal.
+// The papers' number of a refusal.
 pub fn refusal_number(r: Refusal) -> u8
     ensures { λ n. ⌜ n ≡ refusalNumber r ⌝ }
 {
@@ -49,6 +52,9 @@ pub fn refusal_number(r: Refusal) -> u8
         Refusal::TooMany => 8,
         Refusal::FalseSheet => 9,
         Refusal::NotJoined => 10,
+        Refusal::ClosureBounds => 12,
+        Refusal::SlotsFull => 13,
+        Refusal::SlotEmpty => 14,
     }
 }
 
@@ -60,7 +66,8 @@ fn cell_before(w: usize, h: usize, map: &[u8], x: usize, y: usize) -> Cell
     Cell((y - 1) * w + (x - 1))
 }
 
-// Whether a cell of the map is blocked: the one place that knows how a map is stored.
+// Whether a cell of the map is blocked. Besides `floor_shape`, which tests length and bytes, this is the one place that
+// knows how a map is stored.
 fn is_blocked(map: &[u8], c: Cell) -> bool
     requires { ⌜ c .0 < length (now map) ⌝ }
     ensures { λ r. ⌜ r ≡ not (eqb (getD (now (map .entry)) (c .0) 0) 0) ⌝ }

@@ -1,0 +1,67 @@
+-- What an operation answers and leaves, from the shape that its code found.
+use Prim.Native.Nat.{ℕ}
+use mathlib.Core.Path.{_≡_, sym, ap, _∙_}
+use mathlib.Core.List.{List}
+use lib.ListN.{length}
+use Rattle.floor.specs.declared.Refusal.{Refusal}
+use Rattle.floor.specs.declared.Shape.the-variants.{Good, Refused}
+use Rattle.floor.proofs.Shapes.{good-floor}
+use Rattle.closures.specs.Plain.{lowestFree, leftBy, postShape, postingOf, strikeShape, strikingOf, workShape, workingMap, writingOf}
+use Rattle.closures.specs.Table.{held, withSlot, Posts, Strikes, Writes}
+use Rattle.closures.specs.Known.{Lent}
+use Rattle.closures.proofs.Shapes.{good-work}
+use Rattle.closures.specs.declared.Rectangle.{Rectangle}
+use Rattle.closures.specs.declared.Hold.the-variants.{Free, Held}
+use Rattle.closures.specs.declared.Closures.{Closures}
+use Rattle.closures.specs.declared.Posting.the-variants.{In, Unposted}
+use Rattle.closures.specs.declared.Striking.the-variants.{Struck, Unstruck}
+use Rattle.closures.specs.declared.Writing.the-variants.{Written, Unwritten}
+
+module _ (t : Closures) (r : Rectangle) where
+  pub posts-refused : {x : Refusal} → postShape (t .width) (t .height) (held t) r ≡ Refused x
+      → Posts t r (Unposted x) t
+  posts-refused e = record {
+    answers = sym (ap (λ s. postingOf s (lowestFree (held t))) e);
+    leaves = sym (ap (λ s. leftBy s (withSlot t (lowestFree (held t)) (Held r)) t) e);
+  }
+
+  pub posts-in : (k : ℕ) (left : Closures) → postShape (t .width) (t .height) (held t) r ≡ Good
+      → k ≡ lowestFree (held t) → left ≡ withSlot t k (Held r) → Posts t r (In k) left
+  posts-in k left e q l = record {
+    answers = ap In q ∙ sym (ap (λ s. postingOf s (lowestFree (held t))) e);
+    leaves =
+        l ∙ ap (λ i. withSlot t i (Held r)) q
+        ∙ sym (ap (λ s. leftBy s (withSlot t (lowestFree (held t)) (Held r)) t) e);
+  }
+
+module _ (t : Closures) (k : ℕ) where
+  pub strikes-refused : {x : Refusal} → strikeShape (t .width) (t .height) (held t) k ≡ Refused x
+      → Strikes t k (Unstruck x) t
+  strikes-refused e =
+      record { answers = sym (ap strikingOf e); leaves = sym (ap (λ s. leftBy s (withSlot t k Free) t) e) }
+
+  pub strikes-free : (left : Closures) → strikeShape (t .width) (t .height) (held t) k ≡ Good
+      → left ≡ withSlot t k Free → Strikes t k Struck left
+  strikes-free left e l =
+      record { answers = sym (ap strikingOf e); leaves = l ∙ sym (ap (λ s. leftBy s (withSlot t k Free) t) e) }
+
+module _ (t : Closures) (base work : List ℕ) where
+  pub writes-refused : {x : Refusal} → workShape (t .width) (t .height) base (length work) ≡ Refused x
+      → Writes t base work (Unwritten x) work
+  writes-refused e = record {
+    answers = sym (ap writingOf e);
+    leaves = sym (ap (λ s. leftBy s (workingMap (t .width) (t .height) base (held t)) work) e);
+  }
+
+  pub writes-map : (left : List ℕ) → workShape (t .width) (t .height) base (length work) ≡ Good
+      → left ≡ workingMap (t .width) (t .height) base (held t) → Writes t base work Written left
+  writes-map left e l = record {
+    answers = sym (ap writingOf e);
+    leaves = l ∙ sym (ap (λ s. leftBy s (workingMap (t .width) (t .height) base (held t)) work) e);
+  }
+
+  pub good-lent : workShape (t .width) (t .height) base (length work) ≡ Good → Lent t base work
+  good-lent e =
+      let g = good-work (t .width) (t .height) base (length work) e in
+      let f = good-floor (t .width) (t .height) base (g .0) in
+      record { wide = f .wide-pos; map = f .sized .size; same = g .1 ∙ sym (f .sized .size) }

@@ -1,0 +1,6 @@
+pub mod Shapes
+pub mod Search
+pub mod Marks
+pub mod Answered
+pub mod Simulation
+pub mod Working

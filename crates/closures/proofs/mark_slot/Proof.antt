@@ -1,0 +1,55 @@
+-- `closures::mark_slot` meets its contract: a free slot leaves the map, a rectangle is marked. Assumes nothing.
+use mathlib.Core.Path.{sym, ap, _∙_}
+use lib.ListN.{length}
+use Rattle.basics.specs.Lists.{tabulate}
+use Rattle.closures.specs.Table.{heldIn, held}
+use Rattle.closures.specs.Known.{markedBy}
+use Rattle.closures.proofs.Marks.{unmarked}
+use borrow.Author.Needs.{needs}
+use Rattle.closures.proofs.mark_slot.Statement.{statement}
+use Rattle.closures.proofs.mark_slot.Tie as tie
+
+mul-slot : tie.Need-mul-slot
+mul-slot c = search needs
+
+element-copy-out-slot : tie.Need-element-copy-out-slot
+element-copy-out-slot c = search needs
+
+enum-told : tie.Need-enum-told
+enum-told c = search needs
+
+enum-known-hold : tie.Need-enum-known-hold
+enum-known-hold c = search needs
+
+mark-requires : tie.Need-mark-requires
+mark-requires c κs = search needs
+
+returns : tie.Need-returns
+returns c =
+    let s = c .before .before .before .before in
+    unmarked (held (s .args .t1) (s .args .k)) (s .args .t1 .width) (s .args .work .now)
+    (ap heldIn (c .enum-told .given .1))
+
+same-length : tie.Need-same-length
+same-length c = search needs
+
+returns-2 : tie.Need-returns-2
+returns-2 c =
+    let s = c .before .before .before .before .before .before .before .before .before in
+    let l = s .args .work .now in
+    c .before .before .mark .ensures
+    ∙ ap (λ x. tabulate (length l) (markedBy (heldIn x) (s .args .t1 .width) l))
+    (sym (c .before .before .before .before .before .hold .given .1))
+
+pub mark-slot-spec : {M : Type 1} → statement M
+mark-slot-spec =
+    tie.close
+    (tie.spec
+    mul-slot
+    element-copy-out-slot
+    enum-told
+    enum-known-hold
+    mark-requires
+    returns
+    same-length
+    returns-2)

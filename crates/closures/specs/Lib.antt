@@ -1,0 +1,4 @@
+pub mod Plain
+pub mod Table
+pub mod Calls
+pub mod Known

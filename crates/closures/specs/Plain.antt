@@ -1,0 +1,147 @@
+-- Request 1, "Closures with a slot each": what the table is, as a plain map from slot to rectangle, and what post,
+-- strike and the writing of the working map do to it and answer.
+--
+--   Plain                  == a plain map from slot number to rectangle; a slot with none is free
+--   nothingHeld            == the empty map: every slot is free
+--   isFree s               == a slot that holds s is free
+--   freeIn m k             == slot k is free in m
+--   lowestFree m           == the lowest free slot of the sixteen; 16 where none is free
+--   changed m k s          == the map m, with s at slot k
+--   within w h r           == rectangle r is not empty and does not leave a floor of width w and height h
+--   leftBy s x y           == what the shape s leaves: x where it is good, y at a refusal
+--   sidesShape w h         == refusal 1
+--   postShape w h m r      == refusals 1, 12 and 13 of posting r, in order
+--   postingOf, strikingOf, writingOf == the answer for a shape
+--   postAnswer, postMap    == what post answers, and the map afterwards; at a refusal the same map
+--   strikeShape w h m k    == refusals 1 and 14 of striking slot k, in order
+--   strikeAnswer, strikeMap == what strike answers, and the map afterwards; at a refusal the same map
+--   covers r i j           == the cell in column i and row j lies in rectangle r
+--   coveredBy s i j        == a slot that holds s covers that cell
+--   closedBy m i j         == some closure that m holds covers that cell
+--   workShape w h base n   == refusals 1, 2, 3 and then 6 of writing the working map into a slice of n places
+--   workingMap w h base m  == 1 where a closure that m holds covers the cell, else the byte of the base map
+--   workAnswer, workLeft   == what the writing answers, and the slice afterwards; at a refusal the same slice
+--   postNumber, postSlot, strikeNumber, workNumber == the papers' number of an answer; the slot that post answers
+use Prim.Native.Nat.{ℕ, _+_, _*_, _/_, _%_}
+use mathlib.Core.Bool.{Bool, true, false, _&&_, not}
+use mathlib.Core.List.{List}
+use mathlib.Core.Option.{Option, none, some}
+use lib.Dec.{leb, ltb, eqb}
+use lib.ListN.{length, getD}
+use Rattle.basics.specs.Bounded.{pick, any, seek}
+use Rattle.basics.specs.Lists.{tabulate}
+use Rattle.floor.specs.Refusals.{refusalNumber, side, floorShape, andThen}
+use Rattle.floor.specs.declared.Refusal.the-variants.{Size, SliceLength, ClosureBounds, SlotsFull, SlotEmpty}
+use Rattle.floor.specs.declared.Shape.{Shape}
+use Rattle.floor.specs.declared.Shape.the-variants.{Good, Refused}
+use Rattle.closures.specs.declared.Rectangle.{Rectangle}
+use Rattle.closures.specs.declared.Posting.{Posting}
+use Rattle.closures.specs.declared.Posting.the-variants.{In, Unposted}
+use Rattle.closures.specs.declared.Striking.{Striking}
+use Rattle.closures.specs.declared.Striking.the-variants.{Struck, Unstruck}
+use Rattle.closures.specs.declared.Writing.{Writing}
+use Rattle.closures.specs.declared.Writing.the-variants.{Written, Unwritten}
+
+abbrev pub Plain : Type 0
+Plain = ℕ → Option Rectangle
+
+abbrev pub nothingHeld : Plain
+nothingHeld k = none
+
+abbrev pub isFree : Option Rectangle → Bool
+isFree none = true
+isFree (some r) = false
+
+abbrev pub freeIn : Plain → ℕ → Bool
+freeIn m k = isFree (m k)
+
+unfoldable pub lowestFree : Plain → ℕ
+lowestFree m = seek 16 0 (freeIn m)
+
+abbrev pub changed : Plain → ℕ → Option Rectangle → Plain
+changed m k s i = pick (eqb i k) s (m i)
+
+abbrev pub leftBy : {A : Type 0} → Shape → A → A → A
+leftBy Good x y = x
+leftBy (Refused r) x y = y
+
+unfoldable pub sidesShape : ℕ → ℕ → Shape
+sidesShape w h = pick (side w && side h) Good (Refused Size)
+
+-- The sums are of plain numbers, which do not wrap.
+unfoldable pub within : ℕ → ℕ → Rectangle → Bool
+within w h r =
+    (leb 1 (r .columns) && leb 1 (r .rows)) && (leb (r .column + r .columns) w && leb (r .row + r .rows) h)
+
+unfoldable pub postShape : ℕ → ℕ → Plain → Rectangle → Shape
+postShape w h m r =
+    andThen (sidesShape w h)
+    (andThen (pick (within w h r) Good (Refused ClosureBounds)) (pick (ltb (lowestFree m) 16) Good (Refused SlotsFull)))
+
+abbrev pub postingOf : Shape → ℕ → Posting
+postingOf Good k = In k
+postingOf (Refused r) k = Unposted r
+
+abbrev pub postAnswer : ℕ → ℕ → Plain → Rectangle → Posting
+postAnswer w h m r = postingOf (postShape w h m r) (lowestFree m)
+
+abbrev pub postMap : ℕ → ℕ → Plain → Rectangle → Plain
+postMap w h m r = leftBy (postShape w h m r) (changed m (lowestFree m) (some r)) m
+
+unfoldable pub strikeShape : ℕ → ℕ → Plain → ℕ → Shape
+strikeShape w h m k =
+    andThen (sidesShape w h) (pick (ltb k 16 && not (freeIn m k)) Good (Refused SlotEmpty))
+
+abbrev pub strikingOf : Shape → Striking
+strikingOf Good = Struck
+strikingOf (Refused r) = Unstruck r
+
+abbrev pub strikeAnswer : ℕ → ℕ → Plain → ℕ → Striking
+strikeAnswer w h m k = strikingOf (strikeShape w h m k)
+
+abbrev pub strikeMap : ℕ → ℕ → Plain → ℕ → Plain
+strikeMap w h m k = leftBy (strikeShape w h m k) (changed m k none) m
+
+unfoldable pub covers : Rectangle → ℕ → ℕ → Bool
+covers r i j =
+    (leb (r .column) i && ltb i (r .column + r .columns)) && (leb (r .row) j && ltb j (r .row + r .rows))
+
+abbrev pub coveredBy : Option Rectangle → ℕ → ℕ → Bool
+coveredBy none i j = false
+coveredBy (some r) i j = covers r i j
+
+unfoldable pub closedBy : Plain → ℕ → ℕ → Bool
+closedBy m i j = any 16 (λ k. coveredBy (m k) i j)
+
+unfoldable pub workShape : ℕ → ℕ → List ℕ → ℕ → Shape
+workShape w h base n = andThen (floorShape w h base) (pick (eqb n (w * h)) Good (Refused SliceLength))
+
+-- Cell c stands in column c % w and row c / w.
+unfoldable pub workingMap : ℕ → ℕ → List ℕ → Plain → List ℕ
+workingMap w h base m = tabulate (w * h) (λ c. pick (closedBy m (c % w) (c / w)) 1 (getD base c 0))
+
+abbrev pub writingOf : Shape → Writing
+writingOf Good = Written
+writingOf (Refused r) = Unwritten r
+
+abbrev pub workAnswer : ℕ → ℕ → List ℕ → ℕ → Writing
+workAnswer w h base n = writingOf (workShape w h base n)
+
+abbrev pub workLeft : ℕ → ℕ → List ℕ → Plain → List ℕ → List ℕ
+workLeft w h base m work = leftBy (workShape w h base (length work)) (workingMap w h base m) work
+
+abbrev pub postNumber : Posting → ℕ
+postNumber (In k) = 0
+postNumber (Unposted r) = refusalNumber r
+
+abbrev pub postSlot : Posting → ℕ
+postSlot (In k) = k
+postSlot (Unposted r) = 0
+
+abbrev pub strikeNumber : Striking → ℕ
+strikeNumber Struck = 0
+strikeNumber (Unstruck r) = refusalNumber r
+
+abbrev pub workNumber : Writing → ℕ
+workNumber Written = 0
+workNumber (Unwritten r) = refusalNumber r
