@@ -6,7 +6,17 @@ use lib.ListN.{length}
 use Rattle.floor.specs.declared.Refusal.{Refusal}
 use Rattle.floor.specs.declared.Shape.the-variants.{Good, Refused}
 use Rattle.floor.proofs.Shapes.{good-floor}
-use Rattle.closures.specs.Plain.{lowestFree, leftBy, postShape, postingOf, strikeShape, strikingOf, workShape, workingMap, writingOf}
+use Rattle.closures.specs.Plain.{
+  lowestFree,
+  leftBy,
+  postShape,
+  postingOf,
+  strikeShape,
+  strikingOf,
+  workShape,
+  workingMap,
+  writingOf,
+}
 use Rattle.closures.specs.Table.{held, withSlot, Posts, Strikes, Writes}
 use Rattle.closures.specs.Known.{Lent}
 use Rattle.closures.proofs.Shapes.{good-work}

@@ -13,7 +13,17 @@ use Rattle.floor.specs.declared.Refusal.{Refusal}
 use Rattle.floor.specs.declared.Refusal.the-variants.{Size, SliceLength, ClosureBounds, SlotsFull, SlotEmpty}
 use Rattle.floor.specs.declared.Shape.the-variants.{Good, Refused}
 use Rattle.floor.proofs.Shapes.{Bad, then-refused, good-first, good-second}
-use Rattle.closures.specs.Plain.{Plain, freeIn, lowestFree, sidesShape, within, postShape, strikeShape, covers, workShape}
+use Rattle.closures.specs.Plain.{
+  Plain,
+  freeIn,
+  lowestFree,
+  sidesShape,
+  within,
+  postShape,
+  strikeShape,
+  covers,
+  workShape,
+}
 use Rattle.closures.specs.declared.Rectangle.{Rectangle}
 
 pub sides-width : (w h : ℕ) → Bad w → Refused Size ≡ sidesShape w h

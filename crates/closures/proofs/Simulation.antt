@@ -17,7 +17,18 @@ use Rattle.floor.specs.declared.Shape.{Shape}
 use Rattle.floor.specs.declared.Shape.the-variants.{Good, Refused}
 use Rattle.closures.specs.Plain.{Plain, nothingHeld, changed, leftBy, lowestFree, postShape, strikeShape}
 use Rattle.closures.specs.Table.{heldIn, slotOf, held, withSlot, emptyTable}
-use Rattle.closures.specs.Calls.{Call, post, strike, tableLeft, tableAfter, tableAnswers, plainLeft, plainAfter, plainAnswer, plainAnswers}
+use Rattle.closures.specs.Calls.{
+  Call,
+  post,
+  strike,
+  tableLeft,
+  tableAfter,
+  tableAnswers,
+  plainLeft,
+  plainAfter,
+  plainAnswer,
+  plainAnswers,
+}
 use Rattle.closures.proofs.Shapes.{good-post, good-strike}
 use Rattle.closures.specs.declared.Hold.{Hold}
 use Rattle.closures.specs.declared.Hold.the-variants.{Free, Held}

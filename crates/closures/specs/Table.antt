@@ -13,7 +13,17 @@ use mathlib.Core.Path.{_≡_}
 use mathlib.Core.List.{List}
 use mathlib.Core.Option.{Option, none, some}
 use lib.ListN.{length, getD, set, replicate}
-use Rattle.closures.specs.Plain.{Plain, lowestFree, leftBy, postShape, postAnswer, strikeShape, strikeAnswer, workAnswer, workLeft}
+use Rattle.closures.specs.Plain.{
+  Plain,
+  lowestFree,
+  leftBy,
+  postShape,
+  postAnswer,
+  strikeShape,
+  strikeAnswer,
+  workAnswer,
+  workLeft,
+}
 use Rattle.closures.specs.declared.Rectangle.{Rectangle}
 use Rattle.closures.specs.declared.Hold.{Hold}
 use Rattle.closures.specs.declared.Hold.the-variants.{Free, Held}
