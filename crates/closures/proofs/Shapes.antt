@@ -1,23 +1,21 @@
 -- The refusals: what each test of the code says of the shapes, and what a good shape gives.
 use Prim.Native.Nat.{ℕ, _+_, _*_, _≤_, _<_}
-use mathlib.Core.Path.{_≡_, refl}
-use mathlib.Core.Bool.{Bool, true, false, _&&_, not, and-false}
+use mathlib.Core.Path.{_≡_}
+use mathlib.Core.Bool.{true, false, _&&_, not, and-false}
 use mathlib.Core.List.{List}
-use native.Mathlib.Omega.{arith}
 use borrow.Author.Tests.{le-leb, lt-leb, lt-ltb, le-ltb, ltb-true, eq-eqb, ne-eqb, eqb-true}
-use lib.Dec.{ltb, eqb}
+use lib.Dec.{leb, ltb, eqb}
 use Rattle.basics.specs.Bounded.{pick}
 use Rattle.basics.proofs.Bools.{and-left}
-use Rattle.floor.specs.Refusals.{side, floorShape}
+use Rattle.floor.specs.Refusals.{sidesShape, floorShape}
 use Rattle.floor.specs.declared.Refusal.{Refusal}
-use Rattle.floor.specs.declared.Refusal.the-variants.{Size, SliceLength, ClosureBounds, SlotsFull, SlotEmpty}
+use Rattle.floor.specs.declared.Refusal.the-variants.{SliceLength, ClosureBounds, SlotsFull, SlotEmpty}
 use Rattle.floor.specs.declared.Shape.the-variants.{Good, Refused}
-use Rattle.floor.proofs.Shapes.{Bad, then-refused, good-first, good-second}
+use Rattle.floor.proofs.Shapes.{then-refused, good-first, good-second, good-pick}
 use Rattle.closures.specs.Plain.{
   Plain,
   freeIn,
   lowestFree,
-  sidesShape,
   within,
   postShape,
   strikeShape,
@@ -25,18 +23,6 @@ use Rattle.closures.specs.Plain.{
   workShape,
 }
 use Rattle.closures.specs.declared.Rectangle.{Rectangle}
-
-pub sides-width : (w h : ℕ) → Bad w → Refused Size ≡ sidesShape w h
-unfolding sidesShape
-sides-width w h b = rw (b .is)
-
-pub sides-height : (w h : ℕ) → Bad h → Refused Size ≡ sidesShape w h
-unfolding sidesShape
-sides-height w h b = rw (b .is, and-false (side w))
-
-pub sides-good : (w h : ℕ) → 1 ≤ w → w ≤ 127 → 1 ≤ h → h ≤ 127 → Good ≡ sidesShape w h
-unfolding sidesShape
-sides-good w h a b c d = rw (le-leb 1 w a, le-leb w 127 b, le-leb 1 h c, le-leb h 127 d)
 
 module _ (w h : ℕ) (r : Rectangle) where
   pub no-columns : r .columns < 1 → false ≡ within w h r
@@ -75,45 +61,36 @@ module _ (w h : ℕ) (r : Rectangle) where
             )
 
 module _ (r : Rectangle) (i j : ℕ) where
-  pub left-of : i < r .column → false ≡ covers r i j
+  pub left-of : i < r .column → covers r i j ≡ false
   unfolding covers
   left-of a = rw (lt-leb (r .column) i a)
 
-  module _ (a : r .column ≤ i) where
-    pub right-of : r .column + r .columns ≤ i → false ≡ covers r i j
-    unfolding covers
-    right-of b = rw (le-leb (r .column) i a, le-ltb i (r .column + r .columns) b)
+  pub right-of : r .column + r .columns ≤ i → covers r i j ≡ false
+  unfolding covers
+  right-of a = rw (le-ltb i (r .column + r .columns) a, and-false (leb (r .column) i))
 
-    module _ (b : i < r .column + r .columns) where
-      pub above-of : j < r .row → false ≡ covers r i j
-      unfolding covers
-      above-of c = rw (le-leb (r .column) i a, lt-ltb i (r .column + r .columns) b, lt-leb (r .row) j c)
+  pub above-of : j < r .row → covers r i j ≡ false
+  unfolding covers
+  above-of a = rw (lt-leb (r .row) j a, and-false (leb (r .column) i && ltb i (r .column + r .columns)))
 
-      module _ (c : r .row ≤ j) where
-        pub below-of : r .row + r .rows ≤ j → false ≡ covers r i j
-        unfolding covers
-        below-of d =
-            rw (
-              le-leb (r .column) i a,
-              lt-ltb i (r .column + r .columns) b,
-              le-leb (r .row) j c,
-              le-ltb j (r .row + r .rows) d,
-            )
+  pub below-of : r .row + r .rows ≤ j → covers r i j ≡ false
+  unfolding covers
+  below-of a =
+      rw (
+        le-ltb j (r .row + r .rows) a,
+        and-false (leb (r .row) j),
+        and-false (leb (r .column) i && ltb i (r .column + r .columns)),
+      )
 
-        pub inside-of : j < r .row + r .rows → true ≡ covers r i j
-        unfolding covers
-        inside-of d =
-            rw (
-              le-leb (r .column) i a,
-              lt-ltb i (r .column + r .columns) b,
-              le-leb (r .row) j c,
-              lt-ltb j (r .row + r .rows) d,
-            )
-
--- A test that is good passed.
-good-pick : (x : Refusal) (b : Bool) → pick b Good (Refused x) ≡ Good → b ≡ true
-good-pick x true e = refl
-good-pick x false e = let z : _≡_ {A = ℕ} 0 1 = cc in absurd (omega arith)
+  pub inside-of : r .column ≤ i → i < r .column + r .columns → r .row ≤ j → j < r .row + r .rows → covers r i j ≡ true
+  unfolding covers
+  inside-of a b c d =
+      rw (
+        le-leb (r .column) i a,
+        lt-ltb i (r .column + r .columns) b,
+        le-leb (r .row) j c,
+        lt-ltb j (r .row + r .rows) d,
+      )
 
 module _ (w h : ℕ) (m : Plain) (r : Rectangle) where
   pub post-sides : {x : Refusal} → sidesShape w h ≡ Refused x → sidesShape w h ≡ postShape w h m r

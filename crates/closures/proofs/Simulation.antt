@@ -4,6 +4,7 @@
 --   held-left          == one call: the map that the table left stands for is the map left by the plain call
 --   after-any-calls    == any calls from empty: the same of the tables and maps left
 --   answers-any-calls  == any calls from empty: the answers are those of the plain map
+--   writes-any-calls   == any calls from empty, then the writing: it answers and leaves what it would by the plain map
 use Prim.Native.Nat.{ℕ, _≤_, _<_}
 use mathlib.Core.Path.{_≡_, refl, ap, ap₂, _∙_}
 use mathlib.Core.Logic.{⊎-elim}
@@ -15,8 +16,18 @@ use lib.Seq.{getD-set-same, getD-set-other}
 use Rattle.basics.proofs.Order.{le-or-lt, eq-or-ne}
 use Rattle.floor.specs.declared.Shape.{Shape}
 use Rattle.floor.specs.declared.Shape.the-variants.{Good, Refused}
-use Rattle.closures.specs.Plain.{Plain, nothingHeld, changed, leftBy, lowestFree, postShape, strikeShape}
-use Rattle.closures.specs.Table.{heldIn, slotOf, held, withSlot, emptyTable}
+use Rattle.closures.specs.Plain.{
+  Plain,
+  nothingHeld,
+  changed,
+  leftBy,
+  lowestFree,
+  postShape,
+  strikeShape,
+  workAnswer,
+  workLeft,
+}
+use Rattle.closures.specs.Table.{heldIn, slotOf, held, withSlot, emptyTable, Writes}
 use Rattle.closures.specs.Calls.{
   Call,
   post,
@@ -33,6 +44,7 @@ use Rattle.closures.proofs.Shapes.{good-post, good-strike}
 use Rattle.closures.specs.declared.Hold.{Hold}
 use Rattle.closures.specs.declared.Hold.the-variants.{Free, Held}
 use Rattle.closures.specs.declared.Closures.{Closures}
+use Rattle.closures.specs.declared.Writing.{Writing}
 
 -- A table for a floor of width w and height h, with sixteen slots.
 pub record Sided (w h : ℕ) (t : Closures) : Type 0 where
@@ -119,3 +131,18 @@ module _ (w h : ℕ) where
 
   pub answers-any-calls : (cs : List Call) → tableAnswers (emptyTable w h) cs ≡ plainAnswers w h nothingHeld cs
   answers-any-calls cs = answers (emptyTable w h) nothingHeld cs (empty-sided w h) (held-empty w h)
+
+  after-sided : (t : Closures) (cs : List Call) → Sided w h t → Sided w h (tableAfter t cs)
+  unfolding tableAfter
+  after-sided t [] g = g
+  after-sided t (c ∷ cs) g = after-sided (tableLeft t c) cs (call-sided c g)
+
+  pub writes-any-calls : (cs : List Call) {base work left : List ℕ} {answer : Writing}
+      → Writes (tableAfter (emptyTable w h) cs) base work answer left
+      → (answer ≡ workAnswer w h base (length work))
+      × (left ≡ workLeft w h base (plainAfter w h nothingHeld cs) work)
+  writes-any-calls cs {base} {work} x =
+      let g = after-sided (emptyTable w h) cs (empty-sided w h) in (
+        x .answers ∙ (λ i. workAnswer (g .wide i) (g .high i) base (length work)),
+        x .leaves ∙ (λ i. workLeft (g .wide i) (g .high i) base (after-any-calls cs i) work),
+      )

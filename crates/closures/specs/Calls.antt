@@ -1,4 +1,5 @@
--- Any calls from the empty table: what they leave and answer, by the operations' contracts and by the plain map.
+-- Any calls from the empty table: what they leave and answer, by the operations' contracts and by the plain map. That the
+-- two are the same is proved in proofs/Simulation.antt.
 --
 --   Call                     == a call of post or of strike
 --   Answer                   == what such a call answers

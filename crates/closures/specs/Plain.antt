@@ -1,27 +1,27 @@
--- Request 1, "Closures with a slot each": what the table is, as a plain map from slot to rectangle, and what post,
--- strike and the writing of the working map do to it and answer.
+-- Request 1, "Closures with a slot each": the table as a plain map from slot to rectangle, and what post, strike and the
+-- writing of the working map answer and leave.
 --
---   Plain                  == a plain map from slot number to rectangle; a slot with none is free
---   nothingHeld            == the empty map: every slot is free
---   isFree s               == a slot that holds s is free
---   freeIn m k             == slot k is free in m
---   lowestFree m           == the lowest free slot of the sixteen; 16 where none is free
---   changed m k s          == the map m, with s at slot k
---   within w h r           == rectangle r is not empty and does not leave a floor of width w and height h
---   leftBy s x y           == what the shape s leaves: x where it is good, y at a refusal
---   sidesShape w h         == refusal 1
---   postShape w h m r      == refusals 1, 12 and 13 of posting r, in order
---   postingOf, strikingOf, writingOf == the answer for a shape
---   postAnswer, postMap    == what post answers, and the map afterwards; at a refusal the same map
---   strikeShape w h m k    == refusals 1 and 14 of striking slot k, in order
+--   Plain                   == a plain map from slot number to rectangle; a slot with none is free
+--   nothingHeld             == the empty map: every slot is free
+--   isFree s                == a slot that holds s is free
+--   freeIn m k              == slot k is free in m
+--   lowestFree m            == the lowest free slot of the sixteen; 16 where none is free
+--   changed m k s           == the map m, with s at slot k
+--   leftBy s x y            == what a call leaves whose refusals are the shape s: x where it is good, y at a refusal
+--   within w h r            == rectangle r is not empty and does not leave a floor of width w and height h
+--   postShape w h m r       == refusals 1, 12 and 13 of posting r, in order
+--   postAnswer, postMap     == what post answers, and the map afterwards; at a refusal the same map
+--   strikeShape w h m k     == refusals 1 and 14 of striking slot k, in order
 --   strikeAnswer, strikeMap == what strike answers, and the map afterwards; at a refusal the same map
---   covers r i j           == the cell in column i and row j lies in rectangle r
---   coveredBy s i j        == a slot that holds s covers that cell
---   closedBy m i j         == some closure that m holds covers that cell
---   workShape w h base n   == refusals 1, 2, 3 and then 6 of writing the working map into a slice of n places
---   workingMap w h base m  == 1 where a closure that m holds covers the cell, else the byte of the base map
---   workAnswer, workLeft   == what the writing answers, and the slice afterwards; at a refusal the same slice
---   postNumber, postSlot, strikeNumber, workNumber == the papers' number of an answer; the slot that post answers
+--   covers r i j            == the cell in column i and row j lies in rectangle r
+--   coveredBy s i j         == a slot that holds s covers that cell
+--   closedBy m i j          == some closure that m holds covers that cell
+--   workShape w h base n    == refusals 1, 2, 3 and then 6 of writing the working map into a slice of n places
+--   workingMap w h base m   == 1 where a closure that m holds covers the cell, else the byte of the base map
+--   workAnswer, workLeft    == what the writing answers, and the slice afterwards; at a refusal the same slice
+--   postingOf, strikingOf, writingOf    == the answer for a shape
+--   postNumber, strikeNumber, workNumber == the papers' number of an answer: 0, or that of the refusal
+--   postSlot p              == the slot that post answers; 0 at a refusal
 use Prim.Native.Nat.{ℕ, _+_, _*_, _/_, _%_}
 use mathlib.Core.Bool.{Bool, true, false, _&&_, not}
 use mathlib.Core.List.{List}
@@ -30,8 +30,8 @@ use lib.Dec.{leb, ltb, eqb}
 use lib.ListN.{length, getD}
 use Rattle.basics.specs.Bounded.{pick, any, seek}
 use Rattle.basics.specs.Lists.{tabulate}
-use Rattle.floor.specs.Refusals.{refusalNumber, side, floorShape, andThen}
-use Rattle.floor.specs.declared.Refusal.the-variants.{Size, SliceLength, ClosureBounds, SlotsFull, SlotEmpty}
+use Rattle.floor.specs.Refusals.{refusalNumber, sidesShape, floorShape, andThen}
+use Rattle.floor.specs.declared.Refusal.the-variants.{SliceLength, ClosureBounds, SlotsFull, SlotEmpty}
 use Rattle.floor.specs.declared.Shape.{Shape}
 use Rattle.floor.specs.declared.Shape.the-variants.{Good, Refused}
 use Rattle.closures.specs.declared.Rectangle.{Rectangle}
@@ -41,6 +41,8 @@ use Rattle.closures.specs.declared.Striking.{Striking}
 use Rattle.closures.specs.declared.Striking.the-variants.{Struck, Unstruck}
 use Rattle.closures.specs.declared.Writing.{Writing}
 use Rattle.closures.specs.declared.Writing.the-variants.{Written, Unwritten}
+
+-- ---- the table: "a plain map from slot to rectangle"
 
 abbrev pub Plain : Type 0
 Plain = ℕ → Option Rectangle
@@ -65,8 +67,8 @@ abbrev pub leftBy : {A : Type 0} → Shape → A → A → A
 leftBy Good x y = x
 leftBy (Refused r) x y = y
 
-unfoldable pub sidesShape : ℕ → ℕ → Shape
-sidesShape w h = pick (side w && side h) Good (Refused Size)
+-- ---- post: "puts it in the lowest free slot and answers the slot; 12 if the rectangle is empty or leaves the floor, then
+-- 13 if no slot is free"
 
 -- The sums are of plain numbers, which do not wrap.
 unfoldable pub within : ℕ → ℕ → Rectangle → Bool
@@ -88,6 +90,8 @@ postAnswer w h m r = postingOf (postShape w h m r) (lowestFree m)
 abbrev pub postMap : ℕ → ℕ → Plain → Rectangle → Plain
 postMap w h m r = leftBy (postShape w h m r) (changed m (lowestFree m) (some r)) m
 
+-- ---- strike: "14 if it is above 15 or empty"
+
 unfoldable pub strikeShape : ℕ → ℕ → Plain → ℕ → Shape
 strikeShape w h m k =
     andThen (sidesShape w h) (pick (ltb k 16 && not (freeIn m k)) Good (Refused SlotEmpty))
@@ -101,6 +105,8 @@ strikeAnswer w h m k = strikingOf (strikeShape w h m k)
 
 abbrev pub strikeMap : ℕ → ℕ → Plain → ℕ → Plain
 strikeMap w h m k = leftBy (strikeShape w h m k) (changed m k none) m
+
+-- ---- the working map: "blocked where the base is or where any held closure covers"
 
 unfoldable pub covers : Rectangle → ℕ → ℕ → Bool
 covers r i j =
@@ -129,6 +135,8 @@ workAnswer w h base n = writingOf (workShape w h base n)
 
 abbrev pub workLeft : ℕ → ℕ → List ℕ → Plain → List ℕ → List ℕ
 workLeft w h base m work = leftBy (workShape w h base (length work)) (workingMap w h base m) work
+
+-- ---- the papers' numbers
 
 abbrev pub postNumber : Posting → ℕ
 postNumber (In k) = 0

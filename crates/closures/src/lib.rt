@@ -1,14 +1,12 @@
 // Closures of a floor: sixteen slots, each a rectangle or free. Post, strike, and the map with the closures on it.
 ghost use mathlib.Core.Path.{_≡_};
 ghost use mathlib.Core.Option.{some};
-ghost use Prim.Native.Nat.{_≤_, _<_};
+ghost use Prim.Native.Nat.{_*_, _≤_, _<_, min};
 ghost use lib.ListN.{length};
-ghost use Rattle.basics.specs.Bounded.{pick};
-ghost use Rattle.closures.specs.Plain.{isFree, lowestFree, within, sidesShape, postShape, strikeShape};
-ghost use Rattle.closures.specs.Plain.{covers, workShape, workingMap};
+ghost use Rattle.closures.specs.Plain.{isFree, lowestFree, within, postShape, strikeShape, workShape, workingMap};
 ghost use Rattle.closures.specs.Plain.{postNumber, postSlot, strikeNumber, workNumber};
 ghost use Rattle.closures.specs.Table.{held, withSlot, emptyTable, Posts, Strikes, Writes};
-ghost use Rattle.closures.specs.Known.{Lent, Marked};
+ghost use Rattle.closures.specs.Known.{Lent, Filled, OnMap, clipped, Marked};
 use floor::Refusal;
 use floor::Shape;
 
@@ -121,25 +119,6 @@ pub fn empty(w: usize, h: usize) -> Closures
     }
 }
 
-// Refusal 1.
-fn sides_shape(w: usize, h: usize) -> Shape
-    ensures { λ s. ⌜ s ≡ sidesShape w h ⌝ }
-{
-    if w < 1 {
-        return Shape::Refused(Refusal::Size);
-    }
-    if 127 < w {
-        return Shape::Refused(Refusal::Size);
-    }
-    if h < 1 {
-        return Shape::Refused(Refusal::Size);
-    }
-    if 127 < h {
-        return Shape::Refused(Refusal::Size);
-    }
-    Shape::Good
-}
-
 // The rectangle is not empty and does not leave the floor. It takes differences, which cannot wrap as sums can.
 fn is_within(w: usize, h: usize, r: Rectangle) -> bool
     ensures { λ b. ⌜ b ≡ within w h r ⌝ }
@@ -207,7 +186,7 @@ fn post_shape(table: Closures, r: Rectangle, k: usize) -> Shape
     requires { ⌜ k ≡ lowestFree (held table) ⌝ }
     ensures { λ s. ⌜ s ≡ postShape (table .width) (table .height) (held table) r ⌝ }
 {
-    let sides = sides_shape(table.width, table.height);
+    let sides = floor::sides_shape(table.width, table.height);
     let Shape::Good = sides else {
         return sides;
     };
@@ -242,7 +221,7 @@ pub fn posted(table: Closures, r: Rectangle) -> AfterPost
 fn strike_shape(table: Closures, k: usize) -> Shape
     ensures { λ s. ⌜ s ≡ strikeShape (table .width) (table .height) (held table) k ⌝ }
 {
-    let sides = sides_shape(table.width, table.height);
+    let sides = floor::sides_shape(table.width, table.height);
     let Shape::Good = sides else {
         return sides;
     };
@@ -271,56 +250,62 @@ pub fn struck(table: Closures, k: usize) -> AfterStrike
     }
 }
 
-// Whether the cell in column i and row j lies in the rectangle. It takes differences, which cannot wrap as sums can.
-fn is_covered(r: Rectangle, i: usize, j: usize) -> bool
-    ensures { λ b. ⌜ b ≡ covers r i j ⌝ }
+// The lesser of two numbers.
+fn lesser(a: usize, b: usize) -> usize
+    ensures { λ r. ⌜ r ≡ min a b ⌝ }
 {
-    if i < r.column {
-        return false;
+    if a < b {
+        return a;
     }
-    if r.columns <= i - r.column {
-        return false;
-    }
-    if j < r.row {
-        return false;
-    }
-    if r.rows <= j - r.row {
-        return false;
-    }
-    true
+    b
 }
 
-// The byte of a cell: 1 where a closure covers it.
-fn marked(covered: bool, byte: u8) -> u8
-    ensures { λ b. ⌜ b ≡ pick covered 1 byte ⌝ }
+// Writes 1 at the places from `first` up to `end`.
+fn fill(first: usize, end: usize, work: &mut [u8])
+    requires { ⌜ (first ≤ end) × (end ≤ length (now work)) ⌝ }
+    ensures { λ _. ⌜ Filled first end (now (work .entry)) (now (work .exit)) ⌝ }
 {
-    if covered {
-        return 1;
+    for c in first..end {
+        work[c] = 1;
     }
-    byte
 }
 
-// Marks the cells of a rectangle in a map of a floor of width w.
+// Marks the cells of a rectangle, row after row, in a map of a floor of width w that has them all.
 fn mark(r: Rectangle, w: usize, work: &mut [u8])
-    requires { ⌜ 1 ≤ w ⌝ }
+    requires { ⌜ OnMap r w (now work) ⌝ }
     ensures { λ _. ⌜ Marked (some r) w (now (work .entry)) (now (work .exit)) ⌝ }
 {
-    for c in 0..work.len() {
-        let covered = is_covered(r, c % w, c / w);
-        work[c] = marked(covered, work[c]);
+    for j in r.row..r.row + r.rows {
+        let first = j * w + r.column;
+        fill(first, first + r.columns, work);
     }
 }
 
-// Marks the cells of the closure in slot k, if it holds one.
+// The part of a rectangle that lies on a floor of width w and height h.
+fn clip(r: Rectangle, w: usize, h: usize) -> Rectangle
+    ensures { λ p. ⌜ p ≡ clipped w h r ⌝ }
+{
+    let left = lesser(r.column, w);
+    let top = lesser(r.row, h);
+    Rectangle {
+        column: left,
+        row: top,
+        columns: lesser(r.columns, w - left),
+        rows: lesser(r.rows, h - top),
+    }
+}
+
+// Marks the cells of the closure in slot k, if it holds one. Of a rectangle that leaves the floor, as a table filled by
+// hand may hold, it marks the part on the floor.
 fn mark_slot(table: Closures, k: usize, work: &mut [u8])
-    requires { ⌜ (k < 16) × (1 ≤ table .width) ⌝ }
+    requires { ⌜ (k < 16) × (1 ≤ table .width) × (length (now work) ≡ table .width * table .height) ⌝ }
     ensures { λ _. ⌜ Marked (held table k) (table .width) (now (work .entry)) (now (work .exit)) ⌝ }
 {
     let slot = table.slots[k];
     let hold = slot.hold;
     match hold {
         Hold::Free => {}
-        Hold::Held(r) => mark(r, table.width, work),
+        Hold::Held(r) => mark(clip(r, table.width, table.height), table.width, work),
     }
 }
 

@@ -1,6 +1,7 @@
--- The shape refusals: what each test of the code says of `floorShape` and `endShape`, and what a good shape gives.
+-- The shape refusals: what each test of the code says of `sidesShape`, `floorShape` and `endShape`, and what a good shape
+-- gives.
 use Prim.Native.Nat.{ℕ, _*_, _≤_, _<_}
-use mathlib.Core.Path.{_≡_, refl, sym, _∙_, ap}
+use mathlib.Core.Path.{_≡_, refl, sym}
 use mathlib.Core.Bool.{Bool, true, false, _&&_, and-false}
 use mathlib.Core.List.{List}
 use native.Mathlib.Omega.{arith}
@@ -10,7 +11,7 @@ use lib.ListN.{length}
 use Rattle.basics.specs.Bounded.{pick, every}
 use Rattle.basics.proofs.Bools.{and-left, and-right}
 use Rattle.floor.specs.Floor.{Sized, vertices}
-use Rattle.floor.specs.Refusals.{side, mapByte, floorShape, endShape, andThen}
+use Rattle.floor.specs.Refusals.{side, mapByte, sidesShape, floorShape, endShape, andThen}
 use Rattle.floor.specs.declared.Refusal.{Refusal}
 use Rattle.floor.specs.declared.Refusal.the-variants.{Size, MapLength, MapByte, End}
 use Rattle.floor.specs.declared.Shape.{Shape}
@@ -29,34 +30,18 @@ too-small n h = record { is = rw (lt-leb 1 n h) }
 pub too-large : (n : ℕ) → 127 < n → Bad n
 too-large n h = record { is = rw (lt-leb n 127 h, and-false (leb 1 n)) }
 
-module _ (w h : ℕ) (l : List ℕ) where
-  pub width-refused : Bad w → Refused Size ≡ floorShape w h l
-  unfolding floorShape
+module _ (w h : ℕ) where
+  pub width-refused : Bad w → Refused Size ≡ sidesShape w h
+  unfolding sidesShape
   width-refused b = rw (b .is)
 
-  pub height-refused : Bad h → Refused Size ≡ floorShape w h l
-  unfolding floorShape
+  pub height-refused : Bad h → Refused Size ≡ sidesShape w h
+  unfolding sidesShape
   height-refused b = rw (b .is, and-false (side w))
 
-  module _ (a : 1 ≤ w) (b : w ≤ 127) (c : 1 ≤ h) (d : h ≤ 127) where
-    pub length-refused : (length l ≡ w * h → ⊥) → Refused MapLength ≡ floorShape w h l
-    unfolding floorShape
-    length-refused ne = rw (side-of w a b, side-of h c d, ne-eqb (length l) (w * h) ne)
-
-    pub bytes-refused : length l ≡ w * h → every (length l) (mapByte l) ≡ false → Refused MapByte ≡ floorShape w h l
-    unfolding floorShape
-    bytes-refused e t = rw (side-of w a b, side-of h c d, eq-eqb (length l) (w * h) e, t)
-
-    pub floor-good : length l ≡ w * h → every (length l) (mapByte l) ≡ true → Good ≡ floorShape w h l
-    unfolding floorShape
-    floor-good e t = rw (side-of w a b, side-of h c d, eq-eqb (length l) (w * h) e, t)
-
--- What a floor of good shape has.
-pub record GoodFloor (w h : ℕ) (l : List ℕ) : Type 0 where
-  pub sized : Sized w h l
-  pub wide-pos : 1 ≤ w
-  pub high-pos : 1 ≤ h
-  pub bytes : every (length l) (mapByte l) ≡ true
+  pub sides-good : 1 ≤ w → w ≤ 127 → 1 ≤ h → h ≤ 127 → Good ≡ sidesShape w h
+  unfolding sidesShape
+  sides-good a b c d = rw (side-of w a b, side-of h c d)
 
 never : {P : Type 0} {r : _} → _≡_ {A = Shape} (Refused r) Good → P
 never {P} {r} e = let z : _≡_ {A = ℕ} 0 1 = cc in absurd (omega arith)
@@ -76,28 +61,79 @@ pub good-second : (s t : Shape) → andThen s t ≡ Good → t ≡ Good
 good-second Good t e = e
 good-second (Refused r) t e = never e
 
-pub good-floor : (w h : ℕ) (l : List ℕ) → floorShape w h l ≡ Good → GoodFloor w h l
-unfolding floorShape
-good-floor w h l e =
-    cases (side w) (side h) (eqb (length l) (w * h)) (every (length l) (mapByte l)) refl refl refl refl e
-  where
-    cases : (a b c d : Bool) → side w ≡ a → side h ≡ b → eqb (length l) (w * h) ≡ c → every (length l) (mapByte l) ≡ d
-        → pick (a && b) (pick c (pick d Good (Refused MapByte)) (Refused MapLength)) (Refused Size) ≡ Good
-        → GoodFloor w h l
-    cases true true true true p q r s x = record {
-      sized = record {
-        wide = leb-true w 127 (and-right (leb 1 w) (leb w 127) p);
-        high = leb-true h 127 (and-right (leb 1 h) (leb h 127) q);
-        size = eqb-true (length l) (w * h) r;
-      };
+-- A test that is good passed.
+pub good-pick : (r : Refusal) (b : Bool) → pick b Good (Refused r) ≡ Good → b ≡ true
+good-pick r true e = refl
+good-pick r false e = never e
+
+-- What sides of good shape have.
+pub record GoodSides (w h : ℕ) : Type 0 where
+  pub wide-pos : 1 ≤ w
+  pub wide : w ≤ 127
+  pub high-pos : 1 ≤ h
+  pub high : h ≤ 127
+
+pub good-sides : (w h : ℕ) → sidesShape w h ≡ Good → GoodSides w h
+unfolding sidesShape
+good-sides w h e =
+    let t = good-pick Size (side w && side h) e in
+    let p = and-left (side w) (side h) t in
+    let q = and-right (side w) (side h) t in
+    record {
       wide-pos = leb-true 1 w (and-left (leb 1 w) (leb w 127) p);
+      wide = leb-true w 127 (and-right (leb 1 w) (leb w 127) p);
       high-pos = leb-true 1 h (and-left (leb 1 h) (leb h 127) q);
-      bytes = s;
+      high = leb-true h 127 (and-right (leb 1 h) (leb h 127) q);
     }
-    cases true true true false p q r s x = never x
-    cases true true false d p q r s x = never x
-    cases true false c d p q r s x = never x
-    cases false b c d p q r s x = never x
+
+-- What a floor of good shape has.
+pub record GoodFloor (w h : ℕ) (l : List ℕ) : Type 0 where
+  pub sized : Sized w h l
+  pub wide-pos : 1 ≤ w
+  pub high-pos : 1 ≤ h
+  pub bytes : every (length l) (mapByte l) ≡ true
+
+module _ (w h : ℕ) (l : List ℕ) where
+  abbrev lengthShape : Shape
+  lengthShape = pick (eqb (length l) (w * h)) Good (Refused MapLength)
+
+  abbrev bytesShape : Shape
+  bytesShape = pick (every (length l) (mapByte l)) Good (Refused MapByte)
+
+  pub sides-refused : {r : Refusal} → sidesShape w h ≡ Refused r → sidesShape w h ≡ floorShape w h l
+  unfolding floorShape
+  sides-refused e = then-refused (sidesShape w h) (andThen lengthShape bytesShape) e
+
+  module _ (a : sidesShape w h ≡ Good) where
+    pub length-refused : (length l ≡ w * h → ⊥) → Refused MapLength ≡ floorShape w h l
+    unfolding floorShape
+    length-refused ne = rw (a, ne-eqb (length l) (w * h) ne)
+
+    module _ (e : length l ≡ w * h) where
+      pub bytes-refused : every (length l) (mapByte l) ≡ false → Refused MapByte ≡ floorShape w h l
+      unfolding floorShape
+      bytes-refused t = rw (a, eq-eqb (length l) (w * h) e, t)
+
+      pub bytes-passed : every (length l) (mapByte l) ≡ true → Good ≡ floorShape w h l
+      unfolding floorShape
+      bytes-passed t = rw (a, eq-eqb (length l) (w * h) e, t)
+
+  pub floor-good : 1 ≤ w → w ≤ 127 → 1 ≤ h → h ≤ 127 → length l ≡ w * h → every (length l) (mapByte l) ≡ true
+      → Good ≡ floorShape w h l
+  floor-good a b c d e t = bytes-passed (sym (sides-good w h a b c d)) e t
+
+  pub good-floor : floorShape w h l ≡ Good → GoodFloor w h l
+  unfolding floorShape
+  good-floor e =
+      let s = good-sides w h (good-first (sidesShape w h) (andThen lengthShape bytesShape) e) in
+      let m : andThen lengthShape bytesShape ≡ Good = good-second (sidesShape w h) _ e in
+      let size = good-pick MapLength (eqb (length l) (w * h)) (good-first lengthShape bytesShape m) in
+      record {
+        sized = record { wide = s .wide; high = s .high; size = eqb-true (length l) (w * h) size };
+        wide-pos = s .wide-pos;
+        high-pos = s .high-pos;
+        bytes = good-pick MapByte (every (length l) (mapByte l)) (good-second lengthShape bytesShape m);
+      }
 
 pub end-good : (w h v : ℕ) → v < vertices w h → Good ≡ endShape w h v
 unfolding endShape
@@ -109,8 +145,4 @@ end-refused w h v l = rw (le-ltb v (vertices w h) l)
 
 pub good-end : (w h v : ℕ) → endShape w h v ≡ Good → v < vertices w h
 unfolding endShape
-good-end w h v e = cases (ltb v (vertices w h)) refl e
-  where
-    cases : (b : Bool) → ltb v (vertices w h) ≡ b → pick b Good (Refused End) ≡ Good → v < vertices w h
-    cases true p x = ltb-true v (vertices w h) p
-    cases false p x = never x
+good-end w h v e = ltb-true v (vertices w h) (good-pick End (ltb v (vertices w h)) e)

@@ -2,11 +2,12 @@
 -- over the shape of a floor and of an end. No refusal here has the number 11.
 --
 --   refusalNumber r    == the number of refusal r
---   floorShape w h l   == refusals 1 to 3 of a floor, in order
+--   sidesShape w h     == refusal 1: the sides
+--   floorShape w h l   == refusals 1 to 3 of a floor, in order: the sides, the map's length, its bytes
 --   endShape w h v     == refusal 5 of one end
 --   andThen s t        == the shape s, and t where s is good: the first refusal that applies
 use Prim.Native.Nat.{ℕ, _*_}
-use mathlib.Core.Bool.{Bool, true, false, _&&_}
+use mathlib.Core.Bool.{Bool, _&&_}
 use mathlib.Core.List.{List}
 use lib.Dec.{leb, ltb, eqb}
 use lib.ListN.{length, getD}
@@ -58,11 +59,14 @@ side n = leb 1 n && leb n 127
 abbrev pub mapByte : List ℕ → ℕ → Bool
 mapByte l k = leb (getD l k 0) 1
 
+unfoldable pub sidesShape : ℕ → ℕ → Shape
+sidesShape w h = pick (side w && side h) Good (Refused Size)
+
 unfoldable pub floorShape : ℕ → ℕ → List ℕ → Shape
 floorShape w h l =
-    pick (side w && side h)
-    (pick (eqb (length l) (w * h)) (pick (every (length l) (mapByte l)) Good (Refused MapByte)) (Refused MapLength))
-    (Refused Size)
+    andThen (sidesShape w h)
+    (andThen (pick (eqb (length l) (w * h)) Good (Refused MapLength))
+    (pick (every (length l) (mapByte l)) Good (Refused MapByte)))
 
 unfoldable pub endShape : ℕ → ℕ → ℕ → Shape
 endShape w h v = pick (ltb v (vertices w h)) Good (Refused End)

@@ -6,7 +6,7 @@ ghost use lib.Dec.{eqb};
 ghost use mathlib.Core.Bool.{not};
 ghost use Rattle.basics.specs.Bounded.{every};
 ghost use Rattle.floor.specs.Floor.{Sized, floorOf, blocked, vertices, number, column, row};
-ghost use Rattle.floor.specs.Refusals.{refusalNumber, floorShape, endShape, mapByte};
+ghost use Rattle.floor.specs.Refusals.{refusalNumber, sidesShape, floorShape, endShape, mapByte};
 
 // The number of a cell: column + row * W.
 pub struct Cell(pub usize);
@@ -150,9 +150,9 @@ fn bytes_good(map: &[u8]) -> bool
     largest <= 1
 }
 
-// Refusals 1 to 3: the sides, the map's length, its bytes.
-pub fn floor_shape(w: usize, h: usize, map: &[u8]) -> Shape
-    ensures { λ r. ⌜ r ≡ floorShape w h (now (map .entry)) ⌝ }
+// Refusal 1: the sides.
+pub fn sides_shape(w: usize, h: usize) -> Shape
+    ensures { λ r. ⌜ r ≡ sidesShape w h ⌝ }
 {
     if w < 1 {
         return Shape::Refused(Refusal::Size);
@@ -166,6 +166,17 @@ pub fn floor_shape(w: usize, h: usize, map: &[u8]) -> Shape
     if 127 < h {
         return Shape::Refused(Refusal::Size);
     }
+    Shape::Good
+}
+
+// Refusals 1 to 3, in order: the sides, the map's length, its bytes.
+pub fn floor_shape(w: usize, h: usize, map: &[u8]) -> Shape
+    ensures { λ r. ⌜ r ≡ floorShape w h (now (map .entry)) ⌝ }
+{
+    let sides = sides_shape(w, h);
+    let Shape::Good = sides else {
+        return sides;
+    };
     if map.len() != w * h {
         return Shape::Refused(Refusal::MapLength);
     }

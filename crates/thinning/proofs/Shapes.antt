@@ -4,12 +4,12 @@
 --   GoodList ..       == what an input has that is not refused
 --   thins-..          == the operation's result in each case
 use Prim.Native.Nat.{ℕ, suc, _≤_, _<_, pred}
-use mathlib.Core.Path.{_≡_, refl, sym, _∙_}
-use mathlib.Core.Bool.{Bool, true, false, _&&_}
+use mathlib.Core.Path.{_≡_}
+use mathlib.Core.Bool.{true, false, _&&_}
 use mathlib.Core.List.{List}
 use native.Mathlib.Omega.{arith}
 use borrow.Author.Tests.{leb-true, le-leb, lt-leb, ltb-true, lt-ltb, le-ltb, eq-eqb, eqb-true, ne-eqb}
-use lib.Dec.{leb, ltb, eqb}
+use lib.Dec.{leb, eqb}
 use lib.ListN.{length, getD}
 use Rattle.basics.specs.Bounded.{pick, every}
 use Rattle.basics.proofs.Bools.{and-left, and-right}
@@ -20,7 +20,7 @@ use Rattle.floor.specs.declared.Refusal.{Refusal}
 use Rattle.floor.specs.declared.Refusal.the-variants.{SliceLength, NotJoined}
 use Rattle.floor.specs.declared.Shape.{Shape}
 use Rattle.floor.specs.declared.Shape.the-variants.{Good, Refused}
-use Rattle.floor.proofs.Shapes.{then-refused, good-first, good-second, GoodFloor, good-floor}
+use Rattle.floor.proofs.Shapes.{then-refused, good-first, good-second, good-pick, GoodFloor, good-floor}
 use Rattle.thinning.specs.Thinning.{seen, isVertex, seesNext, joinedList}
 use Rattle.thinning.specs.Answer.{listShape, thinAnswer, thinOutput, Thins}
 use Rattle.thinning.specs.Known.{Listed, Recorded}
@@ -63,10 +63,6 @@ joined-list f l n e =
 pub joined-sees : {f : Floor} {l : List ℕ} {n : ℕ} → Joined f l n → (i : ℕ) → suc i < n → seen f l i (suc i) ≡ true
 unfolding seesNext
 joined-sees {f} {l} {n} h i k = every-at (pred n) (seesNext f l) (h .each) i (omega arith)
-
-good-pick : (r : Refusal) (b : Bool) → pick b Good (Refused r) ≡ Good → b ≡ true
-good-pick r true e = refl
-good-pick r false e = let z : _≡_ {A = ℕ} 0 1 = cc in absurd (omega arith)
 
 module _ (f : Floor) (l : List ℕ) (n : ℕ) where
   pub joined-empty : n < 1 → false ≡ joinedList f l n

@@ -12,7 +12,7 @@ use Rattle.basics.specs.Lists.{same, lists-opened}
 use Rattle.basics.proofs.Bools.{and-left, and-right}
 use Rattle.basics.proofs.Lists.{same-eq}
 use Rattle.floor.specs.Floor.{floor-opened}
-use Rattle.floor.specs.Refusals.{floorShape, endShape}
+use Rattle.floor.specs.Refusals.{sidesShape, floorShape, endShape}
 use Rattle.sight.specs.Sight.{segmentOf, enters, sight-opened}
 use Rattle.moves.specs.Moves.{neighbourhoodOf}
 use Rattle.moves.specs.Steps.{steps-opened}
@@ -139,8 +139,8 @@ module _ (c : Case) (fit : Fits c) where
 -- ---- the floors
 
 routes-true : Each RouteHolds routes
-unfolding jobOf floorShape endShape neighbourhoodOf shaped routeTest bounded-opened lists-opened floor-opened sight-opened
-    steps-opened route-opened local-opened thinning-opened
+unfolding jobOf sidesShape floorShape endShape neighbourhoodOf shaped routeTest bounded-opened lists-opened floor-opened
+    sight-opened steps-opened route-opened local-opened thinning-opened
 routes-true = (
   route-holds floorA refl refl,
   (
@@ -153,8 +153,8 @@ routes-true = (
 )
 
 noRoutes-true : Each NoRouteHolds noRoutes
-unfolding jobOf floorShape endShape neighbourhoodOf shaped noRouteTest bounded-opened lists-opened floor-opened sight-opened
-    steps-opened route-opened local-opened
+unfolding jobOf sidesShape floorShape endShape neighbourhoodOf shaped noRouteTest bounded-opened lists-opened floor-opened
+    sight-opened steps-opened route-opened local-opened
 noRoutes-true = (noRoute-holds floorC refl refl, (noRoute-holds floorF refl refl, tt))
 
 -- h's vertex 4 has 2 walks from the start and 2 to the end.

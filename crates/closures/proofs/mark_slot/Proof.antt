@@ -1,10 +1,13 @@
--- `closures::mark_slot` meets its contract: a free slot leaves the map, a rectangle is marked. Assumes nothing.
+-- `closures::mark_slot` meets its contract: a free slot leaves the map, and the part of a rectangle that lies on the
+-- floor is marked. Assumes nothing.
 use mathlib.Core.Path.{sym, ap, _∙_}
+use mathlib.Core.Option.{some}
 use lib.ListN.{length}
 use Rattle.basics.specs.Lists.{tabulate}
 use Rattle.closures.specs.Table.{heldIn, held}
 use Rattle.closures.specs.Known.{markedBy}
 use Rattle.closures.proofs.Marks.{unmarked}
+use Rattle.closures.proofs.Rows.{clipped-on, clipped-marked}
 use borrow.Author.Needs.{needs}
 use Rattle.closures.proofs.mark_slot.Statement.{statement}
 use Rattle.closures.proofs.mark_slot.Tie as tie
@@ -21,8 +24,14 @@ enum-told c = search needs
 enum-known-hold : tie.Need-enum-known-hold
 enum-known-hold c = search needs
 
+clip-requires : tie.Need-clip-requires
+clip-requires c κs = search needs
+
 mark-requires : tie.Need-mark-requires
-mark-requires c κs = search needs
+mark-requires c κs =
+    let s = c .before .before .before .before .before .before .before in
+    rw (c .before .clip .ensures)
+    (clipped-on _ (s .args .t1 .width) (s .args .t1 .height) (s .args .work .now) (s .pre .1) (s .pre .2))
 
 returns : tie.Need-returns
 returns c =
@@ -35,11 +44,14 @@ same-length c = search needs
 
 returns-2 : tie.Need-returns-2
 returns-2 c =
-    let s = c .before .before .before .before .before .before .before .before .before in
+    let s = c .before .before .before .before .before .before .before .before .before .before in
+    let w = s .args .t1 .width in
     let l = s .args .work .now in
     c .before .before .mark .ensures
-    ∙ ap (λ x. tabulate (length l) (markedBy (heldIn x) (s .args .t1 .width) l))
-    (sym (c .before .before .before .before .before .hold .given .1))
+    ∙ ap (λ r. tabulate (length l) (markedBy (some r) w l)) (c .before .before .before .before .clip .ensures)
+    ∙ clipped-marked _ w (s .args .t1 .height) l (s .pre .1) (s .pre .2)
+    ∙ ap (λ x. tabulate (length l) (markedBy (heldIn x) w l))
+    (sym (c .before .before .before .before .before .before .hold .given .1))
 
 pub mark-slot-spec : {M : Type 1} → statement M
 mark-slot-spec =
@@ -49,6 +61,7 @@ mark-slot-spec =
     element-copy-out-slot
     enum-told
     enum-known-hold
+    clip-requires
     mark-requires
     returns
     same-length

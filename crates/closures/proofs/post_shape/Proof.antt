@@ -1,8 +1,8 @@
 -- `closures::post_shape` meets its contract: each return is one case of `postShape`. Assumes nothing.
 use mathlib.Core.Path.{_≡_, sym, _∙_}
 use borrow.Author.Tests.{not-true, not-false}
+use Rattle.floor.specs.Refusals.{sidesShape}
 use Rattle.floor.specs.declared.Shape.the-variants.{Good}
-use Rattle.closures.specs.Plain.{sidesShape}
 use Rattle.closures.specs.Table.{held}
 use Rattle.closures.proofs.Shapes.{post-sides, post-bounds, post-full, post-good}
 use borrow.Author.Needs.{needs}

@@ -1,8 +1,8 @@
 -- `closures::strike_shape` meets its contract: each return is one case of `strikeShape`. Assumes nothing.
 use mathlib.Core.Path.{_≡_, sym, _∙_}
 use native.Mathlib.Omega.{arith}
+use Rattle.floor.specs.Refusals.{sidesShape}
 use Rattle.floor.specs.declared.Shape.the-variants.{Good}
-use Rattle.closures.specs.Plain.{sidesShape}
 use Rattle.closures.specs.Table.{held}
 use Rattle.closures.proofs.Shapes.{strike-sides, strike-above, strike-empty, strike-good}
 use borrow.Author.Needs.{needs}
@@ -36,7 +36,7 @@ returns-2 c =
     strike-above (a .table .width) (a .table .height) (held (a .table)) (a .k) (sides-good t) (omega arith)
 
 is-free-requires : tie.Need-is-free-requires
-is-free-requires c κs = search needs
+is-free-requires c κs = omega arith
 
 returns-3 : tie.Need-returns-3
 returns-3 c =
