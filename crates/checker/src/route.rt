@@ -60,9 +60,7 @@ fn point_right(
     if n <= i + 1 {
         return false;
     }
-    let x = floor::column_of(w, at);
-    let y = floor::row_of(w, h, at);
-    let mask = moves::open_moves(w, h, map, x, y);
+    let mask = moves::open_moves(w, h, map, at);
     let Step::To(u) = neighbours::next_at(
         count,
         row,

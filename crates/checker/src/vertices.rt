@@ -136,8 +136,7 @@ fn vertex_right(
     blank_at(e, f, back, route, v)
 }
 
-// The numbers of every vertex are right: one pass over the floor. The left two cells of a vertex are the right two of
-// the vertex before it in its row; left of a row is outside the floor.
+// The numbers of every vertex are right: one pass over the floor.
 pub fn vertices_right(
     w: usize,
     h: usize,
@@ -165,21 +164,16 @@ pub fn vertices_right(
     let up = t.up;
     let down = t.down;
     let cost = t.cost;
-    let mut x: usize = 0;
-    let mut y: usize = 0;
-    let mut nw = true;
-    let mut sw = true;
+    let mut at = moves::sweep_start();
     for v in 0..d.len() {
-        let ne = floor::blocked_at(w, h, map, x + 1, y);
-        let se = floor::blocked_at(w, h, map, x + 1, y + 1);
-        let mask = moves::open_rows(nw, ne, sw, se);
+        let here = moves::sweep_on(w, h, map, at);
         if !vertex_right(
             count,
             &row,
             &up,
             &down,
             &cost,
-            mask,
+            here.mask,
             joined,
             start,
             goal,
@@ -192,16 +186,7 @@ pub fn vertices_right(
         ) {
             return false;
         }
-        if x == w {
-            x = 0;
-            y += 1;
-            nw = true;
-            sw = true;
-            continue;
-        }
-        x += 1;
-        nw = ne;
-        sw = se;
+        at = here.next;
     }
     true
 }

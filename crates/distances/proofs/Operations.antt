@@ -14,13 +14,13 @@ use mathlib.Core.List.{List}
 use native.Mathlib.Omega.{arith}
 use lib.ListN.{length, replicate}
 use Rattle.basics.specs.Lists.{tabulate}
-use Rattle.floor.specs.Floor.{Floor, floorOf, vertices, column, row}
+use Rattle.floor.specs.Floor.{Floor, floorOf, vertices}
 use Rattle.floor.proofs.Numbers.{vertices-le}
 use Rattle.moves.specs.declared.Rows.{Rows}
 use Rattle.moves.specs.declared.Class.{Class}
 use Rattle.moves.specs.Moves.{moves, rowMove, rowsOf, rowAt, moveAt}
 use Rattle.moves.specs.Table.{Listed, lawfulRows}
-use Rattle.moves.specs.Masks.{OpenMask, offsetOf, maskedEnd, Movable}
+use Rattle.moves.specs.Masks.{OpenAt, offsetOf, maskedEnd, Movable}
 use Rattle.moves.specs.Classes.{Classes}
 use Rattle.moves.proofs.Table.{listed-lawful, lawful-move}
 use Rattle.paths.specs.Distance.{distance}
@@ -105,7 +105,7 @@ module _ {w h : ℕ} {map : List ℕ} {r : Rows} {a : ℕ} {d work : List ℕ} (
   module _ {x n : ℕ} {d′ work′ : List ℕ} (S : SettledCosts (floorGraph f r) x n d′ work work′) where
     masks-kept : OpenMasks f work′
     masks-kept v i =
-        subst (OpenMask f (column w v) (row w v)) (sym (S .rest (2 * vertices w h + v) (omega arith))) (o v i)
+        subst (OpenAt f v) (sym (S .rest (2 * vertices w h + v) (omega arith))) (o v i)
 
     pub ordered-costs : d′ ≡ tabulate (floorGraph f r .size) (distance (floorGraph f r) a)
         → OrderedCosts f r a n d′ work′

@@ -1,23 +1,30 @@
 -- The far ends of the open moves of one class from a vertex, offered a key one after the other.
 --
+--   farAt up down u k    == where the offset of row k leads from u
 --   open-step, step-open == a move whose row is in the mask leads where its offset does, and only such a move leads on
+--   Offered ..           == what an offer of a key to x leaves: x costs at most key
 --   offered              == an offer leaves the settled with one more, or as they were
---   row-offered          == so does one along an open row
 --   RelaxedTo ..         == the moves of a class whose rows are not in `rest` are relaxed: the invariant of the loop
 --                           over a class
---   next-row             == the lowest row of the rest is an open row
+--   RelaxedOn ..         == so they are on any graph that the loop can run on
+--   relaxed-none         == so are none before the loop
+--   row-left             == where the lowest row of the rest leads on, there is one, and it leads by its offset
+--   next-row             == it is that of an open move of the class
+--   next-movable         == so its offset can be added
+--   offering             == its far end can be offered the key
+--   relaxed-more         == and after that its row is out of the rest
+--   relaxed-all          == where no row is left, all are relaxed
 use Prim.Native.Nat.{ℕ, _+_, _-_, _^_, _≤_, _<_}
-use mathlib.Core.Path.{_≡_, refl, sym, ap, _∙_}
+use mathlib.Core.Path.{_≡_, sym, ap, _∙_}
 use mathlib.Core.Logic.{_⊎_, inl, inr, ⊎-elim}
 use mathlib.Core.Bool.{true, false}
 use mathlib.Core.Option.{Option, none, some}
 use mathlib.Core.List.{List}
 use native.Mathlib.Omega.{arith}
 use borrow.Author.Tests.{eq-eqb, ne-eqb}
-use lib.Bits.{bitAnd, and-le-l, and-le-r}
-use lib.Count.{trailingZeros}
+use lib.Bits.{bitAnd, and-le-l}
 use lib.Dec.{eqb}
-use lib.ListN.{set}
+use lib.ListN.{length, set}
 use lib.Seq.{set-getD}
 use Rattle.basics.specs.Bounded.{pick}
 use Rattle.basics.proofs.Order.{eq-or-ne}
@@ -25,22 +32,28 @@ use Rattle.basics.proofs.Bools.{true-or-false}
 use Rattle.basics.proofs.Bounded.{pick-no}
 use Rattle.moves.specs.declared.Rows.{Rows}
 use Rattle.moves.specs.declared.Class.{Class}
+use Rattle.moves.specs.declared.Step.the-variants.{To, Off}
 use Rattle.moves.specs.Moves.{rowAt}
-use Rattle.moves.specs.Masks.{bit}
+use Rattle.moves.specs.Steps.{stepOf}
+use Rattle.moves.specs.Masks.{bit, RowMovable, lowestRow, lowestEnd}
 use Rattle.moves.specs.Classes.{Member}
 use Rattle.moves.proofs.Bits.{set-both, set-left, set-right, set-pos, lowest-set, others-set}
+use Rattle.moves.proofs.Masked.{lowest-to, lowest-off}
 use Rattle.paths.specs.Graph.{Graph}
 use Rattle.paths.specs.Distance.{unreachable}
 use Rattle.paths.specs.Local.{entry}
 use Rattle.paths.proofs.Listing.{at-cost}
 use Rattle.paths.proofs.Distance.{snoc}
+use Rattle.neighbours.proofs.Steps.{stepOf-to, stepOf-off}
 use Rattle.distances.specs.Order.{maskAt}
-use Rattle.distances.specs.Merge.{Given, farAt, Table, RowSteps, OneCost, Ready, KeyWalk, Grown}
-use Rattle.distances.specs.Merge.{OpenRow, Offering, Offered, Relaxed}
-use Rattle.distances.proofs.Store.{key-low, grown-refl, grown-trans, at-w, grown-more, ready-more}
+use Rattle.distances.specs.Merge.{Given, RowSteps, Ready, KeyWalk, Grown, Relaxing, Relaxed}
+use Rattle.distances.proofs.Store.{settled-le, key-low, grown-refl, grown-trans, at-w, grown-more, ready-more}
 use Rattle.distances.proofs.Store.{ready-past, grown-past}
 
 -- ---- the far end of a move
+
+abbrev pub farAt : List ℕ → List ℕ → ℕ → ℕ → ℕ
+farAt up down u k = u + entry up k - entry down k
 
 some-same : {x y : ℕ} → _≡_ {A = Option ℕ} (some x) (some y) → x ≡ y
 some-same e = cc
@@ -64,6 +77,11 @@ module _ {g : Graph} {r : Rows} {up down work : List ℕ} (K : RowSteps g r up d
       none-some (sym shut ∙ st)) (true-or-false (bit mask (rowAt r m)))
 
 -- ---- an offer
+
+record Offered (g : Graph) (a x key n r : ℕ) (d d′ work work′ : List ℕ) : Type 0 where
+  ready : Ready g a r key d′ work′
+  grown : Grown (g .size) n r key d d′ work work′
+  low : entry d′ x ≤ key
 
 module _ {g : Graph} {a key n x : ℕ} {d work : List ℕ} (R : Ready g a n key d work) (inside : x < g .size) where
   -- x has a cost: whatever is stored past the settled, all is as it was
@@ -101,20 +119,9 @@ module _ {g : Graph} {a key n x : ℕ} {d work : List ℕ} (R : Ready g a n key 
       rw (e, G .place, k) (has-cost ne))
       (eq-or-ne (entry d x) unreachable)
 
--- the walk of a key, for the vertex and the cost that the code reads
-pub walk-at : {g : Graph} {a u v c b key : ℕ} → u ≡ v → b ≡ c → KeyWalk g a v c key → KeyWalk g a u b key
+-- the walk of a key, for the vertex and the move that the code takes
+walk-at : {g : Graph} {a u v c b key : ℕ} → u ≡ v → b ≡ c → KeyWalk g a v c key → KeyWalk g a u b key
 walk-at e q s = rw (e, q) s
-
-module _ {g : Graph} {r : Rows} {up down : List ℕ} {c : Class} {a u k key n : ℕ} {d work : List ℕ}
-    (F : Offering g r up down c a u k key n d work) where
-  pub far-inside : farAt up down u k < g .size
-  far-inside = let o = F .row in F .lawful .inside (o .move) u _ (o .listed) (F .walk .inside) (o .goes)
-
-  pub row-offered : {s : ℕ} {d′ work′ : List ℕ} → Given (farAt up down u k) key n s d d′ work work′
-      → Offered g a (farAt up down u k) key n s d d′ work work′
-  row-offered G =
-      let o = F .row in
-      offered (F .ready) far-inside (o .listed) (o .goes) (walk-at refl (o .cost) (F .walk)) G
 
 -- ---- the moves of a class
 
@@ -127,69 +134,117 @@ pub record RelaxedTo (g : Graph) (r : Rows) (a u mask : ℕ) (c : Class) (rest k
   pub relaxed : (m w : ℕ) → Member r c m → m < g .moves → g .step m u ≡ some w
       → (bit rest (rowAt r m) ≡ true) ⊎ (entry d′ w ≤ key)
 
-module _ {g : Graph} {r : Rows} {up down work : List ℕ} (K : RowSteps g r up down work) {u mask : ℕ} (i : u < g .size)
-    (is : mask ≡ maskAt (g .size) work u) {a : ℕ} {c : Class} {key n : ℕ} {d : List ℕ} where
-  pub relaxed-none : Ready g a n key d work → c .rows < 2 ^ 32
-      → RelaxedTo g r a u mask c (bitAnd mask (c .rows)) key n n d d work work
-  relaxed-none R fits = record {
-    ready = R;
+-- The same of any graph, rows, class and source that the loop can run on, where it starts with the rows `all`.
+abbrev pub RelaxedOn : (up down : List ℕ) (p u mask all rest key n s : ℕ) (d d′ work work′ : List ℕ) → Type 0
+RelaxedOn up down p u mask all rest key n s d d′ work work′ =
+    (g : Graph) (r : Rows) (c : Class) (a : ℕ) → Relaxing g r up down c a p key n d work → all ≡ bitAnd mask (c .rows)
+    → RelaxedTo g r a u mask c rest key n s d d′ work work′
+
+-- Row k is that of a move of class c, which leads from u where its offset does.
+record OpenRow (g : Graph) (up down : List ℕ) (c : Class) (u k : ℕ) : Type 0 where
+  move : ℕ
+  listed : move < g .moves
+  cost : g .cost move ≡ c .cost
+  goes : g .step move u ≡ some (farAt up down u k)
+  movable : RowMovable u k up down
+
+pub row-left : (rest u : ℕ) (up down : List ℕ) {x : ℕ} → stepOf (lowestEnd rest u up down) ≡ To (record { 0 = x })
+    → (0 < rest) × (farAt up down u (lowestRow rest) ≡ x)
+row-left rest u up down {x} to = lowest-to u up down rest x (stepOf-to (lowestEnd rest u up down) x to)
+
+module _ {g : Graph} {r : Rows} {up down : List ℕ} {c : Class} {a p key n : ℕ} {d work : List ℕ}
+    (B : Relaxing g r up down c a p key n d work) {u mask : ℕ} (vertex : u ≡ entry work p)
+    (read : mask ≡ maskAt (length d) work u) where
+  inside : u < g .size
+  inside = omega (arith, B .walk .inside)
+
+  is : mask ≡ maskAt (g .size) work u
+  is = read ∙ ap (λ v. maskAt v work u) (B .ready .settled .d-len)
+
+  pub relaxed-none : {all : ℕ} → mask < 2 ^ 32 → all ≡ bitAnd mask (c .rows)
+      → RelaxedTo g r a u mask c all key n n d d work work
+  relaxed-none fits e = rw e (record {
+    ready = B .ready;
     grown = grown-refl (g .size) n key d work;
-    small = omega (arith, and-le-r mask (c .rows));
+    small = omega (arith, and-le-l mask (c .rows));
     within = λ k b. (set-left mask (c .rows) k b, set-right mask (c .rows) k b);
-    relaxed = λ m w M lt st. inl (set-both mask (c .rows) (rowAt r m) (step-open K i is lt st) M);
-  }
+    relaxed = λ m w M lt st. inl (set-both mask (c .rows) (rowAt r m) (step-open (B .steps) inside is lt st) M);
+  })
 
-  module _ {rest s t : ℕ} {d′ work′ : List ℕ} (P : RelaxedTo g r a u mask c rest key n s d d′ work work′)
-      (some-left : 0 < rest) (lowest : t ≡ trailingZeros 32 rest) where
-    in-rest : bit rest t ≡ true
-    in-rest = ap (bit rest) lowest ∙ lowest-set rest some-left (P .small)
-
-    pub next-row : Table g r up down → OneCost g r c → OpenRow g r up down c u t
-    next-row T C =
-        let q = P .within t in-rest in
-        let f = C .found t (q .1) in
+  module _ {rest s : ℕ} {d′ work′ : List ℕ} (P : RelaxedTo g r a u mask c rest key n s d d′ work work′) where
+    next-row : 0 < rest → OpenRow g up down c u (lowestRow rest)
+    next-row h =
+        let t = lowestRow rest in
+        let q = P .within t (lowest-set rest h (P .small)) in
+        let f = B .class .found t (q .1) in
         let m = f .0 in
         let lt = f .1 in
         let e = f .2 in
         let b : bit mask (rowAt r m) ≡ true = ap (bit mask) e ∙ q .0 in
         let M : Member r c m = ap (bit (c .rows)) e ∙ q .1 in
-        let v = K .movable u m i lt in
+        let v = B .steps .movable u m inside lt in
         record {
           move = m;
           listed = lt;
-          row = e;
-          cost = C .same m M lt;
-          goes = open-step K i is lt b ∙ ap (λ k. some (farAt up down u k)) e;
-          few = rw e at (v .row);
-          up-in = rw e at (T .ups m lt);
-          down-in = rw e at (T .downs m lt);
-          sum = rw e at (v .sum);
-          enough = rw e at (v .enough (sym (in-mask K i is lt) ∙ b));
+          cost = B .class .same m M lt;
+          goes = open-step (B .steps) inside is lt b ∙ ap (λ k. some (farAt up down u k)) e;
+          movable = record {
+            up-in = rw e at (B .table .ups m lt);
+            down-in = rw e at (B .table .downs m lt);
+            sum = rw e at (v .sum);
+            enough = rw e at (v .enough (sym (in-mask (B .steps) inside is lt) ∙ b));
+          };
         }
 
-    pub relaxed-more : {o : ℕ} {d″ work″ : List ℕ} → Offered g a (farAt up down u t) key s o d′ d″ work′ work″
-        → RelaxedTo g r a u mask c (bitAnd rest (rest - 1)) key n o d d″ work work″
-    relaxed-more {o} {d″} {work″} O = let below = key-low (P .ready) in record {
-      ready = O .ready;
-      grown = grown-trans below (P .grown) (O .grown);
-      small = omega (arith, P .small, and-le-l rest (rest - 1));
-      within = λ k b. P .within k (set-left rest (rest - 1) k b);
-      relaxed = λ m w M lt st. ⊎-elim
-          (λ b. ⊎-elim
-          (λ e.
-          let goes = open-step K i is lt (P .within (rowAt r m) b .0) in
-          let x : farAt up down u t ≡ w = ap (farAt up down u) (sym e) ∙ some-same (sym goes ∙ st) in
-          inr (omega (arith, ap (entry d″) x, O .low)))
-          (λ ne. inl (others-set rest some-left (P .small) (rowAt r m) b (λ e. ne (e ∙ sym lowest))))
-          (eq-or-ne (rowAt r m) t))
-          (λ q. inr (omega (arith, O .grown .same-cost w (omega arith)))) (P .relaxed m w M lt st);
-    }
+    pub next-movable : 0 < rest → RowMovable u (lowestRow rest) up down
+    next-movable h = next-row h .movable
 
-  pub relaxed-all : {rest s v : ℕ} {d′ work′ : List ℕ} → RelaxedTo g r a u mask c rest key n s d d′ work work′
-      → rest ≤ 0 → u ≡ v → Relaxed g r a v c key n s d d′ work work′
-  relaxed-all {rest} P none-left e = rw (← e) (record {
-    ready = P .ready;
-    grown = P .grown;
-    relaxed = λ m w M lt st. ⊎-elim (λ b. absurd (omega (arith, set-pos rest (rowAt r m) b))) (λ q. q)
-        (P .relaxed m w M lt st);
-  })
+    -- x is the vertex to which the lowest row leads
+    module _ {x : ℕ} (to : stepOf (lowestEnd rest u up down) ≡ To (record { 0 = x })) where
+      end : (0 < rest) × (farAt up down u (lowestRow rest) ≡ x)
+      end = row-left rest u up down to
+
+      row : OpenRow g up down c u (lowestRow rest)
+      row = next-row (end .0)
+
+      goes : g .step (row .move) u ≡ some x
+      goes = row .goes ∙ ap some (end .1)
+
+      far-inside : x < g .size
+      far-inside = B .lawful .inside (row .move) u x (row .listed) inside goes
+
+      pub offering : (x < length d′) × (x < 16384) × (s < length work′)
+      offering =
+          let S = P .ready .settled in
+          let i = far-inside in
+          (omega (arith, S .d-len), omega (arith, S .few), omega (arith, settled-le S, S .work-len, S .source))
+
+      pub relaxed-more : {o : ℕ} {d″ work″ : List ℕ} → Given x key s o d′ d″ work′ work″
+          → RelaxedTo g r a u mask c (bitAnd rest (rest - 1)) key n o d d″ work work″
+      relaxed-more {o} {d″} {work″} G =
+          let O = offered (P .ready) far-inside (row .listed) goes (walk-at vertex (row .cost) (B .walk)) G in
+          let below = key-low (P .ready) in record {
+            ready = O .ready;
+            grown = grown-trans below (P .grown) (O .grown);
+            small = omega (arith, P .small, and-le-l rest (rest - 1));
+            within = λ k b. P .within k (set-left rest (rest - 1) k b);
+            relaxed = λ m w M lt st. ⊎-elim
+                (λ b. ⊎-elim
+                (λ e.
+                let leads = open-step (B .steps) inside is lt (P .within (rowAt r m) b .0) in
+                let q : x ≡ w = sym (end .1) ∙ ap (farAt up down u) (sym e) ∙ some-same (sym leads ∙ st) in
+                inr (omega (arith, ap (entry d″) q, O .low)))
+                (λ ne. inl (others-set rest (end .0) (P .small) (rowAt r m) b ne))
+                (eq-or-ne (rowAt r m) (lowestRow rest)))
+                (λ q. inr (omega (arith, O .grown .same-cost w (omega arith)))) (P .relaxed m w M lt st);
+          }
+
+    pub relaxed-all : stepOf (lowestEnd rest u up down) ≡ Off → Relaxed g r a (entry work p) c key n s d d′ work work′
+    relaxed-all off =
+        let z = lowest-off u up down rest (stepOf-off (lowestEnd rest u up down) off) in
+        rw (← vertex) (record {
+          ready = P .ready;
+          grown = P .grown;
+          relaxed = λ m w M lt st. ⊎-elim (λ b. absurd (omega (arith, set-pos rest (rowAt r m) b))) (λ q. q)
+              (P .relaxed m w M lt st);
+        })

@@ -1,5 +1,7 @@
 -- The start of the merge: the source alone is settled, at cost 0.
 --
+--   start-rest      == past the order the working slice is as it was
+--   mergeable-start == where the merge could start, it can go on with the source settled
 --   merging-start   == the invariant before the first turn
 --   three-first     == three positions at 0, where their classes have moves
 --   three-classes   == the classes of an array, read one by one
@@ -23,8 +25,9 @@ use Rattle.paths.specs.Graph.{Graph}
 use Rattle.paths.specs.Distance.{unreachable}
 use Rattle.paths.specs.Local.{entry}
 use Rattle.paths.proofs.Listing.{HasWalk, stop}
-use Rattle.distances.specs.Merge.{reached, OneCost, CostClasses, Settled, Merging}
+use Rattle.distances.specs.Merge.{reached, OneCost, CostClasses, Settled, Merging, Mergeable}
 use Rattle.distances.proofs.Store.{reached-set}
+use Rattle.distances.proofs.Turn.{steps-same}
 
 reached-none : (n : ℕ) → reached (replicate n unreachable) ≡ 0
 unfolding reached
@@ -87,12 +90,11 @@ module _ (g : Graph) (a : ℕ) (work : List ℕ) (few : g .size ≤ 16384) (i : 
     bounded = λ j h. omega (arith, cost-0 j h);
   }
 
-  pub merging-start : (r : Rows) (l : List Class) (pos d : List ℕ) → d ≡ none → CostClasses g r l
+  merging-first : (r : Rows) (l : List Class) (pos d : List ℕ) → d ≡ none
       → ((k : ℕ) → k < 3 → 0 < classAt l k .rows → getD pos k 0 ≡ 0)
       → Merging g r a 1 l pos (set d a 0) work₀ work₀
-  merging-start r l pos d e C firsts = rw e (record {
+  merging-first r l pos d e firsts = rw e (record {
     settled = settled-start;
-    classes = C;
     passed = λ k h. record {
       room = λ f. omega (arith, firsts k h f);
       relaxed = λ j m w p M lt. absurd (omega (arith, firsts k h (set-pos (classAt l k .rows) (rowAt r m) M)));
@@ -101,9 +103,8 @@ module _ (g : Graph) (a : ℕ) (work : List ℕ) (few : g .size ≤ 16384) (i : 
     rest = λ j h. refl;
   })
 
-  -- past the order the working slice is as it was
-  pub start-rest : (j : ℕ) → g .size < j → entry work₀ j ≡ entry work j
-  start-rest j h = getD-set-other work 0 j a 0 (λ e. omega arith)
+pub start-rest : {v : ℕ} (work : List ℕ) (a j : ℕ) → v < j → entry (set work 0 a) j ≡ entry work j
+start-rest work a j h = getD-set-other work 0 j a 0 (λ e. omega arith)
 
 pub three-first : (c₀ c₁ c₂ : Class) (p q r : ℕ) → (0 < c₀ .rows → p ≡ 0) → (0 < c₁ .rows → q ≡ 0)
     → (0 < c₂ .rows → r ≡ 0)
@@ -114,7 +115,7 @@ three-first c₀ c₁ c₂ p q r x y z (suc (suc zero)) h f = z f
 three-first c₀ c₁ c₂ p q r x y z (suc (suc (suc k))) h f = absurd (omega arith)
 
 -- the classes of an array, read one by one
-pub three-classes : {g : Graph} {r : Rows} {l : List Class} → CostClasses g r l
+three-classes : {g : Graph} {r : Rows} {l : List Class} → CostClasses g r l
     → CostClasses g r (classAt l 0 ∷ classAt l 1 ∷ classAt l 2 ∷ [])
 three-classes {g} {r} {l} C = record {
   each = λ k h. subst (OneCost g r) (sym (same k h)) (C .each k h);
@@ -127,3 +128,26 @@ three-classes {g} {r} {l} C = record {
     same (suc zero) h = refl
     same (suc (suc zero)) h = refl
     same (suc (suc (suc k))) h = absurd (omega arith)
+
+module _ {g : Graph} {r : Rows} {up down : List ℕ} {l : List Class} {a : ℕ} where
+  pub mergeable-start : {d work : List ℕ} (d′ : List ℕ) → Mergeable g r up down l a d work → length d′ ≡ length d
+      → Mergeable g r up down (classAt l 0 ∷ classAt l 1 ∷ classAt l 2 ∷ []) a (set d′ a 0) (set work 0 a)
+  mergeable-start {work = work} d′ M same = record {
+    few = M .few;
+    lawful = M .lawful;
+    table = M .table;
+    steps = steps-same (M .steps) (start-rest work a);
+    classes = three-classes (M .classes);
+    source = M .source;
+    d-len = length-set d′ a 0 ∙ same ∙ M .d-len;
+    work-len = length-set work 0 a ∙ M .work-len;
+  }
+
+  pub merging-start : (v : ℕ) (pos d work : List ℕ) → Mergeable g r up down l a (set d a 0) (set work 0 a)
+      → d ≡ replicate v unreachable → ((k : ℕ) → k < 3 → 0 < classAt l k .rows → getD pos k 0 ≡ 0)
+      → Merging g r a 1 l pos (set d a 0) (set work 0 a) (set work 0 a)
+  merging-start v pos d work M e firsts =
+      let size : v ≡ g .size =
+      sym (length-replicate v unreachable) ∙ sym (ap length e) ∙ sym (length-set d a 0) ∙ M .d-len in
+      merging-first g a work (M .few) (M .source) (sym (length-set work 0 a) ∙ M .work-len) r l pos d
+      (e ∙ ap (λ (k : ℕ). replicate k unreachable) size) firsts

@@ -7,6 +7,7 @@
 --   passed-next           == the position that moves on by one
 --   Least ..              == position k has the least key
 --   least-of              == so has the one that `lowest` finds
+--   MergingOn ..          == `Merging` on any graph and rows that the merge can run on: the invariant of the loop
 --   Turn ..               == what a turn of class k takes and leaves: the invariant again, and a lower measure
 --   turn                  == so is the turn of the least key
 --   filled                == at the end every position has passed every settled vertex, so the costs are the distances
@@ -29,13 +30,13 @@ use Rattle.moves.specs.Moves.{rowAt}
 use Rattle.moves.specs.Masks.{maskedEnd, Movable}
 use Rattle.moves.specs.Classes.{Member, classAt}
 use Rattle.moves.proofs.Bits.{set-pos}
-use Rattle.paths.specs.Graph.{Graph, Lawful}
+use Rattle.paths.specs.Graph.{Graph}
 use Rattle.paths.specs.Distance.{unreachable, distance}
 use Rattle.paths.specs.Local.{entry}
 use Rattle.paths.proofs.Costs.{walked-true}
 use Rattle.distances.specs.Order.{maskAt, SettledCosts}
-use Rattle.distances.specs.Merge.{keyOf, Keyed, offsetAt, Table, RowSteps, OneCost, Settled, Ready, Grown}
-use Rattle.distances.specs.Merge.{Relaxing, Relaxed, Passed, Merging, remaining}
+use Rattle.distances.specs.Merge.{keyOf, Keyed, offsetAt, RowSteps, OneCost, Settled, Ready, Grown}
+use Rattle.distances.specs.Merge.{Relaxing, Relaxed, Passed, Merging, Mergeable, remaining}
 use Rattle.distances.proofs.Store.{last, settled-le}
 
 -- ---- keys
@@ -147,126 +148,128 @@ remaining-falls v (x ∷ l) (suc k) h s = omega (arith, remaining-falls v l k (o
 
 -- ---- a turn
 
+abbrev pub MergingOn : (up down : List ℕ) (a n : ℕ) (l : List Class) (pos d₀ d work₀ work : List ℕ) → Type 0
+MergingOn up down a n l pos d₀ d work₀ work =
+    (g : Graph) (r : Rows) → Mergeable g r up down l a d₀ work₀ → Merging g r a n l pos d work₀ work
+
 -- What a turn of class k needs, and what it leaves.
-pub record Turn (g : Graph) (r : Rows) (up down : List ℕ) (a n k key : ℕ) (l : List Class) (pos d work₀ work : List ℕ)
-    : Type 0 where
+pub record Turn (g : Graph) (r : Rows) (up down : List ℕ) (a n k key : ℕ) (l : List Class)
+    (pos d₀ d work₀ work : List ℕ) : Type 0 where
   pub relaxing : Relaxing g r up down (classAt l k) a (getD pos k 0) key n d work
   pub small : getD pos k 0 < 16384
-  pub falls : remaining (g .size) (set pos k (getD pos k 0 + 1)) < remaining (g .size) pos
+  pub falls : remaining (length d₀) (set pos k (getD pos k 0 + 1)) < remaining (length d₀) pos
   pub next : {s : ℕ} {d′ work′ : List ℕ}
       → Relaxed g r a (entry work (getD pos k 0)) (classAt l k) key n s d d′ work work′
       → Merging g r a s l (set pos k (getD pos k 0 + 1)) d′ work₀ work′
 
-module _ {g : Graph} {r : Rows} {a n k key : ℕ} {l : List Class} {pos d work₀ work : List ℕ}
-    (K : Merging g r a n l pos d work₀ work) (T : Least n k key l pos d work) where
-  module _ (low : key < unreachable) where
-    abbrev p : ℕ
-    p = getD pos k 0
+module _ {g : Graph} {r : Rows} {up down : List ℕ} {a n k key : ℕ} {l : List Class} {pos d₀ d work₀ work : List ℕ}
+    (M : Mergeable g r up down l a d₀ work₀) (K : Merging g r a n l pos d work₀ work) (T : Least n k key l pos d work)
+  where
+    module _ (low : key < unreachable) where
+      abbrev p : ℕ
+      p = getD pos k 0
 
-    abbrev c : Class
-    c = classAt l k
+      abbrev c : Class
+      c = classAt l k
 
-    before-end : p < n
-    before-end =
-        ⊎-elim (λ h. h) (λ h. absurd (omega (arith, T .is, key-out n p (c .cost) d work (omega arith))))
-        (le-or-lt (suc p) n)
+      before-end : p < n
+      before-end =
+          ⊎-elim (λ h. h) (λ h. absurd (omega (arith, T .is, key-out n p (c .cost) d work (omega arith))))
+          (le-or-lt (suc p) n)
 
-    before-all : p < g .size
-    before-all = omega (arith, before-end, settled-le (K .settled))
+      before-all : p < g .size
+      before-all = omega (arith, before-end, settled-le (K .settled))
 
-    key-is : key ≡ entry d (entry work p) + c .cost
-    key-is = T .is ∙ key-in n p (c .cost) d work before-end
+      key-is : key ≡ entry d (entry work p) + c .cost
+      key-is = T .is ∙ key-in n p (c .cost) d work before-end
 
-    one-cost : OneCost g r c
-    one-cost = K .classes .each k (T .one)
+      one-cost : OneCost g r c
+      one-cost = M .classes .each k (T .one)
 
-    relaxing : {up down : List ℕ} → Lawful g → Table g r up down → RowSteps g r up down work₀
-        → Relaxing g r up down c a p key n d work
-    relaxing L B M = let S = K .settled in let i = S .ordered .inside p before-end in record {
-      lawful = L;
-      table = B;
-      steps = steps-same M (K .rest);
-      class = one-cost;
-      ready = record {
-        settled = S;
-        under = λ i h. omega (arith, key-is, K .passed k (T .one) .pending i h before-end);
-        small = omega (arith, key-is, before-end, S .bounded p before-end, one-cost .high);
-      };
-      place = before-end;
-      walk = record {
-        inside = i;
-        rest = entry d (entry work p);
-        total = sym key-is;
-        walk = S .walked (entry work p) i (S .ordered .placed p before-end);
-      };
-    }
+      relaxing : Relaxing g r up down c a p key n d work
+      relaxing = let S = K .settled in let i = S .ordered .inside p before-end in record {
+        lawful = M .lawful;
+        table = M .table;
+        steps = steps-same (M .steps) (K .rest);
+        class = one-cost;
+        ready = record {
+          settled = S;
+          under = λ i h. omega (arith, key-is, K .passed k (T .one) .pending i h before-end);
+          small = omega (arith, key-is, before-end, S .bounded p before-end, one-cost .high);
+        };
+        place = before-end;
+        walk = record {
+          inside = i;
+          rest = entry d (entry work p);
+          total = sym key-is;
+          walk = S .walked (entry work p) i (S .ordered .placed p before-end);
+        };
+      }
 
-    merging-next : {s : ℕ} {d′ work′ : List ℕ} → length pos ≡ 3
-        → Relaxed g r a (entry work p) c key n s d d′ work work′
-        → Merging g r a s l (set pos k (p + 1)) d′ work₀ work′
-    merging-next {s} {d′} {work′} len P = record {
-      settled = P .ready .settled;
-      classes = K .classes;
-      passed = λ j h. ⊎-elim
-          (λ e. subst (λ z. Passed g r s (classAt l z) (getD (set pos k (p + 1)) z 0) d′ work′) (sym e) moved)
-          (λ e. subst (λ z. Passed g r s (classAt l j) z d′ work′) (sym (getD-set-other pos k j (p + 1) 0 e))
-          (stayed j h)) (eq-or-ne j k);
-      rest = λ i h. P .grown .same-rest i h ∙ K .rest i h;
-    }
-      where
-        moved : Passed g r s c (getD (set pos k (p + 1)) k 0) d′ work′
-        moved = subst (λ z. Passed g r s c z d′ work′) (sym (getD-set-same pos k (p + 1) 0 (omega (arith, T .one))))
-            (passed-next (K .settled) (P .ready) (P .grown) (one-cost .high) (K .passed k (T .one)) before-end key-is
-            (λ m w M lt. P .relaxed m w M lt))
+      merging-next : {s : ℕ} {d′ work′ : List ℕ} → length pos ≡ 3
+          → Relaxed g r a (entry work p) c key n s d d′ work work′
+          → Merging g r a s l (set pos k (p + 1)) d′ work₀ work′
+      merging-next {s} {d′} {work′} len P = record {
+        settled = P .ready .settled;
+        passed = λ j h. ⊎-elim
+            (λ e. subst (λ z. Passed g r s (classAt l z) (getD (set pos k (p + 1)) z 0) d′ work′) (sym e) moved)
+            (λ e. subst (λ z. Passed g r s (classAt l j) z d′ work′) (sym (getD-set-other pos k j (p + 1) 0 e))
+            (stayed j h)) (eq-or-ne j k);
+        rest = λ i h. P .grown .same-rest i h ∙ K .rest i h;
+      }
+        where
+          moved : Passed g r s c (getD (set pos k (p + 1)) k 0) d′ work′
+          moved = subst (λ z. Passed g r s c z d′ work′) (sym (getD-set-same pos k (p + 1) 0 (omega (arith, T .one))))
+              (passed-next (K .settled) (P .ready) (P .grown) (one-cost .high) (K .passed k (T .one)) before-end key-is
+              (P .relaxed))
 
-        stayed : (j : ℕ) → j < 3 → Passed g r s (classAt l j) (getD pos j 0) d′ work′
-        stayed j h =
-            passed-same (K .settled) (P .ready) (P .grown) (K .classes .each j h .high) (K .passed j h) (T .least j h)
+          stayed : (j : ℕ) → j < 3 → Passed g r s (classAt l j) (getD pos j 0) d′ work′
+          stayed j h =
+              passed-same (K .settled) (P .ready) (P .grown) (M .classes .each j h .high) (K .passed j h) (T .least j h)
 
-    pub turn : {up down : List ℕ} → Lawful g → Table g r up down → RowSteps g r up down work₀ → length pos ≡ 3
-        → Turn g r up down a n k key l pos d work₀ work
-    turn L B M len = record {
-      relaxing = relaxing L B M;
-      small = omega (arith, before-all, K .settled .few);
-      falls = remaining-falls (g .size) pos k (omega (arith, T .one)) before-all;
-      next = merging-next len;
-    }
+      pub turn : length pos ≡ 3 → Turn g r up down a n k key l pos d₀ d work₀ work
+      turn len = record {
+        relaxing = relaxing;
+        small = omega (arith, before-all, K .settled .few);
+        falls = remaining-falls (length d₀) pos k (omega (arith, T .one)) (omega (arith, before-all, M .d-len));
+        next = merging-next len;
+      }
 
-  -- ---- the end
+    -- ---- the end
 
-  module _ (end : key ≡ unreachable) where
-    all-passed : (j : ℕ) → j < 3 → n ≤ getD pos j 0
-    all-passed j h = ⊎-elim (λ le. le)
-        (λ lt. let S = K .settled in let q = getD pos j 0 in absurd (omega (
-          arith,
-          T .least j h,
-          key-in n q (classAt l j .cost) d work lt,
-          S .bounded q lt,
-          K .classes .each j h .high,
-          settled-le S,
-          S .few,
-        ))) (le-or-lt n (getD pos j 0))
+    module _ (end : key ≡ unreachable) where
+      all-passed : (j : ℕ) → j < 3 → n ≤ getD pos j 0
+      all-passed j h = ⊎-elim (λ le. le)
+          (λ lt. let S = K .settled in let q = getD pos j 0 in absurd (omega (
+            arith,
+            T .least j h,
+            key-in n q (classAt l j .cost) d work lt,
+            S .bounded q lt,
+            M .classes .each j h .high,
+            settled-le S,
+            S .few,
+          ))) (le-or-lt n (getD pos j 0))
 
-    relaxed-end : Lawful g → (m u w : ℕ) → m < g .moves → u < g .size → g .step m u ≡ some w
-        → entry d w ≤ entry d u + g .cost m
-    relaxed-end L m u w lt i st = ⊎-elim
-        (λ h. omega (arith, K .settled .at-most w (L .inside m u w lt i st)))
-        (λ h.
-        let q = K .classes .covers m lt in
-        let f = K .settled .ordered .found u i h in
-        let past : f .0 < getD pos (q .0) 0 = omega (arith, f .1, all-passed (q .0) (q .1)) in
-        let x = K .passed (q .0) (q .1) .relaxed (f .0) m w past (q .2) lt (ap (λ z. g .step m z) (f .2) ∙ st) in
-        omega (arith, x, ap (entry d) (f .2), K .classes .each (q .0) (q .1) .same m (q .2) lt))
-        (le-or-lt unreachable (entry d u))
+      relaxed-end : (m u w : ℕ) → m < g .moves → u < g .size → g .step m u ≡ some w
+          → entry d w ≤ entry d u + g .cost m
+      relaxed-end m u w lt i st = ⊎-elim
+          (λ h. omega (arith, K .settled .at-most w (M .lawful .inside m u w lt i st)))
+          (λ h.
+          let q = M .classes .covers m lt in
+          let f = K .settled .ordered .found u i h in
+          let past : f .0 < getD pos (q .0) 0 = omega (arith, f .1, all-passed (q .0) (q .1)) in
+          let x = K .passed (q .0) (q .1) .relaxed (f .0) m w past (q .2) lt (ap (λ z. g .step m z) (f .2) ∙ st) in
+          omega (arith, x, ap (entry d) (f .2), M .classes .each (q .0) (q .1) .same m (q .2) lt))
+          (le-or-lt unreachable (entry d u))
 
-    pub filled : {start : List ℕ} → Lawful g → ((i : ℕ) → g .size < i → entry work₀ i ≡ entry start i)
-        → SettledCosts g a n d start work
-    filled {start} L same = let S = K .settled in record {
-      costs = tabulate-of (g .size) d (distance g a) (S .d-len)
-          (walked-true g L a (S .source) (entry d)
-          (record { start = S .start; at-most = S .at-most; relaxed = relaxed-end L }) (S .walked));
-      few = settled-le S;
-      work-len = S .work-len;
-      ordered = S .ordered;
-      rest = λ i h. K .rest i h ∙ same i h;
-    }
+      pub filled : {start : List ℕ} → ((i : ℕ) → g .size < i → entry work₀ i ≡ entry start i)
+          → SettledCosts g a n d start work
+      filled {start} same = let S = K .settled in record {
+        costs = tabulate-of (g .size) d (distance g a) (S .d-len)
+            (walked-true g (M .lawful) a (S .source) (entry d)
+            (record { start = S .start; at-most = S .at-most; relaxed = relaxed-end }) (S .walked));
+        few = settled-le S;
+        work-len = S .work-len;
+        ordered = S .ordered;
+        rest = λ i h. K .rest i h ∙ same i h;
+      }

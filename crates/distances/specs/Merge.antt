@@ -8,7 +8,6 @@
 --   Keyed n d work           == the keys of the first n places can be worked out
 --   Lowest r k0 k1 k2        == r is the number of the least key; 3 where no key is below `unreachable`
 --   offsetAt up down k       == by how much the move of row k changes a vertex number
---   farAt up down u k        == where it leads from u
 --   Table g r up down        == the lists have a place for the row of every move
 --   RowSteps g r up down ..  == the masks, with the offsets of the rows, give the steps of the graph g
 --   OneCost g r c            == the rows of class c are rows of moves of g, which all have its cost
@@ -18,16 +17,13 @@
 --   Ready ..                 == they cost at most key, which may be given to more
 --   KeyWalk g a u c key      == a walk from a to u and a move of cost c from there cost key together
 --   Grown ..                 == from n settled vertices to r, those added at cost key; all else is as it was
---   OpenRow ..               == row k is that of a move of class c, which leads from u where its offset does
---   Offering ..              == what the offer of a key along an open row takes
---   Offered ..               == what it leaves: x costs at most key
 --   Relaxing ..              == what the relaxing of a class of moves takes
 --   Relaxed ..               == the far ends of the moves of class c from u cost at most key
 --   Passed ..                == what holds of one class and its position p in the order
 --   Merging ..               == what holds at each turn of the merge, of the classes l and their positions pos
 --   Mergeable ..             == what the merge takes
 --   remaining v pos          == what the positions have before them: the merge's measure
-use Prim.Native.Nat.{ℕ, _+_, _-_, _*_, _^_, _≤_, _<_}
+use Prim.Native.Nat.{ℕ, _+_, _-_, _*_, _≤_, _<_}
 use mathlib.Core.Path.{_≡_}
 use mathlib.Core.Bool.{true}
 use mathlib.Core.Option.{some}
@@ -80,9 +76,6 @@ pub record Lowest (r k0 k1 k2 : ℕ) : Type 0 where
 
 abbrev pub offsetAt : List ℕ → List ℕ → ℕ → Offset
 offsetAt up down k = record { up = entry up k; down = entry down k }
-
-abbrev pub farAt : List ℕ → List ℕ → ℕ → ℕ → ℕ
-farAt up down u k = u + entry up k - entry down k
 
 pub record Table (g : Graph) (r : Rows) (up down : List ℕ) : Type 0 where
   pub ups : (m : ℕ) → m < g .moves → rowAt r m < length up
@@ -140,32 +133,6 @@ pub record Grown (v n r key : ℕ) (d d′ work work′ : List ℕ) : Type 0 whe
   pub same-cost : (u : ℕ) → entry d u < unreachable → entry d′ u ≡ entry d u
   pub fresh : (i : ℕ) → n ≤ i → i < r → entry d′ (entry work′ i) ≡ key
 
--- ---- one row
-
-pub record OpenRow (g : Graph) (r : Rows) (up down : List ℕ) (c : Class) (u k : ℕ) : Type 0 where
-  pub move : ℕ
-  pub listed : move < g .moves
-  pub row : rowAt r move ≡ k
-  pub cost : g .cost move ≡ c .cost
-  pub goes : g .step move u ≡ some (farAt up down u k)
-  pub few : k < 32
-  pub up-in : k < length up
-  pub down-in : k < length down
-  pub sum : u + entry up k < 2 ^ 32
-  pub enough : entry down k ≤ u + entry up k
-
-pub record Offering (g : Graph) (r : Rows) (up down : List ℕ) (c : Class) (a u k key n : ℕ) (d work : List ℕ)
-    : Type 0 where
-  pub lawful : Lawful g
-  pub row : OpenRow g r up down c u k
-  pub ready : Ready g a n key d work
-  pub walk : KeyWalk g a u (c .cost) key
-
-pub record Offered (g : Graph) (a x key n r : ℕ) (d d′ work work′ : List ℕ) : Type 0 where
-  pub ready : Ready g a r key d′ work′
-  pub grown : Grown (g .size) n r key d d′ work work′
-  pub low : entry d′ x ≤ key
-
 -- ---- one class of moves
 
 pub record Relaxing (g : Graph) (r : Rows) (up down : List ℕ) (c : Class) (a p key n : ℕ) (d work : List ℕ)
@@ -195,7 +162,6 @@ pub record Passed (g : Graph) (r : Rows) (n : ℕ) (c : Class) (p : ℕ) (d work
 
 pub record Merging (g : Graph) (r : Rows) (a n : ℕ) (l : List Class) (pos d work₀ work : List ℕ) : Type 0 where
   pub settled : Settled g a n d work
-  pub classes : CostClasses g r l
   pub passed : (k : ℕ) → k < 3 → Passed g r n (classAt l k) (getD pos k 0) d work
   pub rest : (i : ℕ) → g .size < i → entry work i ≡ entry work₀ i
 

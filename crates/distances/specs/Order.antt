@@ -19,10 +19,10 @@ use mathlib.Core.Path.{_≡_}
 use mathlib.Core.List.{List}
 use lib.ListN.{length}
 use Rattle.basics.specs.Lists.{tabulate, zeros}
-use Rattle.floor.specs.Floor.{Floor, Sized, vertices, column, row}
+use Rattle.floor.specs.Floor.{Floor, Sized, vertices}
 use Rattle.moves.specs.declared.Rows.{Rows}
 use Rattle.moves.specs.Table.{Listed}
-use Rattle.moves.specs.Masks.{OpenMask}
+use Rattle.moves.specs.Masks.{OpenAt}
 use Rattle.paths.specs.Graph.{Graph}
 use Rattle.paths.specs.Distance.{unreachable, distance}
 use Rattle.paths.specs.Local.{entry}
@@ -50,11 +50,11 @@ maskOn f = maskAt (vertices (f .wide) (f .high))
 
 abbrev pub OpenMasks : Floor → List ℕ → Type 0
 OpenMasks f work =
-    (v : ℕ) → v < vertices (f .wide) (f .high) → OpenMask f (column (f .wide) v) (row (f .wide) v) (maskOn f work v)
+    (v : ℕ) → v < vertices (f .wide) (f .high) → OpenAt f v (maskOn f work v)
 
 pub record MasksTo (f : Floor) (n : ℕ) (work work′ : List ℕ) : Type 0 where
   pub len : length work′ ≡ length work
-  pub masks : (v : ℕ) → v < n → OpenMask f (column (f .wide) v) (row (f .wide) v) (maskOn f work′ v)
+  pub masks : (v : ℕ) → v < n → OpenAt f v (maskOn f work′ v)
   pub before : (i : ℕ) → i < 2 * vertices (f .wide) (f .high) → entry work′ i ≡ entry work i
   pub after : (i : ℕ) → 3 * vertices (f .wide) (f .high) ≤ i → entry work′ i ≡ entry work i
 

@@ -30,7 +30,7 @@ pub fn costs_over_masks(
     let up = t.up;
     let down = t.down;
     let classes = moves::classes_of(rows);
-    merge::settle(w, h, map, rows, &up, &down, classes, a.0, d, work)
+    merge::settle(&up, &down, classes, a.0, d, work)
 }
 
 // Fills d with the costs from a, and `work` with 0. One of the planner's two inner operations, whole by itself: it

@@ -1,17 +1,19 @@
 // The ordered merge: the vertices settled in order of cost, with no queue. `work` begins with the settled vertices in
 // the order in which they were settled; each class of moves of one cost has a position in that order, and the least
-// key, a settled cost and the cost of a class, is given to the far ends of that class that have no cost yet.
+// key, a settled cost and the cost of a class, is given to the far ends of that class that have no cost yet. The
+// contracts are over any graph whose steps the masks and the offsets of the rows give.
 ghost use mathlib.Core.Path.{_≡_};
-ghost use Prim.Native.Nat.{_+_, _<_, _≤_};
+ghost use Prim.Native.Nat.{ℕ, _+_, _<_, _≤_};
 ghost use lib.ListN.{length};
-ghost use Rattle.floor.specs.Floor.{floorOf};
-ghost use Rattle.grid.specs.Grid.{floorGraph};
+ghost use Rattle.moves.specs.declared.Rows.{Rows};
+ghost use Rattle.paths.specs.Graph.{Graph};
 ghost use Rattle.paths.specs.Local.{entry};
 ghost use Rattle.distances.specs.Order.{SettledCosts};
 ghost use Rattle.distances.specs.Merge.{costGiven, countGiven, Given, keyOf, Keyed, Lowest};
-ghost use Rattle.distances.specs.Merge.{farAt, Offering, Offered, Relaxing, Relaxed, Mergeable};
+ghost use Rattle.distances.specs.Merge.{Relaxing, Relaxed, Mergeable};
+use floor::Vertex;
 use moves::Class;
-use moves::Rows;
+use moves::Step;
 
 // A number of 32 bits as a usize.
 fn wide(x: u32) -> usize
@@ -52,42 +54,10 @@ fn offer(x: usize, key: u32, n: usize, d: &mut [u32], work: &mut [u32]) -> usize
     n + count_given(c)
 }
 
-// Gives the key to the far end of the open move of a row from vertex u, in the same way. `up` and `down` have by how
-// much the move of each row changes a vertex number; they are lent, since a table passed by value would be copied at
-// each turn. Floor, source and class are for the contract only.
-fn relax_row(
-    w: usize,
-    h: usize,
-    map: &[u8],
-    rows: Rows,
-    a: usize,
-    up: &[usize],
-    down: &[usize],
-    class: Class,
-    u: usize,
-    row: usize,
-    key: u32,
-    n: usize,
-    d: &mut [u32],
-    work: &mut [u32],
-) -> usize
-    requires { ⌜ Offering (floorGraph (floorOf w h (now map)) rows) rows (now up) (now down) class a u row key n
-        (now d) (now work) ⌝ }
-    ensures { λ r. ⌜ Offered (floorGraph (floorOf w h (now (map .entry))) rows) a
-        (farAt (now (up .entry)) (now (down .entry)) u row) key n r (now (d .entry)) (now (d .exit))
-        (now (work .entry)) (now (work .exit)) ⌝ }
-{
-    offer(u + up[row] - down[row], key, n, d, work)
-}
-
 // Gives the key to the far ends of the open moves of a class from the vertex at place p of the order: of the rows whose
-// bit both the class and the vertex's mask have, the lowest first.
+// bit both the class and the vertex's mask have, the lowest first. `up` and `down` have by how much the move of each
+// row changes a vertex number; they are lent, since a table passed by value would be copied at each turn.
 fn relax_class(
-    w: usize,
-    h: usize,
-    map: &[u8],
-    rows: Rows,
-    a: usize,
     up: &[usize],
     down: &[usize],
     class: Class,
@@ -97,21 +67,24 @@ fn relax_class(
     d: &mut [u32],
     work: &mut [u32],
 ) -> usize
-    requires { ⌜ Relaxing (floorGraph (floorOf w h (now map)) rows) rows (now up) (now down) class a p key n
-        (now d) (now work) ⌝ }
-    ensures { λ r. ⌜ Relaxed (floorGraph (floorOf w h (now (map .entry))) rows) rows a (entry (now (work .entry)) p)
-        class key n r (now (d .entry)) (now (d .exit)) (now (work .entry)) (now (work .exit)) ⌝ }
+    requires { ⌜ ((g : Graph) × (r : Rows) × (a : ℕ)
+        × Relaxing g r (now up) (now down) class a p key n (now d) (now work)) ⌝ }
+    ensures { λ s. ⌜ ((g : Graph) → (r : Rows) → (a : ℕ)
+        → Relaxing g r (now (up .entry)) (now (down .entry)) class a p key n (now (d .entry)) (now (work .entry))
+        → Relaxed g r a (entry (now (work .entry)) p) class key n s (now (d .entry)) (now (d .exit))
+        (now (work .entry)) (now (work .exit))) ⌝ }
 {
-    let u = wide(work[p]);
-    let mask = work[2 * d.len() + u];
+    let u = Vertex(wide(work[p]));
+    let mask = work[2 * d.len() + u.0];
     let mut k = n;
     let mut rest = mask & class.rows;
-    while 0 < rest {
-        let row = wide(u32::trailing_zeros(rest));
-        k = relax_row(w, h, map, rows, a, up, down, class, u, row, key, k, d, work);
+    loop {
+        let Step::To(x) = moves::lowest_step(rest, u, up, down) else {
+            return k;
+        };
+        k = offer(x.0, key, k, d, work);
         rest = rest & (rest - 1);
     }
-    k
 }
 
 // The key of place p of the order for moves that cost c.
@@ -158,10 +131,6 @@ fn first_place(class: Class, v: usize) -> usize
 // Fills d with the costs from a, and the beginning of `work` with the vertices that have one, by rising cost; answers
 // how many those are. Each turn moves one position on by one place, so there are at most three turns for a vertex.
 pub fn settle(
-    w: usize,
-    h: usize,
-    map: &[u8],
-    rows: Rows,
     up: &[usize],
     down: &[usize],
     classes: [Class; 3],
@@ -169,10 +138,10 @@ pub fn settle(
     d: &mut [u32],
     work: &mut [u32],
 ) -> usize
-    requires { ⌜ Mergeable (floorGraph (floorOf w h (now map)) rows) rows (now up) (now down) classes a
-        (now d) (now work) ⌝ }
-    ensures { λ n. ⌜ SettledCosts (floorGraph (floorOf w h (now (map .entry))) rows) a n (now (d .exit))
-        (now (work .entry)) (now (work .exit)) ⌝ }
+    requires { ⌜ ((g : Graph) × (r : Rows) × Mergeable g r (now up) (now down) classes a (now d) (now work)) ⌝ }
+    ensures { λ n. ⌜ ((g : Graph) → (r : Rows)
+        → Mergeable g r (now (up .entry)) (now (down .entry)) classes a (now (d .entry)) (now (work .entry))
+        → SettledCosts g a n (now (d .exit)) (now (work .entry)) (now (work .exit))) ⌝ }
 {
     basics::fill_u32(d, paths::UNREACHABLE);
     d[a] = 0;
@@ -193,16 +162,16 @@ pub fn settle(
             return n;
         }
         if k == 0 {
-            n = relax_class(w, h, map, rows, a, up, down, c0, p0, k0, n, d, work);
+            n = relax_class(up, down, c0, p0, k0, n, d, work);
             p0 += 1;
             continue;
         }
         if k == 1 {
-            n = relax_class(w, h, map, rows, a, up, down, c1, p1, k1, n, d, work);
+            n = relax_class(up, down, c1, p1, k1, n, d, work);
             p1 += 1;
             continue;
         }
-        n = relax_class(w, h, map, rows, a, up, down, c2, p2, k2, n, d, work);
+        n = relax_class(up, down, c2, p2, k2, n, d, work);
         p2 += 1;
     }
 }

@@ -4,15 +4,17 @@
 --   composed        == the offset of a move, from the parts of its two offsets
 --   masked-open     == so it does
 --   masked-movable  == and that can be worked out
---   masked-vertex, masked-stays == with no branch: the same where the move is open, the vertex itself where it is not
-use Prim.Native.Nat.{ℕ, suc, _+_, _-_, _*_, _≤_, _<_}
+--   lowest-to, lowest-off == where the lowest row leads on, it does so by its offset, and else no row is left
+use Prim.Native.Nat.{ℕ, zero, suc, _+_, _-_, _*_, _≤_, _<_}
 use mathlib.Core.Path.{_≡_, refl, sym, ap, _∙_}
 use mathlib.Core.Bool.{true, false}
 use mathlib.Core.Option.{Option, none, some}
+use mathlib.Core.List.{List}
 use native.Mathlib.Omega.{arith}
 use native.Mathlib.Nat.{mul-le-mul}
 use native.Mathlib.Numerals.{add-one}
-use lib.ListN.{length}
+use borrow.Author.Tests.{ne-eqb}
+use lib.ListN.{length, getD}
 use Rattle.floor.specs.Floor.{Floor, vertices, number, column, row}
 use Rattle.floor.proofs.Numbers.{vertices-le, column-le, number-of}
 use Rattle.moves.specs.declared.Move.{Move}
@@ -20,7 +22,8 @@ use Rattle.moves.specs.declared.Offset.{Offset}
 use Rattle.moves.specs.Moves.{moves, rowMove}
 use Rattle.moves.specs.Steps.{up, down, openEnd}
 use Rattle.moves.specs.Table.{Short, partsOf}
-use Rattle.moves.specs.Masks.{bit, isSome, OpenMask, offsetOf, maskedEnd, maskedVertex, Movable}
+use Rattle.moves.specs.Masks.{bit, isSome, OpenAt, offsetOf, maskedEnd, Movable}
+use Rattle.moves.specs.Masks.{lowestRow, lowestEnd}
 use Rattle.moves.proofs.Signs.{up-le, down-le}
 use Rattle.moves.proofs.Table.{table-short}
 use Rattle.moves.proofs.Steps.{Goes, open-goes}
@@ -62,8 +65,7 @@ composed w m x y p q l s = rw (p, q) (record {
   is = rw add-one;
 })
 
-module _ (f : Floor) (v n k : ℕ) (mask : OpenMask f (column (f .wide) v) (row (f .wide) v) n)
-    (l : k < length moves) where
+module _ (f : Floor) (v n k : ℕ) (mask : OpenAt f v n) (l : k < length moves) where
   abbrev m : Move
   m = rowMove k
 
@@ -91,12 +93,6 @@ module _ (f : Floor) (v n k : ℕ) (mask : OpenMask f (column (f .wide) v) (row 
       cases none e = rw (unset e)
       cases (some w) e = let z : v + o .up - o .down ≡ w = omega (arith, moved w e) in rw (set w e, z)
 
-  pub masked-vertex : (w : ℕ) → openEnd f m v ≡ some w → maskedVertex n v k o ≡ w
-  masked-vertex w e = let z : v + o .up - o .down ≡ w = omega (arith, moved w e) in rw (set w e, z)
-
-  pub masked-stays : openEnd f m v ≡ none → maskedVertex n v k o ≡ v
-  masked-stays e = rw (unset e)
-
   pub masked-movable : f .wide ≤ 127 → f .high ≤ 127 → v < vertices (f .wide) (f .high) → Movable n v k o
   masked-movable p q i = record {
     row = omega arith;
@@ -107,3 +103,16 @@ module _ (f : Floor) (v n k : ℕ) (mask : OpenMask f (column (f .wide) v) (row 
       enough : (t : Option ℕ) → openEnd f m v ≡ t → bit n k ≡ true → o .down ≤ v + o .up
       enough none e b = let z : true ≡ false = sym b ∙ unset e in let y : _≡_ {A = ℕ} 0 1 = cc in absurd (omega arith)
       enough (some w) e b = omega (arith, moved w e)
+
+-- ---- the lowest row
+
+module _ (v : ℕ) (ups downs : List ℕ) where
+  pub lowest-to : (n w : ℕ) → lowestEnd n v ups downs ≡ some w
+      → (0 < n) × (v + getD ups (lowestRow n) 0 - getD downs (lowestRow n) 0 ≡ w)
+  lowest-to zero w e = let z : _≡_ {A = ℕ} 0 1 = cc in absurd (omega arith)
+  lowest-to (suc n) w e = let b = ne-eqb (suc n) 0 (λ z. omega arith) in (omega arith, cc)
+
+  pub lowest-off : (n : ℕ) → lowestEnd n v ups downs ≡ none → n ≡ 0
+  lowest-off zero e = refl
+  lowest-off (suc n) e =
+      let b = ne-eqb (suc n) 0 (λ z. omega arith) in let z : _≡_ {A = ℕ} 0 1 = cc in absurd (omega arith)

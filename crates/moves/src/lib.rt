@@ -2,15 +2,16 @@
 // moves, and the classes of moves of one cost.
 ghost use mathlib.Core.Path.{_≡_};
 ghost use mathlib.Core.Bool.{true};
-ghost use Prim.Native.Nat.{_<_, _≤_};
+ghost use Prim.Native.Nat.{ℕ, _<_, _≤_};
 ghost use lib.IntN.{natAbs};
 ghost use Rattle.basics.specs.Bounded.{pick};
-ghost use Rattle.floor.specs.Floor.{Sized, floorOf};
+ghost use Rattle.floor.specs.Floor.{Floor, Sized, floorOf, vertices};
 ghost use lib.ListN.{length};
 ghost use Rattle.moves.specs.Moves.{moves, neighbourhoodOf, rowsOf, rowAt, moveAt};
 ghost use Rattle.moves.specs.Steps.{shifted, farEndAt, openEndAt, stepOf};
 ghost use Rattle.moves.specs.Table.{Listed, lawfulRows, Short, OnFloor, partsOf, placeOf, spotOf};
-ghost use Rattle.moves.specs.Masks.{openRows, RowBits, OpenMask, offsetOf, Movable, maskedEnd};
+ghost use Rattle.moves.specs.Masks.{openRows, RowBits, OpenAt, sweepOf, SweepAt, SweptAt, offsetOf};
+ghost use Rattle.moves.specs.Masks.{Movable, maskedEnd, RowMovable, lowestRow, lowestEnd};
 ghost use Rattle.moves.specs.Classes.{rowCosting, rowsCosting, classFor, Classes};
 use floor::Vertex;
 
@@ -50,6 +51,21 @@ pub struct Offset {
 pub struct Class {
     pub rows: u32,
     pub cost: u32,
+}
+
+// A sweep over the vertices of a floor, row by row: the column and row at which it stands, and whether the two cells on
+// the left of that vertex are blocked. They were read as those on the right of the vertex before.
+pub struct Sweep {
+    x: usize,
+    y: usize,
+    nw: bool,
+    sw: bool,
+}
+
+// What a sweep finds at a vertex: the mask of its open moves, and the sweep moved on.
+pub struct Swept {
+    pub mask: u32,
+    pub next: Sweep,
 }
 
 // A coordinate where a move leads, or past the floor's edge.
@@ -112,11 +128,7 @@ pub fn rows_of(n: usize) -> Neighbourhood
     ensures { λ r. ⌜ r ≡ neighbourhoodOf n ⌝ }
 {
     if n == 8 {
-        return Neighbourhood::Known(Rows {
-            first: 0,
-            stride: 1,
-            count: 8,
-        });
+        return Neighbourhood::Known(all_rows());
     }
     if n == 4 {
         return Neighbourhood::Known(Rows {
@@ -244,22 +256,70 @@ fn opened(blocked: bool, rows: u32) -> u32
 // The open rows of a vertex, a bit for each row of the table, from the four cells at it, true where a cell is blocked:
 // an open cell opens the diagonal move into it and the two moves along its sides, rows 0 to 2 for the south-eastern
 // cell.
-pub fn open_rows(nw: bool, ne: bool, sw: bool, se: bool) -> u32
+fn open_rows(nw: bool, ne: bool, sw: bool, se: bool) -> u32
     ensures { λ r. ⌜ RowBits (openRows nw ne sw se) r ⌝ }
 {
     opened(se, 7) | opened(sw, 28) | opened(nw, 112) | opened(ne, 193)
 }
 
-// The mask of the open moves at (x, y): a bit for each row of the table.
-pub fn open_moves(w: usize, h: usize, map: &[u8], x: usize, y: usize) -> u32
-    requires { ⌜ Sized w h (now map) × (x ≤ w) × (y ≤ h) ⌝ }
-    ensures { λ r. ⌜ OpenMask (floorOf w h (now (map .entry))) x y r ⌝ }
+// The mask of the open moves of vertex v: a bit for each row of the table.
+pub fn open_moves(w: usize, h: usize, map: &[u8], v: Vertex) -> u32
+    requires { ⌜ Sized w h (now map) × (v .0 < vertices w h) ⌝ }
+    ensures { λ r. ⌜ OpenAt (floorOf w h (now (map .entry))) (v .0) r ⌝ }
 {
+    let x = floor::column_of(w, v);
+    let y = floor::row_of(w, h, v);
     let nw = floor::blocked_at(w, h, map, x, y);
     let ne = floor::blocked_at(w, h, map, x + 1, y);
     let sw = floor::blocked_at(w, h, map, x, y + 1);
     let se = floor::blocked_at(w, h, map, x + 1, y + 1);
     open_rows(nw, ne, sw, se)
+}
+
+// The sweep at the first vertex of row y, which has the outside on its left.
+fn row_start(y: usize) -> Sweep
+    ensures { λ r. ⌜ r ≡ sweepOf 0 y true true ⌝ }
+{
+    Sweep {
+        x: 0,
+        y: y,
+        nw: true,
+        sw: true,
+    }
+}
+
+// Where the sweep over a floor starts: at its first vertex.
+pub fn sweep_start() -> Sweep
+    ensures { λ r. ⌜ ((f : Floor) → SweepAt f 0 r) ⌝ }
+{
+    row_start(0)
+}
+
+// The mask of the open moves of the vertex at which the sweep stands, and the sweep moved on to the vertex after it.
+pub fn sweep_on(w: usize, h: usize, map: &[u8], at: Sweep) -> Swept
+    requires { ⌜ Sized w h (now map) × ((v : ℕ) × (v < vertices w h) × SweepAt (floorOf w h (now map)) v at) ⌝ }
+    ensures { λ r. ⌜ ((v : ℕ) → v < vertices w h → SweepAt (floorOf w h (now (map .entry))) v at
+        → SweptAt (floorOf w h (now (map .entry))) v r) ⌝ }
+{
+    let ne = floor::blocked_at(w, h, map, at.x + 1, at.y);
+    let se = floor::blocked_at(w, h, map, at.x + 1, at.y + 1);
+    let mask = open_rows(at.nw, ne, at.sw, se);
+    if at.x == w {
+        return Swept {
+            mask: mask,
+            next: row_start(at.y + 1),
+        };
+    }
+    let next = Sweep {
+        x: at.x + 1,
+        y: at.y,
+        nw: ne,
+        sw: se,
+    };
+    Swept {
+        mask: mask,
+        next: next,
+    }
 }
 
 // By how much move m of a neighbourhood changes a vertex number.
@@ -286,6 +346,19 @@ pub fn masked_step(mask: u32, v: Vertex, row: usize, o: Offset) -> Step
         return Step::To(Vertex(v.0 + o.up - o.down));
     }
     Step::Off
+}
+
+// Where the lowest of some open rows leads from v: the row's offset added to v. No row left: `Off`. `up` and `down`
+// have by how much the move of each row changes a vertex number.
+pub fn lowest_step(rest: u32, v: Vertex, up: &[usize], down: &[usize]) -> Step
+    requires { ⌜ (0 < rest → RowMovable (v .0) (lowestRow rest) (now up) (now down)) ⌝ }
+    ensures { λ r. ⌜ r ≡ stepOf (lowestEnd rest (v .0) (now (up .entry)) (now (down .entry))) ⌝ }
+{
+    if rest == 0 {
+        return Step::Off;
+    }
+    let row = u32::trailing_zeros(rest) as usize;
+    Step::To(Vertex(v.0 + up[row] - down[row]))
 }
 
 // The bit of the row of move m, where the move costs c.

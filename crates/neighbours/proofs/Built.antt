@@ -11,12 +11,12 @@ use native.Mathlib.Omega.{arith}
 use lib.ListN.{length, set, length-set}
 use lib.Seq.{getD-set-same, getD-set-other}
 use Rattle.basics.proofs.Order.{eq-or-ne}
-use Rattle.floor.specs.Floor.{Floor, vertices, column, row}
+use Rattle.floor.specs.Floor.{Floor, vertices}
 use Rattle.moves.specs.declared.Offset.{Offset}
 use Rattle.moves.specs.declared.Rows.{Rows}
 use Rattle.moves.specs.Moves.{rowAt, moveAt}
 use Rattle.moves.specs.Table.{Listed}
-use Rattle.moves.specs.Masks.{OpenMask, offsetOf, maskedEnd, Movable}
+use Rattle.moves.specs.Masks.{OpenAt, offsetOf, maskedEnd, Movable}
 use Rattle.moves.proofs.Table.{listed-found, listed-lawful}
 use Rattle.paths.specs.Graph.{Graph}
 use Rattle.paths.specs.Local.{entry}
@@ -106,7 +106,7 @@ pub record Faces (g : Graph) (t : Reach) (mask v : ℕ) : Type 0 where
 module _ (f : Floor) {r : Rows} (listed : Listed r) {t : Reach} (b : Built (f .wide) r t) (p : f .wide ≤ 127)
     (q : f .high ≤ 127)
     (mask v : ℕ) (i : v < vertices (f .wide) (f .high))
-    (o : OpenMask f (column (f .wide) v) (row (f .wide) v) mask) where
+    (o : OpenAt f v mask) where
   movable : (m : ℕ) → m < t .count → Movable mask v (entry (t .row) m) (offsetIn t m)
   movable m l =
       rw (b .move m l .row, b .move m l .offset)

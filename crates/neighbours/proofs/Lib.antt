@@ -4,4 +4,3 @@ pub mod Sums
 pub mod Choice
 pub mod Agree
 pub mod Built
-pub mod Along

@@ -1,7 +1,11 @@
 -- `distances::costs_over_masks` meets its contract: the merge runs on the floor's graph, as its masks and table give
 -- it. Assumes nothing.
+use Prim.Native.Nat.{ℕ, _<_}
 use native.Mathlib.Omega.{arith}
+use Rattle.floor.specs.Floor.{floorOf, vertices}
+use Rattle.grid.specs.Grid.{floorGraph}
 use Rattle.moves.proofs.Classes.{whole-listed}
+use Rattle.distances.specs.Merge.{Mergeable}
 use Rattle.distances.proofs.Operations.{mergeable, ordered-costs}
 use borrow.Author.Needs.{needs}
 use Rattle.distances.proofs.costs_over_masks.Statement.{statement}
@@ -24,13 +28,25 @@ slice-aggregate-settle c = search needs
 slice-aggregate-settle-2 : tie.Need-slice-aggregate-settle-2
 slice-aggregate-settle-2 c = search needs
 
-settle-requires : tie.Need-settle-requires
-settle-requires c κs =
+-- The merge runs on the floor's graph, from any vertex of it.
+merges : (c : tie.After-settle-arg2) {x : ℕ}
+    → let b = c .before .before .before .before in
+    let t = b .before .before .before in
+    let a = t .before .before .before .before .before .args in
+    x < vertices (a .w) (a .h)
+    → Mergeable (floorGraph (floorOf (a .w) (a .h) (a .map .now)) (a .rows)) (a .rows) (t .reach-of .result .up)
+    (t .reach-of .result .down) (b .classes-of .result) x (a .d .now) (a .work .now)
+merges c inside =
     let b = c .before .before .before .before in
     let t = b .before .before .before in
     let s = t .before .before .before .before .before in
     mergeable (s .pre .0) (s .pre .1) (t .before .all-rows .ensures) (t .reach-of .ensures) (b .classes-of .ensures)
-    (omega (arith, s .pre .0 .source))
+    inside
+
+settle-requires : tie.Need-settle-requires
+settle-requires c κs =
+    let s = c .before .before .before .before .before .before .before .before .before .before .before .before in
+    (_, _, merges c (omega (arith, s .pre .0 .source)))
 
 same-length : tie.Need-same-length
 same-length c = search needs
@@ -43,7 +59,8 @@ returns c =
     let b = c .before .before .before .before in
     let t = b .before .before .before .before .before .before .before .before in
     let s = t .before .before .before .before .before in
-    ordered-costs (s .pre .0) (s .pre .1) (b .settle .ensures) (b .settle .ensures .costs)
+    let S = b .settle .ensures _ _ (merges (b .before) (omega (arith, s .pre .0 .source))) in
+    ordered-costs (s .pre .0) (s .pre .1) S (S .costs)
 
 pub costs-over-masks-spec : {M : Type 1} → statement M
 costs-over-masks-spec =

@@ -6,6 +6,12 @@ use borrow.Author.Needs.{needs}
 use Rattle.moves.proofs.open_moves.Statement.{statement}
 use Rattle.moves.proofs.open_moves.Tie as tie
 
+column-of-requires : tie.Need-column-of-requires
+column-of-requires c κs = search needs
+
+row-of-requires : tie.Need-row-of-requires
+row-of-requires c κs = search needs
+
 blocked-at-requires : tie.Need-blocked-at-requires
 blocked-at-requires c κs = search needs
 
@@ -35,19 +41,25 @@ open-rows-requires c κs = search needs
 
 returns : tie.Need-returns
 returns c =
-    let s = c .before .before .before .before .before .before in
+    let r = c .before .before .before .before .before in
+    let s = r .before .before .before in
     let f = floorOf (s .args .w) (s .args .h) (s .args .map .now) in
+    let x = r .before .column-of in
+    let y = r .row-of in
     let nw = c .before .before .before .before .blocked-at .ensures in
     let ne = c .before .before .before .blocked-at2 .ensures in
     let sw = c .before .before .blocked-at3 .ensures in
     let se = c .before .blocked-at4 .ensures in
-    open-mask f (s .args .x) (s .args .y) (s .pre .1) (s .pre .2) (c .open-rows .result)
-    (rw (nw, ne, sw, se, add-one (s .args .x), add-one (s .args .y)) at (c .open-rows .ensures))
+    rw (← x .ensures .0, ← y .ensures .0)
+    (open-mask f (x .result) (y .result) (x .ensures .1) (y .ensures .1) (c .open-rows .result)
+    (rw (nw, ne, sw, se, add-one (x .result), add-one (y .result)) at (c .open-rows .ensures)))
 
 pub open-moves-spec : {M : Type 1} → statement M
 open-moves-spec =
     tie.close
     (tie.spec
+    column-of-requires
+    row-of-requires
     blocked-at-requires
     add-blocked-at
     blocked-at-requires-2

@@ -47,13 +47,13 @@ inside c = c .before .before .before
 
 -- the point, where its next vertex is asked for
 abbrev asked : tie.After-open-moves → tie.After-point
-asked c = placed (inside (c .before .before .before .before)) .before
+asked c = placed (inside (c .before .before)) .before
 
 faces : (c : tie.After-open-moves) (q : Rows) → Ready (start (asked c)) q
     → Faces (graph (start (asked c)) q) (table (start (asked c))) (c .open-moves .result) (asked c .point .result .0)
 faces c q p =
     vertex-faces (p .posed .job .floor) (p .posed .job .listed) (p .built) (routing-in p (omega arith))
-    (rw (c .before .before .column-of .ensures .0, c .before .row-of .ensures .0) at (c .open-moves .ensures))
+    (c .open-moves .ensures)
 
 -- the next vertex, as the test asks for it
 next : (c : tie.After-next-at) (q : Rows) → Ready (start (asked (c .before))) q
@@ -109,12 +109,6 @@ returns-4 c =
     (placed o .if1 .left) (routing-in p (o .if2 .left)) (c .before .if3 .left)
     (c .if4 .taken)
 
-column-of-requires : tie.Need-column-of-requires
-column-of-requires c κs = search needs
-
-row-of-requires : tie.Need-row-of-requires
-row-of-requires c κs = search needs
-
 open-moves-requires : tie.Need-open-moves-requires
 open-moves-requires c κs = search needs
 
@@ -133,7 +127,7 @@ returns-5 c =
     let n = c .before .before in
     let k = asked (n .before) in
     let s = start k in
-    let i = n .before .before .before .before in
+    let i = n .before .before in
     let o = inside (i .before) in
     λ q p. point-stuck (graph s q) (s .args .b .0) (sheet s) (s .args .i) (k .point .result .0) (k .point .ensures)
     (placed o .if1 .left) (routing-in p (o .if2 .left)) (i .before .if3 .left)
@@ -143,7 +137,7 @@ returns-5 c =
 add-point : tie.Need-add-point
 add-point c =
     let o = c .before .before .before .before in
-    omega (arith, o .before .before .before .if4 .left, start (asked o) .fits .n)
+    omega (arith, o .before .if4 .left, start (asked o) .fits .n)
 
 mul-point-2 : tie.Need-mul-point-2
 mul-point-2 c =
@@ -163,7 +157,7 @@ returns-6 c =
     let n = c .before .before .before .before .before .before .before in
     let k = asked (n .before) in
     let s = start k in
-    let i = n .before .before .before .before in
+    let i = n .before .before in
     let o = inside (i .before) in
     let u = c .before .before .before .before .before .u .given in
     λ q p. point-next (graph s q) (s .args .b .0) (sheet s) (s .args .i) (k .point .result .0) (k .point .ensures)
@@ -185,8 +179,6 @@ point-right-spec =
     returns-3
     add-if4
     returns-4
-    column-of-requires
-    row-of-requires
     open-moves-requires
     next-at-requires
     enum-known-u
