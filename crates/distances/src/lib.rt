@@ -12,7 +12,8 @@ pub mod masks; // masks.rt: the open moves of every vertex
 mod merge; // merge.rt: the vertices settled in order of cost
 
 // Fills d with the costs from a, where `work` has the masks; leaves the order beside them, and answers its length. The
-// offsets are those of the whole table, since a mask has a bit for each of its rows.
+// offsets are those of the whole table, since a mask has a bit for each of its rows. Height and map are for the contract
+// only.
 pub fn costs_over_masks(
     w: usize,
     h: usize,

@@ -2,7 +2,7 @@
 -- 4,095, each with its opposite, which is open where the move is, since sight goes both ways.
 --
 --   floor-lawful       == the law
---   size-le, size-pos  == the number of vertices
+--   size-le            == the number of vertices
 --   graph-same         == two floors with the same cells have the same graph: what a change of how floors are stored
 --                         has to show
 use Prim.Native.Nat.{ℕ, suc, _≤_, _<_}
@@ -13,7 +13,7 @@ use mathlib.Core.Option.{some}
 use native.Mathlib.Omega.{arith}
 use Rattle.basics.proofs.Order.{le-or-lt}
 use Rattle.floor.specs.Floor.{Floor, vertices, column, row}
-use Rattle.floor.proofs.Numbers.{vertices-le, vertices-pos, number-lt, number-of}
+use Rattle.floor.proofs.Numbers.{vertices-le, number-lt, number-of}
 use Rattle.floor.proofs.Numbers.{column-le, row-le, column-number, row-number}
 use Rattle.sight.specs.Sight.{Segment, segmentOf, sees}
 use Rattle.sight.proofs.Symmetry.{sees-back, sees-same}
@@ -111,9 +111,6 @@ module _ (f : Floor) where
 
   pub size-le : W ≤ 127 → f .high ≤ 127 → (r : Rows) → floorGraph f r .size ≤ 16384
   size-le p q r = vertices-le p q
-
-  pub size-pos : (r : Rows) → 1 ≤ floorGraph f r .size
-  size-pos r = vertices-pos W (f .high)
 
 pub graph-same : (f h : Floor) (r : Rows) → f .wide ≡ h .wide → f .high ≡ h .high
     → ((i j : ℕ) → i < f .wide → j < f .high → f .cell i j ≡ h .cell i j) → floorGraph f r ≡ floorGraph h r

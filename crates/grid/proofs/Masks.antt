@@ -1,6 +1,5 @@
 -- A step of a floor's graph by the mask of the vertex.
 --
---   step-bit      == the bit of a move's row says whether the move is open
 --   step-masked   == the step is the vertex moved by the move's offset, where that bit is set
 --   step-movable  == and that can be worked out
 use Prim.Native.Nat.{ℕ, _≤_, _<_}
@@ -11,7 +10,7 @@ use Rattle.moves.specs.declared.Rows.{Rows}
 use Rattle.moves.specs.declared.Offset.{Offset}
 use Rattle.moves.specs.Moves.{rowAt, moveAt}
 use Rattle.moves.specs.Table.{lawfulRows}
-use Rattle.moves.specs.Masks.{bit, isSome, OpenAt, offsetOf, maskedEnd, Movable}
+use Rattle.moves.specs.Masks.{OpenAt, offsetOf, maskedEnd, Movable}
 use Rattle.moves.proofs.Table.{lawful-move}
 use Rattle.moves.proofs.Masked.{masked-open, masked-movable}
 use Rattle.grid.specs.Grid.{floorGraph}
@@ -23,9 +22,6 @@ module _ (f : Floor) (r : Rows) (e : lawfulRows r ≡ true) (v n : ℕ)
 
   abbrev o : Offset
   o = offsetOf (f .wide) (moveAt r m)
-
-  pub step-bit : bit n k ≡ isSome (floorGraph f r .step m v)
-  step-bit = mask .at k (lawful-move r m e l .in-table)
 
   pub step-masked : maskedEnd n v k o ≡ floorGraph f r .step m v
   step-masked = masked-open f v n k mask (lawful-move r m e l .in-table)

@@ -13,7 +13,6 @@ use Rattle.floor.specs.Floor.{Floor, blocked, vertices, number, column, row}
 use Rattle.floor.proofs.Numbers.{column-number, row-number, row-le}
 use Rattle.floor.proofs.Cells.{blocked-left}
 use Rattle.moves.specs.declared.Sweep.{Sweep}
-use Rattle.moves.specs.declared.Swept.{Swept}
 use Rattle.moves.specs.Masks.{OpenAt, openRows, RowBits, sweepOf, SweepAt, SweptAt}
 use Rattle.moves.proofs.Masks.{open-mask}
 

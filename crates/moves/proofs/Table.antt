@@ -3,6 +3,7 @@
 --   neighbourhood-8, -4  == their moves: the whole table, and its cardinal rows in the same order
 --   LawfulMove r m       == what the test gives of move m
 --   listed-lawful        == the rows of a neighbourhood pass the test
+--   listed-few           == they are no more than the table has
 --   offset-eq            == an offset is known by where it leads
 use Prim.Native.Nat.{ℕ, zero, suc, _+_, _*_, _≤_, _<_}
 use mathlib.Core.Path.{_≡_, refl, ap, ap₂}
@@ -82,8 +83,8 @@ cardinal-lawful = refl
 pub listed-lawful : {r : Rows} → Listed r → lawfulRows r ≡ true
 listed-lawful h = ⊎-elim (λ e. rw e whole-lawful) (λ e. rw e cardinal-lawful) (listed-found h .is)
 
-pub rows-lawful : (n : ℕ) (r : Rows) → neighbourhoodOf n ≡ Known r → lawfulRows r ≡ true
-rows-lawful n r e = listed-lawful (record { number = n; known = e })
+pub listed-few : {r : Rows} → Listed r → r .count ≤ length moves
+listed-few h = ⊎-elim (λ e. rw e (omega arith)) (λ e. rw e (omega arith)) (listed-found h .is)
 
 -- The offset a is b turned round.
 pub record Turned (a b : ℤ) : Type 0 where

@@ -9,7 +9,7 @@ use Prim.Native.Nat.{ℕ, _+_, _*_}
 use mathlib.Core.List.{List, [], _∷_}
 use lib.Dec.{eqb}
 use lib.IntN.{ℤ, pos, negsuc}
-use lib.ListN.{getD}
+use lib.ListN.{length, getD}
 use Rattle.basics.specs.Bounded.{pick}
 use Rattle.moves.specs.declared.Move.{Move}
 use Rattle.moves.specs.declared.Rows.{Rows}
@@ -46,4 +46,4 @@ abbrev pub moveAt : Rows → ℕ → Move
 moveAt r m = rowMove (rowAt r m)
 
 unfoldable pub neighbourhoodOf : ℕ → Neighbourhood
-neighbourhoodOf n = pick (eqb n 8) (Known (rowsOf 0 1 8)) (pick (eqb n 4) (Known (rowsOf 0 2 4)) Unknown)
+neighbourhoodOf n = pick (eqb n 8) (Known (rowsOf 0 1 (length moves))) (pick (eqb n 4) (Known (rowsOf 0 2 4)) Unknown)

@@ -35,7 +35,7 @@ pub enum Neighbourhood {
     Unknown,
 }
 
-// Where a move leads: a vertex, or off the floor.
+// Where a move leads: a vertex, or `Off`: off the floor, or nowhere where the move is asked for by a mask and is shut.
 pub enum Step {
     To(Vertex),
     Off,
@@ -54,7 +54,7 @@ pub struct Class {
 }
 
 // A sweep over the vertices of a floor, row by row: the column and row at which it stands, and whether the two cells on
-// the left of that vertex are blocked. They were read as those on the right of the vertex before.
+// the left of that vertex are blocked. They are those on the right of the vertex before, or outside at the start of a row.
 pub struct Sweep {
     x: usize,
     y: usize,

@@ -17,7 +17,7 @@ use Rattle.moves.specs.declared.Rows.{Rows}
 use Rattle.moves.specs.Moves.{rowAt, moveAt}
 use Rattle.moves.specs.Table.{Listed}
 use Rattle.moves.specs.Masks.{OpenAt, offsetOf, maskedEnd, Movable}
-use Rattle.moves.proofs.Table.{listed-found, listed-lawful}
+use Rattle.moves.proofs.Table.{listed-lawful}
 use Rattle.paths.specs.Graph.{Graph}
 use Rattle.paths.specs.Local.{entry}
 use Rattle.grid.specs.Grid.{floorGraph}
@@ -47,9 +47,6 @@ put t m row by cost = record {
   down = set (t .down) m (by .down);
   cost = set (t .cost) m cost;
 }
-
-pub listed-few : {r : Rows} → Listed r → r .count ≤ 8
-listed-few h = ⊎-elim (λ e. rw e (omega arith)) (λ e. rw e (omega arith)) (listed-found h .is)
 
 offset-cong : {a b c d : ℕ} → a ≡ b → c ≡ d → _≡_ {A = Offset} (record { up = a; down = c })
     (record { up = b; down = d })

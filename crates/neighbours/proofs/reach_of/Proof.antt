@@ -4,7 +4,8 @@ use mathlib.Core.Path.{ap}
 use native.Mathlib.Omega.{arith}
 use Rattle.moves.specs.declared.Move.{Move}
 use Rattle.moves.proofs.Table.{listed-lawful}
-use Rattle.neighbours.proofs.Built.{Building, listed-few, building-more, building-done}
+use Rattle.moves.proofs.Table.{listed-few}
+use Rattle.neighbours.proofs.Built.{Building, building-more, building-done}
 use borrow.Author.Needs.{needs}
 use Rattle.neighbours.proofs.reach_of.Statement.{statement}
 use Rattle.neighbours.proofs.reach_of.Tie as tie

@@ -2,7 +2,7 @@
 -- at v. Assumes nothing.
 use borrow.Author.Needs.{needs}
 use native.Mathlib.Omega.{arith}
-use mathlib.Core.Path.{_≡_, ap}
+use mathlib.Core.Path.{ap}
 use Prim.Native.Nat.{_+_, _-_, _*_, _<_}
 use Rattle.floor.specs.Floor.{floorOf, vertices}
 use Rattle.distances.proofs.MaskRows.{Stepping, stepping-start, stepping-on, masks-all}
