@@ -5,7 +5,6 @@ use mathlib.Core.List.{List}
 use lib.ListN.{length}
 use Rattle.floor.specs.declared.Refusal.{Refusal}
 use Rattle.floor.specs.declared.Shape.the-variants.{Good, Refused}
-use Rattle.floor.proofs.Shapes.{good-floor}
 use Rattle.closures.specs.Plain.{
   lowestFree,
   leftBy,
@@ -73,5 +72,4 @@ module _ (t : Closures) (base work : List ℕ) where
   pub good-lent : workShape (t .width) (t .height) base (length work) ≡ Good → Lent t base work
   good-lent e =
       let g = good-work (t .width) (t .height) base (length work) e in
-      let f = good-floor (t .width) (t .height) base (g .0) in
-      record { wide = f .wide-pos; map = f .sized .size; same = g .1 ∙ sym (f .sized .size) }
+      record { good = g .0; same = g .1 }

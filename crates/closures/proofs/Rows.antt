@@ -1,165 +1,124 @@
--- A rectangle written on a map: row after row, each row a span of places; and its part that lies on the floor.
+-- A rectangle on a map: its cells blocked row after row, and its part that lies on the floor.
 --
---   Filling a b l c s     == s is the list l with 1 at the places from a up to c, of those up to b
---   Rows r w old end j s  == of the rows of r, which end before row `end`, those before row j are marked in s
-use Prim.Native.Nat.{ℕ, suc, _+_, _-_, _*_, _/_, _%_, _≤_, _<_, min}
-use mathlib.Core.Path.{_≡_, refl, sym, ap, ap₂, subst, _∙_}
-use mathlib.Core.Bool.{Bool, false, _&&_}
+--   coversTo r n            == what the rows of r before row n cover
+--   Rows r w h old end j s  == s is the map old, of a floor of width w and height h, blocked also where the rows of r
+--                              before row j cover; its last row is before row `end`
+use Prim.Native.Nat.{ℕ, _+_, _-_, _≤_, _<_, min}
+use mathlib.Core.Path.{_≡_, refl, sym, ap, ap₂, _∙_}
+use mathlib.Core.Bool.{Bool, true, false, _&&_, _||_, and-true, and-false, or-false}
 use mathlib.Core.Logic.{⊎-elim}
 use mathlib.Core.List.{List}
 use mathlib.Core.Option.{some}
 use native.Mathlib.Omega.{arith}
-use native.Mathlib.Nat.{mod-lt, mul-le-mul, div-lt-iff-lt-mul, le-div-iff-mul-le}
-use borrow.Author.Tests.{le-leb, lt-leb, lt-ltb, le-ltb}
-use lib.Arith.{digits-div, digits-mod}
+use borrow.Author.Tests.{le-leb, lt-leb, lt-ltb, le-ltb, eq-eqb, ne-eqb}
 use lib.Dec.{leb, ltb}
-use lib.ListN.{length, getD, set, length-set}
-use lib.Seq.{getD-set-same, getD-set-other}
-use Rattle.basics.specs.Bounded.{pick}
-use Rattle.basics.specs.Lists.{tabulate}
+use lib.ListN.{length}
 use Rattle.basics.proofs.Order.{le-or-lt, eq-or-ne}
-use Rattle.basics.proofs.Lists.{tabulate-of, tabulate-cong}
-use Rattle.closures.specs.Plain.{covers}
-use Rattle.closures.specs.Known.{Filled, OnMap, clipped, markedBy}
-use Rattle.closures.specs.declared.Rectangle.{Rectangle}
-use Rattle.closures.proofs.Shapes.{left-of, right-of, above-of, below-of, inside-of}
-use Rattle.closures.proofs.Marks.{Rewriting}
-
--- A span of places filled with 1.
-pub record Filling (a b : ℕ) (l : List ℕ) (c : ℕ) (s : List ℕ) : Type 0 where
-  pub from : a ≤ c
-  pub within : c ≤ b
-  pub fits : b ≤ length l
-  pub filled : Filled a c l s
-
-pub filling-none : {a b : ℕ} (l : List ℕ) → a ≤ b → b ≤ length l → Filling a b l a l
-filling-none {a} {b} l p q = record {
-  from = omega arith;
-  within = p;
-  fits = q;
-  filled = record { len = refl; before = λ k i. refl; inside = λ k i j. absurd (omega arith); after = λ k i. refl };
+use Rattle.floor.specs.Floor.{cellNumber, floorOf, mapOf, withBlocked, blockedFrom}
+use Rattle.floor.specs.Refusals.{floorShape}
+use Rattle.floor.specs.declared.Shape.the-variants.{Good}
+use Rattle.floor.proofs.Maps.{
+  map-same,
+  blocked-more,
+  inRow,
+  blocked-none,
+  blocked-good,
+  blocked-length,
+  blocked-row,
 }
+use Rattle.closures.specs.Plain.{covers}
+use Rattle.closures.specs.Known.{OnFloor, clipped, Marked}
+use Rattle.closures.specs.declared.Rectangle.{Rectangle}
+use Rattle.closures.proofs.Shapes.{above-of, below-of}
 
-pub filling-more : {a b c : ℕ} {l s : List ℕ} → Filling a b l c s → c < b → Filling a b l (c + 1) (set s c 1)
-filling-more {a} {b} {c} {l} {s} h p =
-    let f = h .filled in
-    let q : c < length s = omega (arith, h .fits, f .len) in
-    record {
-      from = omega (arith, h .from);
-      within = omega arith;
-      fits = h .fits;
-      filled = record {
-        len = simp length-set (f .len);
-        before = λ k i. getD-set-other s c k 1 0 (λ e. omega (arith, h .from)) ∙ f .before k i;
-        inside = λ k i j. ⊎-elim
-            (λ (e : k ≡ c). rw e (getD-set-same s c 1 0 q))
-            (λ (e : k ≡ c → ⊥). getD-set-other s c k 1 0 e ∙ f .inside k i (under k j e))
-            (eq-or-ne k c);
-        after = λ k i. getD-set-other s c k 1 0 (λ e. omega arith) ∙ f .after k (omega arith);
-      };
-    }
-  where
-    under : (k : ℕ) → k < c + 1 → (k ≡ c → ⊥) → k < c
-    under k j e = omega arith
+abbrev coversTo : Rectangle → ℕ → ℕ → ℕ → Bool
+coversTo r n i j = covers r i j && ltb j n
 
-pub filling-done : {a b c : ℕ} {l s : List ℕ} → Filling a b l c s → b ≤ c → Filled a b l s
-filling-done {a} {b} {c} {l} {s} h p =
-    let e : c ≡ b = omega (arith, h .within) in
-    rw e at (h .filled)
-
--- The rows of a rectangle: with those before row j marked, the places before j * w are as they shall be.
-pub record Rows (r : Rectangle) (w : ℕ) (old : List ℕ) (end j : ℕ) (s : List ℕ) : Type 0 where
+pub record Rows (r : Rectangle) (w h : ℕ) (old : List ℕ) (end j : ℕ) (s : List ℕ) : Type 0 where
   pub last : end ≡ r .row + r .rows
   pub from : r .row ≤ j
-  pub marked : Rewriting (markedBy (some r) w old) old (length old) (j * w) s
+  pub within : j ≤ end
+  pub at : s ≡ mapOf (withBlocked (floorOf w h old) (coversTo r j))
 
-module _ (r : Rectangle) (w : ℕ) (old : List ℕ) (on : OnMap r w old) where
-  abbrev byte : ℕ → ℕ
-  byte = markedBy (some r) w old
+no-row : (r : Rectangle) (i j : ℕ) → false ≡ coversTo r (r .row) i j
+no-row r i j = ⊎-elim
+    (λ (p : r .row ≤ j). sym (rw (le-ltb j (r .row) p) (and-false (covers r i j))))
+    (λ (p : j < r .row). sym (ap (λ b. b && ltb j (r .row)) (above-of r i j p)))
+    (le-or-lt (r .row) j)
 
-  uncovered : (k : ℕ) → covers r (k % w) (k / w) ≡ false → byte k ≡ getD old k 0
-  unfolding markedBy
-  uncovered k e = rw e
+this-row : (r : Rectangle) (n i : ℕ) → r .row ≤ n → n < r .row + r .rows
+    → (coversTo r n i n || inRow (r .column) n (r .columns) i n) ≡ coversTo r (n + 1) i n
+unfolding covers
+this-row r n i p q =
+    rw (
+      le-ltb n n (omega arith),
+      lt-ltb n (n + 1) (omega arith),
+      eq-eqb n n refl,
+      le-leb (r .row) n p,
+      lt-ltb n (r .row + r .rows) q,
+      and-false ((leb (r .column) i && ltb i (r .column + r .columns)) && true),
+      and-true (leb (r .column) i && ltb i (r .column + r .columns)),
+    ) (sym (and-true (leb (r .column) i && ltb i (r .column + r .columns))))
 
-  byte-at : (i j : ℕ) → i < w → byte (j * w + i) ≡ pick (covers r i j) 1 (getD old (j * w + i) 0)
-  unfolding markedBy
-  byte-at i j l =
-      ap₂ (λ x y. pick (covers r x y) 1 (getD old (j * w + i) 0)) (digits-mod j {m = w} {r = i} l)
-      (digits-div j {m = w} {r = i} l)
+one-row-more : (r : Rectangle) (n i j : ℕ) → r .row ≤ n → n < r .row + r .rows
+    → (coversTo r n i j || inRow (r .column) n (r .columns) i j) ≡ coversTo r (n + 1) i j
+one-row-more r n i j p q = ⊎-elim
+    (λ (e : j ≡ n). rw e (this-row r n i p q))
+    (λ (e : j ≡ n → ⊥). rw (ne-eqb j n e) (or-false (coversTo r n i j) ∙ ap (λ b. covers r i j && b) (other e)))
+    (eq-or-ne j n)
+  where
+    other : (j ≡ n → ⊥) → ltb j n ≡ ltb j (n + 1)
+    other e = ⊎-elim
+        (λ (a : n ≤ j). le-ltb j n a ∙ sym (le-ltb j (n + 1) (omega arith)))
+        (λ (a : j < n). lt-ltb j n a ∙ sym (lt-ltb j (n + 1) (omega arith)))
+        (le-or-lt n j)
 
-  rows-within : (j : ℕ) → j ≤ r .row + r .rows → j * w ≤ length old
-  rows-within j l =
-      omega (arith, on .rows, mul-le-mul {n₁ = j} {m₁ = w} {n₂ = r .row + r .rows} {m₂ = w} l (omega arith))
+all-rows : (r : Rectangle) (n i j : ℕ) → n ≡ r .row + r .rows → coversTo r n i j ≡ covers r i j
+all-rows r n i j e = ⊎-elim
+    (λ (p : n ≤ j). rw (below-of r i j (omega arith)))
+    (λ (p : j < n). rw (lt-ltb j n p) (and-true (covers r i j)))
+    (le-or-lt n j)
 
-  pub rows-fit : r .row + r .rows ≤ length old
-  rows-fit =
-      let n = r .row + r .rows in
-      omega (arith, on .rows, mul-le-mul {n₁ = n} {m₁ = 1} {n₂ = n} {m₂ = w} (omega arith) (on .wide))
-
-  pub rows-none : (end : ℕ) → end ≡ r .row + r .rows → Rows r w old end (r .row) old
+module _ (r : Rectangle) (w h : ℕ) (old : List ℕ) (good : floorShape w h old ≡ Good) where
+  pub rows-none : (end : ℕ) → end ≡ r .row + r .rows → Rows r w h old end (r .row) old
   rows-none end e = record {
     last = e;
     from = omega arith;
-    marked = record {
-      end = refl;
-      within = rows-within (r .row) (omega arith);
-      len = refl;
-      done = λ k l. sym (uncovered k (above-of r (k % w) (k / w)
-          (div-lt-iff-lt-mul {k = w} {x = k} {y = r .row} (on .wide) .1 l)));
-      rest = λ k l. refl;
-    };
+    within = omega arith;
+    at =
+        blocked-none w h old good
+        ∙ map-same w h _ _ (λ i j a b. ap (λ t. floorOf w h old .cell i j || t) (no-row r i j));
   }
 
-  pub rows-done : {s : List ℕ} {end j : ℕ} → Rows r w old end j s → end ≤ j → s ≡ tabulate (length old) byte
-  rows-done {s} {end} {j} g l =
-      let m = g .marked in
-      tabulate-of (length old) s byte (m .len) (λ k i. ⊎-elim
-      (λ (p : j * w ≤ k). m .rest k p ∙ sym (uncovered k (below-of r (k % w) (k / w)
-      (omega (arith, g .last, le-div-iff-mul-le {k = w} {x = j} {y = k} (on .wide) .1 p)))))
-      (λ (p : k < j * w). m .done k p)
-      (le-or-lt (j * w) k))
+  module _ {end j : ℕ} {s : List ℕ} (g : Rows r w h old end j s) where
+    pub rows-good : floorShape w h s ≡ Good
+    rows-good = rw (g .at) (blocked-good w h old good (coversTo r j))
 
-  -- One row more: the span of the row is filled.
-  module _ {end j : ℕ} {s : List ℕ} (g : Rows r w old end j s) (b : j < end) where
-    pub row-fits : j * w + r .column + r .columns ≤ length old
-    row-fits = omega (arith, on .columns, rows-within (suc j) (omega (arith, g .last)))
+    pub rows-length : length s ≡ length old
+    rows-length = ap length (g .at) ∙ blocked-length w h old good (coversTo r j)
 
-    module _ (s′ : List ℕ) (m : Filled (j * w + r .column) (j * w + r .column + r .columns) s s′) where
-      cell : (i : ℕ) → i < w → getD s′ (j * w + i) 0 ≡ byte (j * w + i)
-      cell i l =
-          ⊎-elim
-          (λ (p : r .column ≤ i). ⊎-elim
-          (λ (q : r .column + r .columns ≤ i). m .after (j * w + i) (omega arith) ∙ same (right-of r i j q))
-          (λ (q : i < r .column + r .columns). m .inside (j * w + i) (omega arith) (omega arith)
-          ∙ is (inside-of r i j p q (g .from) (omega (arith, g .last))))
-          (le-or-lt (r .column + r .columns) i))
-          (λ (p : i < r .column). m .before (j * w + i) (omega arith) ∙ same (left-of r i j p))
-          (le-or-lt (r .column) i)
-        where
-          is : {t : Bool} → covers r i j ≡ t → pick t 1 (getD old (j * w + i) 0) ≡ byte (j * w + i)
-          is e = sym (byte-at i j l ∙ ap (λ t. pick t 1 (getD old (j * w + i) 0)) e)
+    pub rows-done : end ≤ j → Marked (some r) w h old s
+    rows-done l =
+        g .at ∙ map-same w h _ _ (λ x y a b.
+        ap (λ t. floorOf w h old .cell x y || t) (all-rows r j x y (omega (arith, g .within, g .last))))
 
-          same : covers r i j ≡ false → getD s (j * w + i) 0 ≡ byte (j * w + i)
-          same e = g .marked .rest (j * w + i) (omega arith) ∙ is e
-
-      pub rows-more : Rows r w old end (j + 1) s′
-      rows-more = record {
-        last = g .last;
-        from = omega (arith, g .from);
-        marked = record {
-          end = refl;
-          within = rows-within (j + 1) (omega (arith, g .last));
-          len = m .len ∙ g .marked .len;
-          done = λ k l. ⊎-elim
-              (λ (p : j * w ≤ k). subst (λ t. getD s′ t 0 ≡ byte t) (back k p) (cell (k - j * w) (omega arith)))
-              (λ (p : k < j * w). m .before k (omega arith) ∙ g .marked .done k p)
-              (le-or-lt (j * w) k);
-          rest = λ k l. m .after k (omega (arith, on .columns)) ∙ g .marked .rest k (omega arith);
-        };
-      }
-        where
-          back : (k : ℕ) → j * w ≤ k → j * w + (k - j * w) ≡ k
-          back k p = omega arith
+    -- One row more is blocked.
+    pub rows-more : OnFloor r w h → j < end → (first : ℕ) (left : List ℕ) → first ≡ cellNumber w (r .column) j
+        → left ≡ blockedFrom first (r .columns) s → Rows r w h old end (j + 1) left
+    rows-more on b first left q e =
+        let row = inRow (r .column) j (r .columns) in
+        record {
+          last = g .last;
+          from = omega (arith, g .from);
+          within = omega arith;
+          at =
+              e ∙ ap (λ n. blockedFrom n (r .columns) s) q
+              ∙ blocked-row w h s rows-good (r .column) j (r .columns) (on .columns)
+              ∙ ap (λ l. mapOf (withBlocked (floorOf w h l) row)) (g .at)
+              ∙ blocked-more (floorOf w h old) (coversTo r j) row
+              ∙ map-same w h _ _ (λ x y a c.
+              ap (λ t. floorOf w h old .cell x y || t) (one-row-more r j x y (g .from) (omega (arith, g .last))));
+        }
 
 -- The part of a rectangle on the floor covers the same cells of the floor.
 clipped-from : (a n i : ℕ) → i < n → leb (min a n) i ≡ leb a i
@@ -184,23 +143,9 @@ module _ (r : Rectangle) (w h : ℕ) where
       (ap₂ _&&_ (clipped-from (r .column) w i p) (clipped-end (r .column) (r .columns) w i p))
       (ap₂ _&&_ (clipped-from (r .row) h j q) (clipped-end (r .row) (r .rows) h j q))
 
-  module _ (l : List ℕ) (wide : 1 ≤ w) (size : length l ≡ w * h) where
-    pub clipped-on : OnMap (clipped w h r) w l
-    clipped-on = record {
-      wide = wide;
-      columns = omega arith;
-      rows =
-          omega (
-            arith,
-            mul-le-mul {n₁ = clipped w h r .row + clipped w h r .rows} {m₁ = w} {n₂ = h} {m₂ = w}
-                (omega arith) (omega arith),
-          );
-    }
+  pub clipped-on : OnFloor (clipped w h r) w h
+  clipped-on = record { columns = omega arith; rows = omega arith }
 
-    pub clipped-marked : tabulate (length l) (markedBy (some (clipped w h r)) w l)
-        ≡ tabulate (length l) (markedBy (some r) w l)
-    unfolding markedBy
-    clipped-marked =
-        tabulate-cong (length l) (markedBy (some (clipped w h r)) w l) (markedBy (some r) w l) (λ k i.
-        ap (λ t. pick t 1 (getD l k 0)) (clipped-covers (k % w) (k / w) (mod-lt k wide)
-        (div-lt-iff-lt-mul {k = w} {x = k} {y = h} wide .1 (omega arith))))
+  pub clipped-marked : (l left : List ℕ) → Marked (some (clipped w h r)) w h l left → Marked (some r) w h l left
+  clipped-marked l left e =
+      e ∙ map-same w h _ _ (λ i j a b. ap (λ t. floorOf w h l .cell i j || t) (clipped-covers i j a b))

@@ -1,10 +1,11 @@
 -- The refusals: what each test of the code says of the shapes, and what a good shape gives.
-use Prim.Native.Nat.{ℕ, _+_, _*_, _≤_, _<_}
+use Prim.Native.Nat.{ℕ, _+_, _≤_, _<_}
 use mathlib.Core.Path.{_≡_}
 use mathlib.Core.Bool.{true, false, _&&_, not, and-false}
 use mathlib.Core.List.{List}
 use borrow.Author.Tests.{le-leb, lt-leb, lt-ltb, le-ltb, ltb-true, eq-eqb, ne-eqb, eqb-true}
 use lib.Dec.{leb, ltb, eqb}
+use lib.ListN.{length}
 use Rattle.basics.specs.Bounded.{pick}
 use Rattle.basics.proofs.Bools.{and-left}
 use Rattle.floor.specs.Refusals.{sidesShape, floorShape}
@@ -61,14 +62,6 @@ module _ (w h : ℕ) (r : Rectangle) where
             )
 
 module _ (r : Rectangle) (i j : ℕ) where
-  pub left-of : i < r .column → covers r i j ≡ false
-  unfolding covers
-  left-of a = rw (lt-leb (r .column) i a)
-
-  pub right-of : r .column + r .columns ≤ i → covers r i j ≡ false
-  unfolding covers
-  right-of a = rw (le-ltb i (r .column + r .columns) a, and-false (leb (r .column) i))
-
   pub above-of : j < r .row → covers r i j ≡ false
   unfolding covers
   above-of a = rw (lt-leb (r .row) j a, and-false (leb (r .column) i && ltb i (r .column + r .columns)))
@@ -80,16 +73,6 @@ module _ (r : Rectangle) (i j : ℕ) where
         le-ltb j (r .row + r .rows) a,
         and-false (leb (r .row) j),
         and-false (leb (r .column) i && ltb i (r .column + r .columns)),
-      )
-
-  pub inside-of : r .column ≤ i → i < r .column + r .columns → r .row ≤ j → j < r .row + r .rows → covers r i j ≡ true
-  unfolding covers
-  inside-of a b c d =
-      rw (
-        le-leb (r .column) i a,
-        lt-ltb i (r .column + r .columns) b,
-        le-leb (r .row) j c,
-        lt-ltb j (r .row + r .rows) d,
       )
 
 module _ (w h : ℕ) (m : Plain) (r : Rectangle) where
@@ -148,17 +131,17 @@ module _ (w h : ℕ) (base : List ℕ) (n : ℕ) where
   work-floor e = then-refused (floorShape w h base) _ e
 
   module _ (a : floorShape w h base ≡ Good) where
-    pub work-other : (n ≡ w * h → ⊥) → Refused SliceLength ≡ workShape w h base n
+    pub work-other : (n ≡ length base → ⊥) → Refused SliceLength ≡ workShape w h base n
     unfolding workShape
-    work-other b = rw (a, ne-eqb n (w * h) b)
+    work-other b = rw (a, ne-eqb n (length base) b)
 
-    pub work-same : n ≡ w * h → Good ≡ workShape w h base n
+    pub work-same : n ≡ length base → Good ≡ workShape w h base n
     unfolding workShape
-    work-same b = rw (a, eq-eqb n (w * h) b)
+    work-same b = rw (a, eq-eqb n (length base) b)
 
-  pub good-work : workShape w h base n ≡ Good → (floorShape w h base ≡ Good) × (n ≡ w * h)
+  pub good-work : workShape w h base n ≡ Good → (floorShape w h base ≡ Good) × (n ≡ length base)
   unfolding workShape
   good-work e = (
     good-first (floorShape w h base) _ e,
-    eqb-true n (w * h) (good-pick SliceLength (eqb n (w * h)) (good-second (floorShape w h base) _ e)),
+    eqb-true n (length base) (good-pick SliceLength (eqb n (length base)) (good-second (floorShape w h base) _ e)),
   )

@@ -17,19 +17,19 @@
 --   coveredBy s i j         == a slot that holds s covers that cell
 --   closedBy m i j          == some closure that m holds covers that cell
 --   workShape w h base n    == refusals 1, 2, 3 and then 6 of writing the working map into a slice of n places
---   workingMap w h base m   == 1 where a closure that m holds covers the cell, else the byte of the base map
+--   workingMap w h base m   == the map of the base map's floor, blocked also where any closure that m holds covers
 --   workAnswer, workLeft    == what the writing answers, and the slice afterwards; at a refusal the same slice
 --   postingOf, strikingOf, writingOf    == the answer for a shape
 --   postNumber, strikeNumber, workNumber == the papers' number of an answer: 0, or that of the refusal
 --   postSlot p              == the slot that post answers; 0 at a refusal
-use Prim.Native.Nat.{ℕ, _+_, _*_, _/_, _%_}
+use Prim.Native.Nat.{ℕ, _+_}
 use mathlib.Core.Bool.{Bool, true, false, _&&_, not}
 use mathlib.Core.List.{List}
 use mathlib.Core.Option.{Option, none, some}
 use lib.Dec.{leb, ltb, eqb}
-use lib.ListN.{length, getD}
+use lib.ListN.{length}
 use Rattle.basics.specs.Bounded.{pick, any, seek}
-use Rattle.basics.specs.Lists.{tabulate}
+use Rattle.floor.specs.Floor.{floorOf, mapOf, withBlocked}
 use Rattle.floor.specs.Refusals.{refusalNumber, sidesShape, floorShape, andThen}
 use Rattle.floor.specs.declared.Refusal.the-variants.{SliceLength, ClosureBounds, SlotsFull, SlotEmpty}
 use Rattle.floor.specs.declared.Shape.{Shape}
@@ -120,11 +120,10 @@ unfoldable pub closedBy : Plain → ℕ → ℕ → Bool
 closedBy m i j = any 16 (λ k. coveredBy (m k) i j)
 
 unfoldable pub workShape : ℕ → ℕ → List ℕ → ℕ → Shape
-workShape w h base n = andThen (floorShape w h base) (pick (eqb n (w * h)) Good (Refused SliceLength))
+workShape w h base n = andThen (floorShape w h base) (pick (eqb n (length base)) Good (Refused SliceLength))
 
--- Cell c stands in column c % w and row c / w.
-unfoldable pub workingMap : ℕ → ℕ → List ℕ → Plain → List ℕ
-workingMap w h base m = tabulate (w * h) (λ c. pick (closedBy m (c % w) (c / w)) 1 (getD base c 0))
+abbrev pub workingMap : ℕ → ℕ → List ℕ → Plain → List ℕ
+workingMap w h base m = mapOf (withBlocked (floorOf w h base) (closedBy m))
 
 abbrev pub writingOf : Shape → Writing
 writingOf Good = Written

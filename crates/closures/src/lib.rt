@@ -1,12 +1,13 @@
 // Closures of a floor: sixteen slots, each a rectangle or free. Post, strike, and the map with the closures on it.
 ghost use mathlib.Core.Path.{_≡_};
 ghost use mathlib.Core.Option.{some};
-ghost use Prim.Native.Nat.{_*_, _≤_, _<_, min};
-ghost use lib.ListN.{length};
+ghost use Prim.Native.Nat.{_<_, min};
+ghost use Rattle.floor.specs.Refusals.{floorShape};
+ghost use Rattle.floor.specs.declared.Shape.the-variants.{Good};
 ghost use Rattle.closures.specs.Plain.{isFree, lowestFree, within, postShape, strikeShape, workShape, workingMap};
 ghost use Rattle.closures.specs.Plain.{postNumber, postSlot, strikeNumber, workNumber};
 ghost use Rattle.closures.specs.Table.{held, withSlot, emptyTable, Posts, Strikes, Writes};
-ghost use Rattle.closures.specs.Known.{Lent, Filled, OnMap, clipped, Marked};
+ghost use Rattle.closures.specs.Known.{Lent, OnFloor, clipped, Marked};
 use floor::Refusal;
 use floor::Shape;
 
@@ -260,24 +261,13 @@ fn lesser(a: usize, b: usize) -> usize
     b
 }
 
-// Writes 1 at the places from `first` up to `end`.
-fn fill(first: usize, end: usize, work: &mut [u8])
-    requires { ⌜ (first ≤ end) × (end ≤ length (now work)) ⌝ }
-    ensures { λ _. ⌜ Filled first end (now (work .entry)) (now (work .exit)) ⌝ }
-{
-    for c in first..end {
-        work[c] = 1;
-    }
-}
-
-// Marks the cells of a rectangle, row after row, in a map of a floor of width w that has them all.
-fn mark(r: Rectangle, w: usize, work: &mut [u8])
-    requires { ⌜ OnMap r w (now work) ⌝ }
-    ensures { λ _. ⌜ Marked (some r) w (now (work .entry)) (now (work .exit)) ⌝ }
+// Blocks the cells of a rectangle, row after row, in the map of a floor that has them all.
+fn mark(r: Rectangle, w: usize, h: usize, work: &mut [u8])
+    requires { ⌜ (floorShape w h (now work) ≡ Good) × OnFloor r w h ⌝ }
+    ensures { λ _. ⌜ Marked (some r) w h (now (work .entry)) (now (work .exit)) ⌝ }
 {
     for j in r.row..r.row + r.rows {
-        let first = j * w + r.column;
-        fill(first, first + r.columns, work);
+        floor::block_cells(work, floor::cell_at(w, r.column, j), r.columns);
     }
 }
 
@@ -295,27 +285,23 @@ fn clip(r: Rectangle, w: usize, h: usize) -> Rectangle
     }
 }
 
-// Marks the cells of the closure in slot k, if it holds one. Of a rectangle that leaves the floor, as a table filled by
-// hand may hold, it marks the part on the floor.
+// Blocks the cells of the closure in slot k, if it holds one. Of a rectangle that leaves the floor, as a table filled by
+// hand may hold, it blocks the part on the floor.
 fn mark_slot(table: Closures, k: usize, work: &mut [u8])
-    requires { ⌜ (k < 16) × (1 ≤ table .width) × (length (now work) ≡ table .width * table .height) ⌝ }
-    ensures { λ _. ⌜ Marked (held table k) (table .width) (now (work .entry)) (now (work .exit)) ⌝ }
+    requires { ⌜ (k < 16) × (floorShape (table .width) (table .height) (now work) ≡ Good) ⌝ }
+    ensures { λ _.
+        ⌜ Marked (held table k) (table .width) (table .height) (now (work .entry)) (now (work .exit)) ⌝ }
 {
     let slot = table.slots[k];
     let hold = slot.hold;
     match hold {
         Hold::Free => {}
-        Hold::Held(r) => mark(clip(r, table.width, table.height), table.width, work),
-    }
-}
-
-// Copies a map.
-fn copy_map(base: &[u8], work: &mut [u8])
-    requires { ⌜ length (now work) ≡ length (now base) ⌝ }
-    ensures { λ _. ⌜ now (work .exit) ≡ now (base .entry) ⌝ }
-{
-    for c in 0..base.len() {
-        work[c] = base[c];
+        Hold::Held(r) => mark(
+            clip(r, table.width, table.height),
+            table.width,
+            table.height,
+            work,
+        ),
     }
 }
 
@@ -324,7 +310,7 @@ fn mark_all(table: Closures, base: &[u8], work: &mut [u8])
     requires { ⌜ Lent table (now base) (now work) ⌝ }
     ensures { λ _. ⌜ now (work .exit) ≡ workingMap (table .width) (table .height) (now (base .entry)) (held table) ⌝ }
 {
-    copy_map(base, work);
+    floor::copy_map(base, work);
     for k in 0..16 {
         mark_slot(table, k, work);
     }

@@ -1,11 +1,12 @@
 // The floor: cells and vertices, what a cell reads as, and the refusals over the shape of a floor and of an end.
 ghost use mathlib.Core.Path.{_≡_};
-ghost use Prim.Native.Nat.{suc, _+_, _-_, _*_, _<_, _≤_, max};
+ghost use Prim.Native.Nat.{suc, _+_, _-_, _<_, _≤_, max};
 ghost use lib.ListN.{length, getD};
 ghost use lib.Dec.{eqb};
 ghost use mathlib.Core.Bool.{not};
 ghost use Rattle.basics.specs.Bounded.{every};
-ghost use Rattle.floor.specs.Floor.{Sized, floorOf, blocked, vertices, number, column, row};
+ghost use Rattle.floor.specs.Floor.{Sized, cellNumber, floorOf, blockedFrom, blocked};
+ghost use Rattle.floor.specs.Floor.{vertices, number, column, row};
 ghost use Rattle.floor.specs.Refusals.{refusalNumber, sidesShape, floorShape, endShape, mapByte};
 
 // The number of a cell: column + row * W.
@@ -58,16 +59,24 @@ pub fn refusal_number(r: Refusal) -> u8
     }
 }
 
+// The cell in column i and row j.
+pub fn cell_at(w: usize, i: usize, j: usize) -> Cell
+    requires { ⌜ (w ≤ 127) × (i ≤ 127) × (j ≤ 127) ⌝ }
+    ensures { λ c. ⌜ c .0 ≡ cellNumber w i j ⌝ }
+{
+    Cell(j * w + i)
+}
+
 // The cell that has the vertex (x, y) as its lower right corner.
 fn cell_before(w: usize, h: usize, map: &[u8], x: usize, y: usize) -> Cell
     requires { ⌜ Sized w h (now map) × (1 ≤ x) × (x ≤ w) × (1 ≤ y) × (y ≤ h) ⌝ }
-    ensures { λ c. ⌜ (c .0 ≡ (y - 1) * w + (x - 1)) × (c .0 < length (now (map .entry))) ⌝ }
+    ensures { λ c. ⌜ (c .0 ≡ cellNumber w (x - 1) (y - 1)) × (c .0 < length (now (map .entry))) ⌝ }
 {
-    Cell((y - 1) * w + (x - 1))
+    cell_at(w, x - 1, y - 1)
 }
 
-// Whether a cell of the map is blocked. Besides `floor_shape`, which tests length and bytes, this is the one place that
-// knows how a map is stored.
+// Whether a cell of the map is blocked. Only this, `block_cells`, `copy_map` and `floor_shape`, which tests length and
+// bytes, know how a map is stored.
 fn is_blocked(map: &[u8], c: Cell) -> bool
     requires { ⌜ c .0 < length (now map) ⌝ }
     ensures { λ r. ⌜ r ≡ not (eqb (getD (now (map .entry)) (c .0) 0) 0) ⌝ }
@@ -94,6 +103,27 @@ pub fn blocked_at(w: usize, h: usize, map: &[u8], x: usize, y: usize) -> bool
         return true;
     }
     is_blocked(map, cell_before(w, h, map, x, y))
+}
+
+// Blocks `count` cells of the map, from cell `first` on.
+pub fn block_cells(map: &mut [u8], first: Cell, count: usize)
+    requires { ⌜ first .0 + count ≤ length (now map) ⌝ }
+    ensures { λ _. ⌜ now (map .exit) ≡ blockedFrom (first .0) count (now (map .entry)) ⌝ }
+{
+    let from = first.0;
+    for at in from..from + count {
+        map[at] = 1;
+    }
+}
+
+// Copies a map.
+pub fn copy_map(base: &[u8], map: &mut [u8])
+    requires { ⌜ length (now map) ≡ length (now base) ⌝ }
+    ensures { λ _. ⌜ now (map .exit) ≡ now (base .entry) ⌝ }
+{
+    for at in 0..base.len() {
+        map[at] = base[at];
+    }
 }
 
 // The number of vertices, V.

@@ -3,7 +3,14 @@ use Prim.Native.Nat.{_-_}
 use mathlib.Core.Path.{sym, _∙_}
 use native.Mathlib.Omega.{arith}
 use borrow.Author.Needs.{needs}
-use Rattle.closures.proofs.Marks.{Marking, marking-none, marking-more, marking-done}
+use Rattle.closures.proofs.Marks.{
+  Marking,
+  marking-good,
+  marking-length,
+  marking-none,
+  marking-more,
+  marking-done,
+}
 use Rattle.closures.proofs.mark_all.Statement.{statement}
 use Rattle.closures.proofs.mark_all.Tie as tie
 
@@ -19,10 +26,10 @@ copy-map-requires c κs = search needs
 loop-holds : tie.Need-loop-holds Inv-loop μ-loop
 loop-holds c =
     let s = c .before .before .before .before .before .before in
-    marking-none (s .args .table) (s .args .base .now) _ (s .pre .map) (c .before .before .copy-map .ensures)
+    marking-none (s .args .table) (s .args .base .now) _ (s .pre .good) (c .before .before .copy-map .ensures)
 
 mark-slot-requires : tie.Need-mark-slot-requires Inv-loop μ-loop
-mark-slot-requires c κs = search needs
+mark-slot-requires c κs = (omega arith, marking-good (c .before .before .loop .inv))
 
 add-k : tie.Need-add-k Inv-loop μ-loop
 add-k c = omega arith
@@ -38,7 +45,7 @@ loop-again c =
 same-length : tie.Need-same-length Inv-loop μ-loop
 same-length c =
     let s = c .before .before .before .before .before .before .before .before in
-    c .before .loop .inv .len ∙ sym (s .pre .same ∙ s .pre .map)
+    marking-length (c .before .loop .inv) ∙ sym (s .pre .same)
 
 returns : tie.Need-returns Inv-loop μ-loop
 returns c = marking-done (c .before .loop .inv) (omega arith)

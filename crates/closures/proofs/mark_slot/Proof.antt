@@ -2,10 +2,9 @@
 -- floor is marked. Assumes nothing.
 use mathlib.Core.Path.{sym, ap, _∙_}
 use mathlib.Core.Option.{some}
-use lib.ListN.{length}
-use Rattle.basics.specs.Lists.{tabulate}
+use Rattle.floor.specs.Floor.{floorOf, mapOf, withBlocked}
+use Rattle.closures.specs.Plain.{coveredBy}
 use Rattle.closures.specs.Table.{heldIn, held}
-use Rattle.closures.specs.Known.{markedBy}
 use Rattle.closures.proofs.Marks.{unmarked}
 use Rattle.closures.proofs.Rows.{clipped-on, clipped-marked}
 use borrow.Author.Needs.{needs}
@@ -31,13 +30,13 @@ mark-requires : tie.Need-mark-requires
 mark-requires c κs =
     let s = c .before .before .before .before .before .before .before in
     rw (c .before .clip .ensures)
-    (clipped-on _ (s .args .t1 .width) (s .args .t1 .height) (s .args .work .now) (s .pre .1) (s .pre .2))
+    (s .pre .1, clipped-on _ (s .args .t1 .width) (s .args .t1 .height))
 
 returns : tie.Need-returns
 returns c =
     let s = c .before .before .before .before in
-    unmarked (held (s .args .t1) (s .args .k)) (s .args .t1 .width) (s .args .work .now)
-    (ap heldIn (c .enum-told .given .1))
+    unmarked (held (s .args .t1) (s .args .k)) (s .args .t1 .width) (s .args .t1 .height) (s .args .work .now)
+    (s .pre .1) (ap heldIn (c .enum-told .given .1))
 
 same-length : tie.Need-same-length
 same-length c = search needs
@@ -46,11 +45,12 @@ returns-2 : tie.Need-returns-2
 returns-2 c =
     let s = c .before .before .before .before .before .before .before .before .before .before in
     let w = s .args .t1 .width in
+    let h = s .args .t1 .height in
     let l = s .args .work .now in
-    c .before .before .mark .ensures
-    ∙ ap (λ r. tabulate (length l) (markedBy (some r) w l)) (c .before .before .before .before .clip .ensures)
-    ∙ clipped-marked _ w (s .args .t1 .height) l (s .pre .1) (s .pre .2)
-    ∙ ap (λ x. tabulate (length l) (markedBy (heldIn x) w l))
+    clipped-marked _ w h l _ (c .before .before .mark .ensures
+    ∙ ap (λ r. mapOf (withBlocked (floorOf w h l) (coveredBy (some r))))
+    (c .before .before .before .before .clip .ensures))
+    ∙ ap (λ x. mapOf (withBlocked (floorOf w h l) (coveredBy (heldIn x))))
     (sym (c .before .before .before .before .before .before .hold .given .1))
 
 pub mark-slot-spec : {M : Type 1} → statement M

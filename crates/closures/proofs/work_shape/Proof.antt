@@ -1,10 +1,7 @@
 -- `closures::work_shape` meets its contract: each return is one case of `workShape`. Assumes nothing.
-use Prim.Native.Nat.{_*_}
 use mathlib.Core.Path.{_≡_, sym, _∙_}
-use lib.ListN.{length}
 use Rattle.floor.specs.Refusals.{floorShape}
 use Rattle.floor.specs.declared.Shape.the-variants.{Good}
-use Rattle.floor.proofs.Shapes.{good-floor}
 use Rattle.closures.proofs.Shapes.{work-floor, work-other, work-same}
 use borrow.Author.Needs.{needs}
 use Rattle.closures.proofs.work_shape.Statement.{statement}
@@ -17,9 +14,6 @@ start t = t .before .before .before .before
 map-good : (t : tie.After-enum-told)
     → floorShape (start t .args .w) (start t .args .h) (start t .args .base .now) ≡ Good
 map-good t = sym (t .before .before .floor-shape .ensures) ∙ t .enum-told .given .1
-
-size : (t : tie.After-enum-told) → length (start t .args .base .now) ≡ start t .args .w * start t .args .h
-size t = good-floor (start t .args .w) (start t .args .h) (start t .args .base .now) (map-good t) .sized .size
 
 floor-shape-requires : tie.Need-floor-shape-requires
 floor-shape-requires c κs = search needs
@@ -40,13 +34,13 @@ returns-2 : tie.Need-returns-2
 returns-2 c =
     let t = c .before in
     let a = t .before .before .before .before .args in
-    work-other (a .w) (a .h) (a .base .now) (a .places) (map-good t) (λ e. c .if1 .taken (e ∙ sym (size t)))
+    work-other (a .w) (a .h) (a .base .now) (a .places) (map-good t) (c .if1 .taken)
 
 returns-3 : tie.Need-returns-3
 returns-3 c =
     let t = c .before in
     let a = t .before .before .before .before .args in
-    work-same (a .w) (a .h) (a .base .now) (a .places) (map-good t) (c .if1 .left ∙ size t)
+    work-same (a .w) (a .h) (a .base .now) (a .places) (map-good t) (c .if1 .left)
 
 pub work-shape-spec : {M : Type 1} → statement M
 work-shape-spec =
