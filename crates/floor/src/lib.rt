@@ -68,7 +68,7 @@ pub fn cell_at(w: usize, i: usize, j: usize) -> Cell
 }
 
 // The cell that has the vertex (x, y) as its lower right corner.
-fn cell_before(w: usize, h: usize, map: &[u8], x: usize, y: usize) -> Cell
+pub fn cell_before(w: usize, h: usize, map: &[u8], x: usize, y: usize) -> Cell
     requires { ⌜ Sized w h (now map) × (1 ≤ x) × (x ≤ w) × (1 ≤ y) × (y ≤ h) ⌝ }
     ensures { λ c. ⌜ (c .0 ≡ cellNumber w (x - 1) (y - 1)) × (c .0 < length (now (map .entry))) ⌝ }
 {

@@ -20,7 +20,8 @@ use lib.Dec.{ltb}
 use Rattle.basics.proofs.Order.{le-or-lt}
 use Rattle.basics.proofs.Bools.{and-left, and-right, and-comm, ltb-shift}
 use Rattle.sight.specs.Sight.{Segment, segmentOf, positive, negative, between, corner, enters}
-use Rattle.sight.specs.Travel.{span, cellOn, touches}
+use Rattle.sight.specs.Obstacle.{span, cellOn}
+use Rattle.sight.specs.Travel.{touches}
 use Rattle.sight.proofs.Travel.{span-up, span-down, cellOn-up, cellOn-down, cellOn-between}
 
 -- ---- the sides of a corner

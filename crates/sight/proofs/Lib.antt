@@ -2,5 +2,8 @@ pub mod Travel
 pub mod Enters
 pub mod Sees
 pub mod Symmetry
+pub mod First
+pub mod Obstacles
+pub mod Named
 pub mod Unit
 pub mod Question

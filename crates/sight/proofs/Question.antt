@@ -3,22 +3,23 @@
 --   Asked w h l a b         == what a question that is not refused has
 --   question w h l a b      == its refusals
 --   answer-..               == `sightAnswer` in each case
+--   number-..               == its number in each case: the ends see each other, or not
 use Prim.Native.Nat.{ℕ, _<_}
-use mathlib.Core.Path.{_≡_, refl, sym, ap, _∙_}
-use mathlib.Core.Bool.{Bool, true, false}
+use mathlib.Core.Path.{_≡_, sym, ap, _∙_}
 use mathlib.Core.List.{List}
-use native.Mathlib.Omega.{arith}
 use Rattle.basics.specs.Bounded.{pick}
 use Rattle.floor.specs.Floor.{Sized, floorOf, vertices}
-use Rattle.floor.specs.Refusals.{floorShape, endShape, andThen}
+use Rattle.floor.specs.Refusals.{refusalNumber, floorShape, endShape, andThen}
 use Rattle.floor.specs.declared.Refusal.{Refusal}
 use Rattle.floor.specs.declared.Shape.{Shape}
 use Rattle.floor.specs.declared.Shape.the-variants.{Good, Refused}
 use Rattle.floor.proofs.Shapes.{good-first, good-second, good-floor, good-end}
 use Rattle.sight.specs.Sight.{segment, sees}
-use Rattle.sight.specs.Question.{orRefused, sightAnswer}
+use Rattle.sight.specs.Obstacle.{obstacle}
+use Rattle.sight.specs.Question.{orRefused, sightAnswer, sightNumber}
 use Rattle.sight.specs.declared.Sight.{Sight}
-use Rattle.sight.specs.declared.Sight.the-variants.{Seen, Unseen, Unasked}
+use Rattle.sight.specs.declared.Sight.the-variants.{Answered, Unasked}
+use Rattle.sight.proofs.Obstacles.{obstacle-sees-segment}
 
 pub record Asked (w h : ℕ) (l : List ℕ) (a b : ℕ) : Type 0 where
   pub sized : Sized w h l
@@ -29,8 +30,8 @@ module _ (w h : ℕ) (l : List ℕ) (a b : ℕ) where
   abbrev pub question : Shape
   question = andThen (floorShape w h l) (andThen (endShape w h a) (endShape w h b))
 
-  abbrev answer : Shape → Bool → Sight
-  answer s t = orRefused s (pick t Seen Unseen)
+  abbrev answer : Sight
+  answer = Answered (obstacle (floorOf w h l) (segment w a b))
 
   pub asked : question ≡ Good → Asked w h l a b
   asked e =
@@ -44,14 +45,19 @@ module _ (w h : ℕ) (l : List ℕ) (a b : ℕ) where
 
   pub answer-refused : {r : Refusal} → question ≡ Refused r → Unasked r ≡ sightAnswer w h l a b
   unfolding sightAnswer
-  answer-refused e = sym (ap (λ s. answer s (sees (floorOf w h l) (segment w a b))) e)
+  answer-refused e = sym (ap (λ s. orRefused s answer) e)
 
-  pub answer-seen : question ≡ Good → sees (floorOf w h l) (segment w a b) ≡ true → Seen ≡ sightAnswer w h l a b
+  pub answer-good : question ≡ Good → answer ≡ sightAnswer w h l a b
   unfolding sightAnswer
-  answer-seen e t =
-      sym (ap (λ s. answer s (sees (floorOf w h l) (segment w a b))) e ∙ ap (answer Good) t)
+  answer-good e = sym (ap (λ s. orRefused s answer) e)
 
-  pub answer-unseen : question ≡ Good → sees (floorOf w h l) (segment w a b) ≡ false → Unseen ≡ sightAnswer w h l a b
-  unfolding sightAnswer
-  answer-unseen e t =
-      sym (ap (λ s. answer s (sees (floorOf w h l) (segment w a b))) e ∙ ap (answer Good) t)
+  -- The firmware's yes or no: the refusal's number, or 0 exactly where the ends see each other, else 100.
+  pub number-refused : {r : Refusal} → question ≡ Refused r → sightNumber (sightAnswer w h l a b) ≡ refusalNumber r
+  number-refused e = ap sightNumber (sym (answer-refused e))
+
+  pub number-sees : question ≡ Good
+      → sightNumber (sightAnswer w h l a b) ≡ pick (sees (floorOf w h l) (segment w a b)) 0 100
+  number-sees e =
+      let q = asked e in
+      ap sightNumber (sym (answer-good e))
+      ∙ ap (λ t. pick t 0 100) (obstacle-sees-segment (floorOf w h l) a b (q .first) (q .last))

@@ -26,7 +26,8 @@ use Rattle.sight.specs.Sight.{
   noStepShut,
   sees,
 }
-use Rattle.sight.specs.Travel.{Ends, span, cellOn, uprightFree, levelFree, touches, cellFree, rowFree}
+use Rattle.sight.specs.Obstacle.{span, cellOn}
+use Rattle.sight.specs.Travel.{Ends, uprightFree, levelFree, touches, cellFree, rowFree}
 use Rattle.sight.proofs.Travel.{between-none, every-on, cellOn-lt, indexOn, indexOn-lt, cellOn-indexOn}
 use Rattle.sight.proofs.Enters.{enters-on, entered-column, entered-row}
 

@@ -5,8 +5,9 @@
 --   indexOn    == the way back: which cell from a the cell i is
 --   between-.. == the cells between a and b
 --   every-on   == a test of all cells between a and b, made in travel order
+--   line-.., start-.. == the far line of a cell and the line where its step begins, as the code finds them
 use Prim.Native.Nat.{ℕ, suc, _+_, _-_, _≤_, _<_, min, max}
-use mathlib.Core.Path.{_≡_, refl}
+use mathlib.Core.Path.{_≡_, refl, sym}
 use mathlib.Core.Bool.{Bool, true, false, _||_, not}
 use mathlib.Core.Logic.{⊎-elim}
 use native.Mathlib.Omega.{arith}
@@ -17,7 +18,7 @@ use Rattle.basics.proofs.Order.{le-or-lt}
 use Rattle.basics.proofs.Bools.{iff-eq, and-intro, and-left, and-right}
 use Rattle.basics.proofs.Bounded.{every-all, every-at}
 use Rattle.sight.specs.Sight.{between}
-use Rattle.sight.specs.Travel.{span, cellOn}
+use Rattle.sight.specs.Obstacle.{span, cellOn, startOn}
 
 pub span-up : (a b : ℕ) → a ≤ b → a + span a b ≡ b
 unfolding span
@@ -134,3 +135,20 @@ line-up a b k h = omega (arith, cellOn-up a b k h)
 
 pub line-down : (a b k : ℕ) → b < a → k < span a b → a - k ≡ suc (cellOn a b k)
 line-down a b k h l = omega (arith, cellOn-down a b k h, span-down a b (omega arith))
+
+-- The line where a step begins, as the code finds it.
+pub start-up : (a b k : ℕ) → a ≤ b → a + k ≡ startOn a b k
+unfolding startOn
+start-up a b k h = sym (rw (le-leb a b h, startOn))
+
+pub start-down : (a b k : ℕ) → b < a → a - k ≡ startOn a b k
+unfolding startOn
+start-down a b k h = sym (rw (lt-leb a b h, startOn))
+
+pub start-first : (a b : ℕ) → startOn a b 0 ≡ a
+start-first a b =
+    ⊎-elim (λ h. omega (arith, start-up a b 0 h)) (λ h. omega (arith, start-down a b 0 h)) (le-or-lt a b)
+
+pub start-le : (a b k n : ℕ) → a ≤ n → b ≤ n → k < span a b → startOn a b k ≤ n
+start-le a b k n p q l =
+    ⊎-elim (λ h. omega (arith, start-up a b k h, span-up a b h)) (λ h. omega (arith, start-down a b k h)) (le-or-lt a b)

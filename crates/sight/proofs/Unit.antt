@@ -1,22 +1,22 @@
 -- A unit segment reads the two cells beside it along a grid line, and one cell across a diagonal.
 --
---   unit-..        == the law for two ends at most one column and one row apart, as the code reads the cells
+--   unit-..        == the law for two ends at most one column and one row apart
+--   clear-unit, .. == what is in the way of such a segment, as the code reads the cells
 --   sees-east, ..  == the law for each of the eight directions from (x, y) to (u, v), columns counted eastwards and
 --                     rows southwards, by the four cells at (x, y): `blocked f` at (x, y) north-west, (suc x, y)
 --                     north-east, (x, suc y) south-west and (suc x, suc y) south-east
-use Prim.Native.Nat.{ℕ, suc, _≤_, max}
-use mathlib.Core.Path.{_≡_, sym, ap, _∙_}
-use mathlib.Core.Bool.{Bool, true, _&&_, not, and-true}
+use Prim.Native.Nat.{ℕ, suc, _-_, _≤_, max}
+use mathlib.Core.Path.{_≡_, refl, sym, ap, ap₂, _∙_}
+use mathlib.Core.Bool.{Bool, true, false, _&&_, not, and-true}
 use mathlib.Core.Logic.{⊎-elim, _≢_}
 use native.Mathlib.Omega.{arith}
-use Rattle.basics.specs.Bounded.{every}
+use Rattle.basics.specs.Bounded.{pick, every}
 use Rattle.basics.proofs.Order.{le-or-lt}
 use Rattle.floor.specs.Floor.{Floor, blocked}
 use Rattle.sight.specs.Sight.{Segment, segmentOf, uprightOpen, levelOpen, sees}
+use Rattle.sight.specs.Obstacle.{cellAt, stepAt, span, cellOn, first, uprightStep, levelStep, obstacle}
 use Rattle.sight.specs.Travel.{
   Ends,
-  span,
-  cellOn,
   uprightTo,
   levelTo,
   uprightFree,
@@ -24,10 +24,22 @@ use Rattle.sight.specs.Travel.{
   touches,
   cellFree,
   rowFree,
+  rowCell,
+  rowObstacle,
 }
-use Rattle.sight.proofs.Travel.{span-up, span-down, cellOn-up, cellOn-down}
+use Rattle.sight.specs.declared.Obstacle.{Obstacle}
+use Rattle.sight.specs.declared.Obstacle.the-variants.{Clear}
+use Rattle.sight.proofs.Travel.{span-up, span-down, cellOn-up, cellOn-down, start-first}
 use Rattle.sight.proofs.Sees.{upright-sees, level-sees, slanted-sees}
 use Rattle.sight.proofs.Symmetry.{sees-self}
+use Rattle.sight.proofs.First.{first-none}
+use Rattle.sight.proofs.Obstacles.{
+  upright-obstacle,
+  level-obstacle,
+  slanted-obstacle,
+  cell-past,
+  cell-met,
+}
 
 module _ (a b : ℕ) (n : span a b ≤ 1) (ne : a ≢ b) where
   span-one : span a b ≡ 1
@@ -72,6 +84,58 @@ module _ (f : Floor) (x0 y0 x1 y1 : ℕ) (e : Ends (f .wide) (f .high) x0 y0 x1 
       slanted-sees f x0 y0 x1 y1 e p q ∙ every-one (span y0 y1) (rowFree f s) dy
       ∙ every-one (span x0 x1) (cellFree f s 0) dx
       ∙ rw (cell-one x0 x1 nx p, cell-one y0 y1 ny q, dx, dy) (ap not (and-true (blocked f (max x0 x1) (max y0 y1))))
+
+-- ---- what is in the way
+
+first-one : (n : ℕ) (F : ℕ → Obstacle) → n ≡ 1 → first n F ≡ F 0
+unfolding first
+first-one n F e = rw e
+
+module _ (f : Floor) (x0 y0 x1 y1 : ℕ) (nx : span x0 x1 ≤ 1) (ny : span y0 y1 ≤ 1) where
+  abbrev line : Segment
+  line = segmentOf x0 y0 x1 y1
+
+  pub clear-unit : x0 ≡ x1 → y0 ≡ y1 → obstacle f line ≡ Clear
+  clear-unit p q =
+      upright-obstacle f x0 y0 x1 y1 p
+      ∙ first-none (span y0 y1) (uprightStep f x0 y0 y1) (λ k l. absurd (omega (arith, span-up y0 y1 (omega arith))))
+
+  pub upright-unit : x0 ≡ x1 → y0 ≢ y1 → obstacle f line ≡ pick (uprightTo f x0 (max y0 y1)) Clear (stepAt f x0 y0)
+  unfolding uprightStep uprightOpen
+  upright-unit p q =
+      upright-obstacle f x0 y0 x1 y1 p ∙ first-one (span y0 y1) (uprightStep f x0 y0 y1) (span-one y0 y1 ny q)
+      ∙ rw (cell-one y0 y1 ny q, start-first y0 y1)
+
+  pub level-unit : x0 ≢ x1 → y0 ≡ y1 → obstacle f line ≡ pick (levelTo f (max x0 x1) y0) Clear (stepAt f x0 y0)
+  unfolding levelStep levelOpen
+  level-unit p q =
+      level-obstacle f x0 y0 x1 y1 p q ∙ first-one (span x0 x1) (levelStep f y0 x0 x1) (span-one x0 x1 nx p)
+      ∙ rw (cell-one x0 x1 nx p, start-first x0 x1)
+
+  module _ (p : x0 ≢ x1) (q : y0 ≢ y1) where
+    -- The one cell of the box is entered.
+    free-unit : cellFree f line 0 0 ≡ not (blocked f (max x0 x1) (max y0 y1))
+    unfolding cellFree touches
+    free-unit =
+        rw (cell-one x0 x1 nx p, cell-one y0 y1 ny q, span-one x0 x1 nx p, span-one y0 y1 ny q)
+        (ap not (and-true (blocked f (max x0 x1) (max y0 y1))))
+
+    one-cell : obstacle f line ≡ rowCell f line 0 0
+    unfolding rowObstacle
+    one-cell =
+        slanted-obstacle f x0 y0 x1 y1 p q ∙ first-one (span y0 y1) (rowObstacle f line) (span-one y0 y1 ny q)
+        ∙ first-one (span x0 x1) (rowCell f line 0) (span-one x0 x1 nx p)
+
+    pub open-unit : blocked f (max x0 x1) (max y0 y1) ≡ false → Clear ≡ obstacle f line
+    open-unit e = sym (one-cell ∙ cell-past f line 0 0 (cellFree f line 0 0) refl (ap not (free-unit ∙ ap not e)))
+
+    pub cell-unit : blocked f (max x0 x1) (max y0 y1) ≡ true
+        → cellAt f (max x0 x1 - 1) (max y0 y1 - 1) ≡ obstacle f line
+    cell-unit e =
+        let i : max x0 x1 - 1 ≡ cellOn x0 x1 0 = omega (arith, cell-one x0 x1 nx p) in
+        let j : max y0 y1 - 1 ≡ cellOn y0 y1 0 = omega (arith, cell-one y0 y1 ny q) in
+        ap₂ (cellAt f) i j
+        ∙ sym (one-cell ∙ cell-met f line 0 0 (cellFree f line 0 0) refl (ap not (free-unit ∙ ap not e)))
 
 -- ---- the eight directions
 

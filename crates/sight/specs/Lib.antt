@@ -1,3 +1,4 @@
 pub mod Sight
+pub mod Obstacle
 pub mod Question
 pub mod Travel

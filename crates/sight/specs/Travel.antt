@@ -1,25 +1,21 @@
 -- Columns and rows counted from a segment's first end towards the other, whichever way it goes. Nobody has to believe
--- these: contracts of the scans cite them, and the laws in proofs/ tie them to `sees`.
+-- these: contracts of the scans cite them, and the laws in proofs/ tie them to `sees` and `obstacle`.
 --
---   span a b              == how many cells lie between a and b
---   cellOn a b k          == the k-th of them, from a
 --   Ends w h x0 y0 x1 y1  == both ends of a segment lie on the floor
 --   uprightTo, levelTo    == the step that ends in a vertex is not shut
 --   uprightFree, levelFree == the k-th step of a segment along a grid line is not shut
 --   touches dx dy c r     == a segment dx wide and dy high enters the cell c columns and r rows from its first end
 --   cellFree, rowFree     == that cell is open or not entered, and each cell of that row
-use Prim.Native.Nat.{ℕ, suc, _+_, _-_, _*_, _≤_, min, max}
-use mathlib.Core.Bool.{Bool, true, false, _&&_, not}
-use lib.Dec.{leb, ltb}
-use Rattle.basics.specs.Bounded.{every}
+--   rowCell, rowObstacle  == that cell, where it is in the way, and the first such cell of that row
+use Prim.Native.Nat.{ℕ, suc, _*_, _≤_}
+use mathlib.Core.Bool.{Bool, _&&_, not}
+use lib.Dec.{ltb}
+use Rattle.basics.specs.Bounded.{pick, every}
 use Rattle.floor.specs.Floor.{Floor, blocked}
 use Rattle.sight.specs.Sight.{Segment, uprightOpen, levelOpen}
-
-unfoldable pub span : ℕ → ℕ → ℕ
-span a b = max a b - min a b
-
-unfoldable pub cellOn : ℕ → ℕ → ℕ → ℕ
-cellOn a b k = elim (leb a b) [ true ↦ a + k | false ↦ a - suc k ]
+use Rattle.sight.specs.Obstacle.{cellAt, span, cellOn, first}
+use Rattle.sight.specs.declared.Obstacle.{Obstacle}
+use Rattle.sight.specs.declared.Obstacle.the-variants.{Clear}
 
 pub record Ends (w h x0 y0 x1 y1 : ℕ) : Type 0 where
   pub x-first : x0 ≤ w
@@ -55,3 +51,11 @@ cellFree f s r c =
 -- No blocked cell is entered in the row r rows from the first end.
 unfoldable pub rowFree : Floor → Segment → ℕ → Bool
 rowFree f s r = every (span (s .x0) (s .x1)) (cellFree f s r)
+
+-- The cell c columns and r rows from the first end, where it is blocked and entered.
+unfoldable pub rowCell : Floor → Segment → ℕ → ℕ → Obstacle
+rowCell f s r c = pick (cellFree f s r c) Clear (cellAt f (cellOn (s .x0) (s .x1) c) (cellOn (s .y0) (s .y1) r))
+
+-- The first such cell in the row r rows from the first end.
+unfoldable pub rowObstacle : Floor → Segment → ℕ → Obstacle
+rowObstacle f s r = first (span (s .x0) (s .x1)) (rowCell f s r)

@@ -4,29 +4,53 @@ ghost use Prim.Native.Nat.{_<_, _≤_, max};
 ghost use Rattle.floor.specs.Floor.{Sized, floorOf, vertices};
 ghost use Rattle.floor.specs.Refusals.{floorShape, endShape, andThen};
 ghost use Rattle.sight.specs.Sight.{segmentOf, segment, sees};
+ghost use Rattle.sight.specs.Obstacle.{isClear, span, obstacle};
 ghost use Rattle.sight.specs.Question.{sightAnswer, sightNumber};
-ghost use Rattle.sight.specs.Travel.{Ends, span};
+ghost use Rattle.sight.specs.Travel.{Ends};
+use floor::Cell;
 use floor::Refusal;
 use floor::Shape;
 use floor::Vertex;
 
 mod scan; // scan.rt: the steps and cells of a segment, looked at in turn
 
+// What is in the way from one vertex to another: nothing, a blocked cell that is entered, or a shut step, by the vertex
+// where it begins.
+pub enum Obstacle {
+    Clear,
+    Cell(Cell),
+    Step(Vertex),
+}
+
 // The answer to the sight question.
 pub enum Sight {
-    Seen,
-    Unseen,
+    Answered(Obstacle),
     Unasked(Refusal),
 }
 
-// The answer as a number: 0 yes, 100 no, else the refusal's.
+// Nothing is in the way.
+pub fn is_clear(o: Obstacle) -> bool
+    ensures { λ r. ⌜ r ≡ isClear o ⌝ }
+{
+    match o {
+        Obstacle::Clear => true,
+        Obstacle::Cell(_) => false,
+        Obstacle::Step(_) => false,
+    }
+}
+
+// The answer as a number: 0 clear, 100 an obstacle, else the refusal's.
 pub fn sight_number(s: Sight) -> u8
     ensures { λ r. ⌜ r ≡ sightNumber s ⌝ }
 {
     match s {
-        Sight::Seen => 0,
-        Sight::Unseen => 100,
         Sight::Unasked(r) => floor::refusal_number(r),
+        Sight::Answered(o) => {
+            if is_clear(o) {
+                return 0;
+            }
+            100
+        }
     }
 }
 
@@ -40,27 +64,72 @@ fn higher(a: usize, b: usize) -> usize
     a
 }
 
-// Whether two vertices at most one column and one row apart see each other. It reads at most two cells, and one across
-// a diagonal.
-fn unit_sees(w: usize, h: usize, map: &[u8], x0: usize, y0: usize, x1: usize, y1: usize) -> bool
+// What is in the way between two vertices at most one column and one row apart. It reads at most two cells, and one
+// across a diagonal.
+fn unit_obstacle(
+    w: usize,
+    h: usize,
+    map: &[u8],
+    x0: usize,
+    y0: usize,
+    x1: usize,
+    y1: usize,
+) -> Obstacle
     requires { ⌜ Sized w h (now map) × Ends w h x0 y0 x1 y1 × (span x0 x1 ≤ 1) × (span y0 y1 ≤ 1) ⌝ }
-    ensures { λ r. ⌜ r ≡ sees (floorOf w h (now (map .entry))) (segmentOf x0 y0 x1 y1) ⌝ }
+    ensures { λ r. ⌜ r ≡ obstacle (floorOf w h (now (map .entry))) (segmentOf x0 y0 x1 y1) ⌝ }
 {
     let x = higher(x0, x1);
     let y = higher(y0, y1);
     if x0 == x1 {
         if y0 == y1 {
-            return true;
+            return Obstacle::Clear;
         }
-        return scan::upright_open(w, h, map, x0, y);
+        return scan::shut_step(w, h, scan::upright_open(w, h, map, x0, y), x0, y0);
     }
     if y0 == y1 {
-        return scan::level_open(w, h, map, x, y0);
+        return scan::shut_step(w, h, scan::level_open(w, h, map, x, y0), x0, y0);
     }
-    !floor::blocked_at(w, h, map, x, y)
+    if floor::blocked_at(w, h, map, x, y) {
+        return Obstacle::Cell(floor::cell_before(w, h, map, x, y));
+    }
+    Obstacle::Clear
 }
 
-// Whether the vertices (x0, y0) and (x1, y1) see each other: a unit segment by its cells alone, others by a scan.
+// What is in the way from the vertex (x0, y0) to the vertex (x1, y1): of a unit segment by its cells alone, of others by
+// a scan.
+pub fn look_at(
+    w: usize,
+    h: usize,
+    map: &[u8],
+    x0: usize,
+    y0: usize,
+    x1: usize,
+    y1: usize,
+) -> Obstacle
+    requires { ⌜ Sized w h (now map) × Ends w h x0 y0 x1 y1 ⌝ }
+    ensures { λ r. ⌜ r ≡ obstacle (floorOf w h (now (map .entry))) (segmentOf x0 y0 x1 y1) ⌝ }
+{
+    if scan::span_of(x0, x1) <= 1 {
+        if scan::span_of(y0, y1) <= 1 {
+            return unit_obstacle(w, h, map, x0, y0, x1, y1);
+        }
+    }
+    scan::far_obstacle(w, h, map, x0, y0, x1, y1)
+}
+
+// What is in the way from one vertex to another.
+pub fn look(w: usize, h: usize, map: &[u8], a: Vertex, b: Vertex) -> Obstacle
+    requires { ⌜ Sized w h (now map) × (a .0 < vertices w h) × (b .0 < vertices w h) ⌝ }
+    ensures { λ r. ⌜ r ≡ obstacle (floorOf w h (now (map .entry))) (segment w (a .0) (b .0)) ⌝ }
+{
+    let x0 = floor::column_of(w, a);
+    let y0 = floor::row_of(w, h, a);
+    let x1 = floor::column_of(w, b);
+    let y1 = floor::row_of(w, h, b);
+    look_at(w, h, map, x0, y0, x1, y1)
+}
+
+// Whether the vertices (x0, y0) and (x1, y1) see each other.
 pub fn in_sight_at(
     w: usize,
     h: usize,
@@ -73,12 +142,7 @@ pub fn in_sight_at(
     requires { ⌜ Sized w h (now map) × Ends w h x0 y0 x1 y1 ⌝ }
     ensures { λ r. ⌜ r ≡ sees (floorOf w h (now (map .entry))) (segmentOf x0 y0 x1 y1) ⌝ }
 {
-    if scan::span_of(x0, x1) <= 1 {
-        if scan::span_of(y0, y1) <= 1 {
-            return unit_sees(w, h, map, x0, y0, x1, y1);
-        }
-    }
-    scan::far_sees(w, h, map, x0, y0, x1, y1)
+    is_clear(look_at(w, h, map, x0, y0, x1, y1))
 }
 
 // Whether two vertices see each other.
@@ -86,11 +150,7 @@ pub fn in_sight(w: usize, h: usize, map: &[u8], a: Vertex, b: Vertex) -> bool
     requires { ⌜ Sized w h (now map) × (a .0 < vertices w h) × (b .0 < vertices w h) ⌝ }
     ensures { λ r. ⌜ r ≡ sees (floorOf w h (now (map .entry))) (segment w (a .0) (b .0)) ⌝ }
 {
-    let x0 = floor::column_of(w, a);
-    let y0 = floor::row_of(w, h, a);
-    let x1 = floor::column_of(w, b);
-    let y1 = floor::row_of(w, h, b);
-    in_sight_at(w, h, map, x0, y0, x1, y1)
+    is_clear(look(w, h, map, a, b))
 }
 
 // The refusals of the sight question: those of the floor, then those of the ends.
@@ -108,17 +168,12 @@ fn question_shape(w: usize, h: usize, map: &[u8], a: usize, b: usize) -> Shape
     floor::end_shape(w, h, b)
 }
 
-// The sight question, for any numbers and any map: whether vertices a and b see each other, or the refusal.
+// The sight question, for any numbers and any map: what is in the way from vertex a to vertex b, or the refusal.
 pub fn ask(w: usize, h: usize, map: &[u8], a: usize, b: usize) -> Sight
     ensures { λ r. ⌜ r ≡ sightAnswer w h (now (map .entry)) a b ⌝ }
 {
     match question_shape(w, h, map, a, b) {
         Shape::Refused(r) => Sight::Unasked(r),
-        Shape::Good => {
-            if in_sight(w, h, map, Vertex(a), Vertex(b)) {
-                return Sight::Seen;
-            }
-            Sight::Unseen
-        }
+        Shape::Good => Sight::Answered(look(w, h, map, Vertex(a), Vertex(b))),
     }
 }

@@ -1,12 +1,14 @@
-// Sight along a grid line and across cells, by a look at each step or cell from the first end towards the other.
+// What is in the way along a grid line and across cells, by a look at each step or cell from the first end towards the
+// other.
 ghost use mathlib.Core.Path.{_≡_};
 ghost use Prim.Native.Nat.{suc, _*_, _<_, _≤_};
-ghost use Rattle.basics.specs.Bounded.{every};
-ghost use Rattle.floor.specs.Floor.{Sized, floorOf};
-ghost use Rattle.sight.specs.Sight.{segmentOf, sees};
-ghost use Rattle.sight.specs.Travel.{Ends, span, cellOn, uprightTo, levelTo};
-ghost use Rattle.sight.specs.Travel.{uprightFree, levelFree, cellFree, rowFree};
+ghost use Rattle.basics.specs.Bounded.{pick};
+ghost use Rattle.floor.specs.Floor.{Sized, floorOf, number};
+ghost use Rattle.sight.specs.Sight.{segmentOf};
+ghost use Rattle.sight.specs.Obstacle.{span, cellOn, startOn, first, uprightStep, levelStep, obstacle};
+ghost use Rattle.sight.specs.Travel.{Ends, uprightTo, levelTo, cellFree, rowObstacle};
 ghost use Rattle.sight.specs.Travel as travel;
+use crate::Obstacle;
 
 // How far it is from a to b.
 pub fn span_of(a: usize, b: usize) -> usize
@@ -25,6 +27,17 @@ fn line_at(a: usize, b: usize, k: usize) -> usize
 {
     if a <= b {
         return a + k + 1;
+    }
+    a - k
+}
+
+// The line where the k-th step from a towards b begins.
+fn start_at(a: usize, b: usize, k: usize) -> usize
+    requires { ⌜ (a ≤ 127) × (b ≤ 127) × (k < span a b) ⌝ }
+    ensures { λ r. ⌜ r ≡ startOn a b k ⌝ }
+{
+    if a <= b {
+        return a + k;
     }
     a - k
 }
@@ -51,38 +64,49 @@ pub fn level_open(w: usize, h: usize, map: &[u8], x: usize, y: usize) -> bool
     true
 }
 
-// No step along column line x from row y0 to row y1 is shut.
-fn upright_free(w: usize, h: usize, map: &[u8], x: usize, y0: usize, y1: usize) -> bool
+// The step that begins in the vertex (x, y), unless it is free.
+pub fn shut_step(w: usize, h: usize, free: bool, x: usize, y: usize) -> Obstacle
+    requires { ⌜ (w ≤ 127) × (h ≤ 127) × (x ≤ w) × (y ≤ h) ⌝ }
+    ensures { λ r. ⌜ r ≡ pick free Obstacle.Clear (Obstacle.Step (record { 0 = number w x y })) ⌝ }
+{
+    if free {
+        return Obstacle::Clear;
+    }
+    Obstacle::Step(floor::vertex_at(w, h, x, y))
+}
+
+// The first shut step along column line x from row y0 to row y1.
+fn upright_obstacle(w: usize, h: usize, map: &[u8], x: usize, y0: usize, y1: usize) -> Obstacle
     requires { ⌜ Sized w h (now map) × (x ≤ w) × (y0 ≤ h) × (y1 ≤ h) ⌝ }
-    ensures { λ r. ⌜ r ≡ every (span y0 y1) (uprightFree (floorOf w h (now (map .entry))) x y0 y1) ⌝ }
+    ensures { λ r. ⌜ r ≡ first (span y0 y1) (uprightStep (floorOf w h (now (map .entry))) x y0 y1) ⌝ }
 {
     let n = span_of(y0, y1);
     let mut k: usize = 0;
     while k < n {
         let y = line_at(y0, y1, k);
         if !upright_open(w, h, map, x, y) {
-            return false;
+            return Obstacle::Step(floor::vertex_at(w, h, x, start_at(y0, y1, k)));
         }
         k += 1;
     }
-    true
+    Obstacle::Clear
 }
 
-// No step along row line y from column x0 to column x1 is shut.
-fn level_free(w: usize, h: usize, map: &[u8], y: usize, x0: usize, x1: usize) -> bool
+// The first shut step along row line y from column x0 to column x1.
+fn level_obstacle(w: usize, h: usize, map: &[u8], y: usize, x0: usize, x1: usize) -> Obstacle
     requires { ⌜ Sized w h (now map) × (y ≤ h) × (x0 ≤ w) × (x1 ≤ w) ⌝ }
-    ensures { λ r. ⌜ r ≡ every (span x0 x1) (levelFree (floorOf w h (now (map .entry))) y x0 x1) ⌝ }
+    ensures { λ r. ⌜ r ≡ first (span x0 x1) (levelStep (floorOf w h (now (map .entry))) y x0 x1) ⌝ }
 {
     let n = span_of(x0, x1);
     let mut k: usize = 0;
     while k < n {
         let x = line_at(x0, x1, k);
         if !level_open(w, h, map, x, y) {
-            return false;
+            return Obstacle::Step(floor::vertex_at(w, h, start_at(x0, x1, k), y));
         }
         k += 1;
     }
-    true
+    Obstacle::Clear
 }
 
 // The product of two numbers of at most 128.
@@ -125,8 +149,8 @@ fn cell_free(
     true
 }
 
-// No blocked cell is entered in the row r rows from the first end, by a look at each cell of that row of the box.
-fn row_free(
+// The first blocked cell entered in the row r rows from the first end, by a look at each cell of that row of the box.
+fn row_obstacle(
     w: usize,
     h: usize,
     map: &[u8],
@@ -135,47 +159,71 @@ fn row_free(
     x1: usize,
     y1: usize,
     r: usize,
-) -> bool
+) -> Obstacle
     requires { ⌜ Sized w h (now map) × Ends w h x0 y0 x1 y1 × (r < span y0 y1) ⌝ }
-    ensures { λ b. ⌜ b ≡ rowFree (floorOf w h (now (map .entry))) (segmentOf x0 y0 x1 y1) r ⌝ }
+    ensures { λ b. ⌜ b ≡ rowObstacle (floorOf w h (now (map .entry))) (segmentOf x0 y0 x1 y1) r ⌝ }
 {
     let n = span_of(x0, x1);
     let mut c: usize = 0;
     while c < n {
         if !cell_free(w, h, map, x0, y0, x1, y1, r, c) {
-            return false;
+            return Obstacle::Cell(floor::cell_before(
+                w,
+                h,
+                map,
+                line_at(x0, x1, c),
+                line_at(y0, y1, r),
+            ));
         }
         c += 1;
     }
-    true
+    Obstacle::Clear
 }
 
-// No blocked cell is entered.
-fn slanted_free(w: usize, h: usize, map: &[u8], x0: usize, y0: usize, x1: usize, y1: usize) -> bool
+// The first blocked cell entered, row by row from the first end. The cells entered rise like stairs, so it is also the
+// first by columns.
+fn slanted_obstacle(
+    w: usize,
+    h: usize,
+    map: &[u8],
+    x0: usize,
+    y0: usize,
+    x1: usize,
+    y1: usize,
+) -> Obstacle
     requires { ⌜ Sized w h (now map) × Ends w h x0 y0 x1 y1 ⌝ }
-    ensures { λ b. ⌜ b ≡ every (span y0 y1) (rowFree (floorOf w h (now (map .entry))) (segmentOf x0 y0 x1 y1)) ⌝ }
+    ensures { λ b. ⌜ b ≡ first (span y0 y1) (rowObstacle (floorOf w h (now (map .entry))) (segmentOf x0 y0 x1 y1)) ⌝ }
 {
     let n = span_of(y0, y1);
     let mut r: usize = 0;
     while r < n {
-        if !row_free(w, h, map, x0, y0, x1, y1, r) {
-            return false;
+        let found = row_obstacle(w, h, map, x0, y0, x1, y1, r);
+        if !crate::is_clear(found) {
+            return found;
         }
         r += 1;
     }
-    true
+    Obstacle::Clear
 }
 
-// Whether two vertices see each other, at any distance: along a column line, along a row line, or slanted.
-pub fn far_sees(w: usize, h: usize, map: &[u8], x0: usize, y0: usize, x1: usize, y1: usize) -> bool
+// What is in the way between two vertices, at any distance: along a column line, along a row line, or slanted.
+pub fn far_obstacle(
+    w: usize,
+    h: usize,
+    map: &[u8],
+    x0: usize,
+    y0: usize,
+    x1: usize,
+    y1: usize,
+) -> Obstacle
     requires { ⌜ Sized w h (now map) × Ends w h x0 y0 x1 y1 ⌝ }
-    ensures { λ r. ⌜ r ≡ sees (floorOf w h (now (map .entry))) (segmentOf x0 y0 x1 y1) ⌝ }
+    ensures { λ r. ⌜ r ≡ obstacle (floorOf w h (now (map .entry))) (segmentOf x0 y0 x1 y1) ⌝ }
 {
     if x0 == x1 {
-        return upright_free(w, h, map, x0, y0, y1);
+        return upright_obstacle(w, h, map, x0, y0, y1);
     }
     if y0 == y1 {
-        return level_free(w, h, map, y0, x0, x1);
+        return level_obstacle(w, h, map, y0, x0, x1);
     }
-    slanted_free(w, h, map, x0, y0, x1, y1)
+    slanted_obstacle(w, h, map, x0, y0, x1, y1)
 }

@@ -1,8 +1,9 @@
 -- `sight::ask` meets its contract: each return is one case of the answer. Assumes nothing.
-use mathlib.Core.Path.{_≡_, sym, _∙_}
+use mathlib.Core.Path.{_≡_, sym, ap, _∙_}
 use Rattle.floor.specs.declared.Shape.{Shape}
 use Rattle.floor.specs.declared.Shape.the-variants.{Good}
-use Rattle.sight.proofs.Question.{question, asked, answer-refused, answer-seen, answer-unseen}
+use Rattle.sight.specs.declared.Sight.the-variants.{Answered}
+use Rattle.sight.proofs.Question.{question, asked, answer-refused, answer-good}
 use borrow.Author.Needs.{needs}
 use Rattle.sight.proofs.ask.Statement.{statement}
 use Rattle.sight.proofs.ask.Tie as tie
@@ -26,38 +27,24 @@ enum-known-r c = search needs
 enum-told : tie.Need-enum-told
 enum-told c = search needs
 
-in-sight-requires : tie.Need-in-sight-requires
-in-sight-requires c κs =
+look-requires : tie.Need-look-requires
+look-requires c κs =
     let a = start c .args in
     let q = asked (a .w) (a .h) (a .map .now) (a .a) (a .b) (good c) in
     (q .sized, q .first, q .last)
 
 returns : tie.Need-returns
 returns c =
-    let t = c .before .before in
-    let a = start t .args in
-    answer-seen (a .w) (a .h) (a .map .now) (a .a) (a .b) (good t) (sym (c .before .in-sight .ensures) ∙ c .if1 .taken)
-
-returns-2 : tie.Need-returns-2
-returns-2 c =
     let a = c .before .before .before .before .before .args in
     answer-refused (a .w) (a .h) (a .map .now) (a .a) (a .b)
     (sym (c .before .before .before .question-shape .ensures) ∙ c .before .r .given .1)
 
-returns-3 : tie.Need-returns-3
-returns-3 c =
-    let t = c .before .before in
+returns-2 : tie.Need-returns-2
+returns-2 c =
+    let t = c .before in
     let a = start t .args in
-    answer-unseen (a .w) (a .h) (a .map .now) (a .a) (a .b) (good t) (sym (c .before .in-sight .ensures) ∙ c .if1 .left)
+    ap Answered (c .look .ensures) ∙ answer-good (a .w) (a .h) (a .map .now) (a .a) (a .b) (good t)
 
 pub ask-spec : {M : Type 1} → statement M
 ask-spec =
-    tie.close
-    (tie.spec
-    question-shape-requires
-    enum-known-r
-    enum-told
-    in-sight-requires
-    returns
-    returns-2
-    returns-3)
+    tie.close (tie.spec question-shape-requires enum-known-r enum-told look-requires returns returns-2)

@@ -1,41 +1,24 @@
--- `sight::in_sight` meets its contract: the columns and rows are those of the two vertices. Assumes nothing.
-use Rattle.sight.specs.Sight.{segment}
+-- `sight::in_sight` meets its contract: nothing is in the way exactly when the ends see each other. Assumes nothing.
+use mathlib.Core.Path.{ap, _∙_}
+use Rattle.floor.specs.Floor.{floorOf}
+use Rattle.sight.specs.Obstacle.{isClear}
+use Rattle.sight.proofs.Obstacles.{obstacle-sees-segment}
 use borrow.Author.Needs.{needs}
 use Rattle.sight.proofs.in_sight.Statement.{statement}
 use Rattle.sight.proofs.in_sight.Tie as tie
 
-column-of-requires : tie.Need-column-of-requires
-column-of-requires c κs = search needs
+look-requires : tie.Need-look-requires
+look-requires c κs = search needs
 
-row-of-requires : tie.Need-row-of-requires
-row-of-requires c κs = search needs
-
-column-of-requires-2 : tie.Need-column-of-requires-2
-column-of-requires-2 c κs = search needs
-
-row-of-requires-2 : tie.Need-row-of-requires-2
-row-of-requires-2 c κs = search needs
-
-in-sight-at-requires : tie.Need-in-sight-at-requires
-in-sight-at-requires c κs = search needs
+is-clear-requires : tie.Need-is-clear-requires
+is-clear-requires c κs = search needs
 
 returns : tie.Need-returns
-unfolding segment
 returns c =
-    let y1 = c .before in
-    let x1 = y1 .before in
-    let y0 = x1 .before in
-    let x0 = y0 .before in
-    rw (x0 .column-of .ensures .0, y0 .row-of .ensures .0, x1 .column-of2 .ensures .0, y1 .row-of2 .ensures .0)
-    at (c .in-sight-at .ensures)
+    let s = c .before .before .before in
+    let a = s .args in
+    c .is-clear .ensures ∙ ap isClear (c .before .look .ensures)
+    ∙ obstacle-sees-segment (floorOf (a .w) (a .h) (a .map .now)) (a .a .0) (a .b .0) (s .pre .1) (s .pre .2)
 
 pub in-sight-spec : {M : Type 1} → statement M
-in-sight-spec =
-    tie.close
-    (tie.spec
-    column-of-requires
-    row-of-requires
-    column-of-requires-2
-    row-of-requires-2
-    in-sight-at-requires
-    returns)
+in-sight-spec = tie.close (tie.spec look-requires is-clear-requires returns)

@@ -4,7 +4,8 @@ use mathlib.Core.Path.{_≡_, sym, ap₂, _∙_}
 use native.Mathlib.Omega.{arith}
 use Rattle.floor.specs.Floor.{Floor, floorOf, blocked}
 use Rattle.sight.specs.Sight.{Segment, segmentOf}
-use Rattle.sight.specs.Travel.{span, touches}
+use Rattle.sight.specs.Obstacle.{span}
+use Rattle.sight.specs.Travel.{touches}
 use Rattle.sight.proofs.Travel.{span-le}
 use Rattle.sight.proofs.Sees.{free-untouched, free-reading}
 use borrow.Author.Needs.{needs}

@@ -1,6 +1,6 @@
 -- `sight::scan::span_of` meets its contract: the difference of the two, the greater first. Assumes nothing.
 use native.Mathlib.Omega.{arith}
-use Rattle.sight.specs.Travel.{span}
+use Rattle.sight.specs.Obstacle.{span}
 use borrow.Author.Needs.{needs}
 use Rattle.sight.proofs.scan.span_of.Statement.{statement}
 use Rattle.sight.proofs.scan.span_of.Tie as tie
