@@ -3,6 +3,7 @@
 //!     bench agree FLOORS
 //!     bench table ROUNDS
 //!     bench repeat PROGRAM OPERATION FLOOR SIDE NEIGHBOURHOOD TIMES
+//!     bench segment PROGRAM COLUMNS ROWS TIMES
 
 #[allow(dead_code)]
 #[path = "../examples/rust/lurfanzi.rs"]
@@ -21,7 +22,9 @@ mod tuned_check;
 mod tuned_sight;
 
 use floors::{Case, KINDS};
+use lurfanzi::Floor;
 use programs::{Bench, OPERATIONS, PROGRAMS};
+use std::hint::black_box;
 use std::process::ExitCode;
 
 fn number(word: &str) -> Option<usize> {
@@ -44,6 +47,21 @@ fn repeat(words: &[&str]) -> Option<()> {
     Some(())
 }
 
+/// Asks one program a number of times whether the first vertex of an open floor sees the one so many columns and rows away.
+fn segment(words: &[&str]) -> Option<()> {
+    let &[program, columns, rows, times] = words else { return None };
+    let program = PROGRAMS.iter().find(|known| known.name == program)?;
+    let side = 127;
+    let [columns, rows] = [number(columns)?, number(rows)?];
+    let map = vec![0; side * side];
+    let floor = Floor { width: side as u32, height: side as u32, map: &map };
+    let end = (columns <= side && rows <= side).then_some((rows * (side + 1) + columns) as u32)?;
+    for _ in 0..number(times)? {
+        _ = black_box((program.sight)(floor, 0, black_box(end)));
+    }
+    Some(())
+}
+
 fn main() -> ExitCode {
     let words: Vec<String> = std::env::args().skip(1).collect();
     let words: Vec<&str> = words.iter().map(String::as_str).collect();
@@ -51,10 +69,12 @@ fn main() -> ExitCode {
         ["agree", floors] => number(floors).map(agree::agree),
         ["table", rounds] => number(rounds).map(table::print),
         ["repeat", rest @ ..] => repeat(rest),
+        ["segment", rest @ ..] => segment(rest),
         _ => None,
     };
     if done.is_none() {
         eprintln!("bench agree FLOORS | table ROUNDS | repeat PROGRAM OPERATION FLOOR SIDE NEIGHBOURHOOD TIMES");
+        eprintln!("    | segment PROGRAM COLUMNS ROWS TIMES");
         return ExitCode::FAILURE;
     }
     ExitCode::SUCCESS

@@ -9,13 +9,13 @@
 --   Up a b d k z        == b is d above a, and z is k above a; Down the same below
 --   crossed s i j       == the corners of cell (i, j) lie on both sides of s
 --   enters-on           == the law
---   touches-second, -no == the law's test, as the code makes it
+--   entered-..          == a cell that is entered lies between the ends
 use Prim.Native.Nat.{ℕ, suc, _+_, _*_, _≤_, _<_}
 use mathlib.Core.Path.{_≡_, refl, sym, ap, ap₂, _∙_}
 use mathlib.Core.Bool.{Bool, true, false, _&&_, _||_, or-assoc, or-comm}
 use mathlib.Core.Logic.{⊎-elim}
 use native.Mathlib.Omega.{arith}
-use borrow.Author.Tests.{ltb-true, lt-ltb, le-ltb}
+use borrow.Author.Tests.{ltb-true, lt-ltb}
 use lib.Dec.{ltb}
 use Rattle.basics.proofs.Order.{le-or-lt}
 use Rattle.basics.proofs.Bools.{and-left, and-right, and-comm, ltb-shift}
@@ -260,15 +260,3 @@ module _ (s : Segment) (i j : ℕ) (e : enters s i j ≡ true) where
 
   pub entered-row : between (s .y0) (s .y1) j ≡ true
   entered-row = and-right (between (s .x0) (s .x1) i) (between (s .y0) (s .y1) j) entered-box
-
--- ---- as the code tests it
-
-module _ (dx dy c r k l : ℕ) (e : k ≡ dy * c) (f : l ≡ dx * (r + 1)) where
-  pub touches-second : (m n : ℕ) → m ≡ dx * r → n ≡ dy * (c + 1) → k < l → ltb m n ≡ touches dx dy c r
-  unfolding touches
-  touches-second m n g h t =
-      rw (lt-ltb (dy * c) (dx * suc r) (omega arith)) (ltb-shift m n (dx * r) (dy * suc c) (omega arith))
-
-  pub touches-no : l ≤ k → false ≡ touches dx dy c r
-  unfolding touches
-  touches-no t = rw (le-ltb (dy * c) (dx * suc r) (omega arith))

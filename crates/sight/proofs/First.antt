@@ -111,6 +111,9 @@ pub looked-none : (n : ℕ) (F : ℕ → Obstacle) → Looked n 0 F
 unfolding first
 looked-none n F = record { within = omega arith; nothing = refl }
 
+pub looked-skip : {n : ℕ} {F : ℕ → Obstacle} (k : ℕ) → k ≤ n → ((m : ℕ) → m < k → F m ≡ Clear) → Looked n k F
+looked-skip {n} {F} k l h = record { within = l; nothing = first-none k F h }
+
 pub looked-more : {n k : ℕ} {F : ℕ → Obstacle} → Looked n k F → k < n → F k ≡ Clear → Looked n (k + 1) F
 unfolding first
 looked-more {n} {k} {F} h l e =
@@ -118,6 +121,13 @@ looked-more {n} {k} {F} h l e =
 
 pub looked-all : {n k : ℕ} {F : ℕ → Obstacle} → Looked n k F → n ≤ k → Clear ≡ first n F
 looked-all {n} {k} {F} h l = let e : k ≡ n = omega (arith, h .within) in sym (rw e at (h .nothing))
+
+-- The loop may end early, where each answer left is Clear.
+pub looked-rest : {n k : ℕ} {F : ℕ → Obstacle} → Looked n k F → ((m : ℕ) → k ≤ m → m < n → F m ≡ Clear)
+    → Clear ≡ first n F
+looked-rest {n} {k} {F} h rest =
+    sym (first-none n F (λ m l.
+    ⊎-elim (λ i. first-parts k F (h .nothing) m i) (λ i. rest m (omega arith) l) (le-or-lt (suc m) k)))
 
 pub looked-stop : {n k : ℕ} {F : ℕ → Obstacle} {o : Obstacle} → Looked n k F → k < n → F k ≡ o → isClear o ≡ false
     → o ≡ first n F

@@ -4,6 +4,7 @@ pub mod Sees
 pub mod Symmetry
 pub mod First
 pub mod Obstacles
+pub mod Runs
 pub mod Named
 pub mod Unit
 pub mod Question

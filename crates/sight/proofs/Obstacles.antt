@@ -88,13 +88,13 @@ module _ (f : Floor) (s : Segment) (r c : ℕ) where
   abbrev named : Obstacle
   named = cellAt f (cellOn (s .x0) (s .x1) c) (cellOn (s .y0) (s .y1) r)
 
-  pub cell-past : (t : Bool) → t ≡ cellFree f s r c → not t ≡ false → rowCell f s r c ≡ Clear
+  pub cell-past : cellFree f s r c ≡ true → rowCell f s r c ≡ Clear
   unfolding rowCell
-  cell-past t e n = pick-yes (cellFree f s r c) Clear named (sym e ∙ not-false t n)
+  cell-past e = pick-yes (cellFree f s r c) Clear named e
 
-  pub cell-met : (t : Bool) → t ≡ cellFree f s r c → not t ≡ true → rowCell f s r c ≡ named
+  pub cell-met : cellFree f s r c ≡ false → rowCell f s r c ≡ named
   unfolding rowCell
-  cell-met t e n = pick-no (cellFree f s r c) Clear named (sym e ∙ not-true t n)
+  cell-met e = pick-no (cellFree f s r c) Clear named e
 
   cell-clear : isClear (rowCell f s r c) ≡ cellFree f s r c
   unfolding rowCell

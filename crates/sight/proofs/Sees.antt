@@ -3,9 +3,9 @@
 --
 --   upright-sees, level-sees == along a grid line no cell is entered, and a step is free or shut
 --   slanted-sees             == a slanted segment has no steps, and enters cells of its box alone
---   not-and-.., free-..      == a step or a cell, from the one or two readings that the code makes
+--   not-and-.., free-..      == a step, from the one or two readings that the code makes; a cell, from one
 use Prim.Native.Nat.{ℕ, suc, _≤_, _<_, min}
-use mathlib.Core.Path.{_≡_, refl, sym, ap, _∙_}
+use mathlib.Core.Path.{_≡_, refl, sym, _∙_}
 use mathlib.Core.Bool.{Bool, true, false, _&&_, _||_, not, or-true, and-true, and-false}
 use mathlib.Core.Logic.{_≢_}
 use native.Mathlib.Omega.{arith}
@@ -148,7 +148,7 @@ module _ (a b : Bool) where
   pub not-and-second : a ≡ true → not b ≡ not (a && b)
   not-and-second e = rw e
 
--- A cell is free: it is not entered, or a reading decides.
+-- A cell that is not entered is free, and one that is entered is free where it is not blocked.
 module _ (f : Floor) (s : Segment) (r c : ℕ) where
   abbrev reading : Bool
   reading = blocked f (suc (cellOn (s .x0) (s .x1) c)) (suc (cellOn (s .y0) (s .y1) r))
@@ -156,10 +156,10 @@ module _ (f : Floor) (s : Segment) (r c : ℕ) where
   abbrev touched : Bool
   touched = touches (span (s .x0) (s .x1)) (span (s .y0) (s .y1)) c r
 
-  pub free-untouched : touched ≡ false → true ≡ cellFree f s r c
+  pub free-untouched : touched ≡ false → cellFree f s r c ≡ true
   unfolding cellFree
   free-untouched e = rw (e, and-false reading)
 
-  pub free-reading : touched ≡ true → (b : Bool) → b ≡ reading → not b ≡ cellFree f s r c
+  pub free-touched : touched ≡ true → cellFree f s r c ≡ not reading
   unfolding cellFree
-  free-reading e b d = rw (e, and-true reading) (ap not d)
+  free-touched e = rw (e, and-true reading)

@@ -6,7 +6,7 @@
 --                     rows southwards, by the four cells at (x, y): `blocked f` at (x, y) north-west, (suc x, y)
 --                     north-east, (x, suc y) south-west and (suc x, suc y) south-east
 use Prim.Native.Nat.{ℕ, suc, _-_, _≤_, max}
-use mathlib.Core.Path.{_≡_, refl, sym, ap, ap₂, _∙_}
+use mathlib.Core.Path.{_≡_, sym, ap, ap₂, _∙_}
 use mathlib.Core.Bool.{Bool, true, false, _&&_, not, and-true}
 use mathlib.Core.Logic.{⊎-elim, _≢_}
 use native.Mathlib.Omega.{arith}
@@ -127,7 +127,7 @@ module _ (f : Floor) (x0 y0 x1 y1 : ℕ) (nx : span x0 x1 ≤ 1) (ny : span y0 y
         ∙ first-one (span x0 x1) (rowCell f line 0) (span-one x0 x1 nx p)
 
     pub open-unit : blocked f (max x0 x1) (max y0 y1) ≡ false → Clear ≡ obstacle f line
-    open-unit e = sym (one-cell ∙ cell-past f line 0 0 (cellFree f line 0 0) refl (ap not (free-unit ∙ ap not e)))
+    open-unit e = sym (one-cell ∙ cell-past f line 0 0 (free-unit ∙ ap not e))
 
     pub cell-unit : blocked f (max x0 x1) (max y0 y1) ≡ true
         → cellAt f (max x0 x1 - 1) (max y0 y1 - 1) ≡ obstacle f line
@@ -135,7 +135,7 @@ module _ (f : Floor) (x0 y0 x1 y1 : ℕ) (nx : span x0 x1 ≤ 1) (ny : span y0 y
         let i : max x0 x1 - 1 ≡ cellOn x0 x1 0 = omega (arith, cell-one x0 x1 nx p) in
         let j : max y0 y1 - 1 ≡ cellOn y0 y1 0 = omega (arith, cell-one y0 y1 ny q) in
         ap₂ (cellAt f) i j
-        ∙ sym (one-cell ∙ cell-met f line 0 0 (cellFree f line 0 0) refl (ap not (free-unit ∙ ap not e)))
+        ∙ sym (one-cell ∙ cell-met f line 0 0 (free-unit ∙ ap not e))
 
 -- ---- the eight directions
 

@@ -7,12 +7,14 @@
 --   touches dx dy c r     == a segment dx wide and dy high enters the cell c columns and r rows from its first end
 --   cellFree, rowFree     == that cell is open or not entered, and each cell of that row
 --   rowCell, rowObstacle  == that cell, where it is in the way, and the first such cell of that row
-use Prim.Native.Nat.{ℕ, suc, _*_, _≤_}
+--   RowRun s r first past == the cells that s enters in that row are those from column first to before column past
+use Prim.Native.Nat.{ℕ, suc, _*_, _≤_, _<_}
+use mathlib.Core.Path.{_≡_}
 use mathlib.Core.Bool.{Bool, _&&_, not}
-use lib.Dec.{ltb}
+use lib.Dec.{leb, ltb}
 use Rattle.basics.specs.Bounded.{pick, every}
 use Rattle.floor.specs.Floor.{Floor, blocked}
-use Rattle.sight.specs.Sight.{Segment, uprightOpen, levelOpen}
+use Rattle.sight.specs.Sight.{Segment, enters, uprightOpen, levelOpen}
 use Rattle.sight.specs.Obstacle.{cellAt, span, cellOn, first}
 use Rattle.sight.specs.declared.Obstacle.{Obstacle}
 use Rattle.sight.specs.declared.Obstacle.the-variants.{Clear}
@@ -59,3 +61,11 @@ rowCell f s r c = pick (cellFree f s r c) Clear (cellAt f (cellOn (s .x0) (s .x1
 -- The first such cell in the row r rows from the first end.
 unfoldable pub rowObstacle : Floor → Segment → ℕ → Obstacle
 rowObstacle f s r = first (span (s .x0) (s .x1)) (rowCell f s r)
+
+-- In the row r rows from the first end, s enters exactly the cells from `first` to before `past`, columns counted from
+-- the first end.
+pub record RowRun (s : Segment) (r first past : ℕ) : Type 0 where
+  pub ordered : first ≤ past
+  pub inside : past ≤ span (s .x0) (s .x1)
+  pub exact : (c : ℕ) → c < span (s .x0) (s .x1)
+      → enters s (cellOn (s .x0) (s .x1) c) (cellOn (s .y0) (s .y1) r) ≡ (leb first c && ltb c past)

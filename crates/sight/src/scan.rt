@@ -1,13 +1,12 @@
-// What is in the way along a grid line and across cells, by a look at each step or cell from the first end towards the
-// other.
+// What is in the way along a grid line and across cells, by a look at each step or each cell entered, from the first end
+// towards the other.
 ghost use mathlib.Core.Path.{_≡_};
 ghost use Prim.Native.Nat.{suc, _*_, _<_, _≤_};
 ghost use Rattle.basics.specs.Bounded.{pick};
 ghost use Rattle.floor.specs.Floor.{Sized, floorOf, number};
 ghost use Rattle.sight.specs.Sight.{segmentOf};
 ghost use Rattle.sight.specs.Obstacle.{span, cellOn, startOn, first, uprightStep, levelStep, obstacle};
-ghost use Rattle.sight.specs.Travel.{Ends, uprightTo, levelTo, cellFree, rowObstacle};
-ghost use Rattle.sight.specs.Travel as travel;
+ghost use Rattle.sight.specs.Travel.{Ends, uprightTo, levelTo, rowObstacle, RowRun};
 use crate::Obstacle;
 
 // How far it is from a to b.
@@ -117,39 +116,28 @@ fn times(a: usize, b: usize) -> usize
     a * b
 }
 
-// The cell c columns and r rows from the first end is entered by a segment dx wide and dy high.
-fn touches(dx: usize, dy: usize, c: usize, r: usize) -> bool
-    requires { ⌜ (dx ≤ 127) × (dy ≤ 127) × (c < dx) × (r < dy) ⌝ }
-    ensures { λ b. ⌜ b ≡ travel.touches dx dy c r ⌝ }
-{
-    if times(dy, c) < times(dx, r + 1) {
-        return times(dx, r) < times(dy, c + 1);
-    }
-    false
+// The columns of the cells entered in one row, counted from the first end: from `first` to before `past`.
+struct Run {
+    first: usize,
+    past: usize,
 }
 
-// The cell c columns and r rows from the first end is open or not entered.
-fn cell_free(
-    w: usize,
-    h: usize,
-    map: &[u8],
-    x0: usize,
-    y0: usize,
-    x1: usize,
-    y1: usize,
-    r: usize,
-    c: usize,
-) -> bool
-    requires { ⌜ Sized w h (now map) × Ends w h x0 y0 x1 y1 × (r < span y0 y1) × (c < span x0 x1) ⌝ }
-    ensures { λ b. ⌜ b ≡ cellFree (floorOf w h (now (map .entry))) (segmentOf x0 y0 x1 y1) r c ⌝ }
+// The cells entered in the row r rows from the first end, by a division for the first and one for the last.
+fn row_run(x0: usize, y0: usize, x1: usize, y1: usize, r: usize) -> Run
+    requires { ⌜ (x0 ≤ 127) × (y0 ≤ 127) × (x1 ≤ 127) × (y1 ≤ 127) × (r < span y0 y1) ⌝ }
+    ensures { λ run. ⌜ RowRun (segmentOf x0 y0 x1 y1) r (run .first) (run .past) ⌝ }
 {
-    if touches(span_of(x0, x1), span_of(y0, y1), c, r) {
-        return !floor::blocked_at(w, h, map, line_at(x0, x1, c), line_at(y0, y1, r));
-    }
-    true
+    let dx = span_of(x0, x1);
+    let dy = span_of(y0, y1);
+    // dy times the column where the segment comes into the row, and where it leaves it
+    let near = times(dx, r);
+    let far = near + dx;
+    let first = near / dy;
+    let past = (far + (dy - 1)) / dy;
+    Run { first, past }
 }
 
-// The first blocked cell entered in the row r rows from the first end, by a look at each cell of that row of the box.
+// The first blocked cell entered in the row r rows from the first end, by a look at each cell entered there.
 fn row_obstacle(
     w: usize,
     h: usize,
@@ -163,17 +151,14 @@ fn row_obstacle(
     requires { ⌜ Sized w h (now map) × Ends w h x0 y0 x1 y1 × (r < span y0 y1) ⌝ }
     ensures { λ b. ⌜ b ≡ rowObstacle (floorOf w h (now (map .entry))) (segmentOf x0 y0 x1 y1) r ⌝ }
 {
-    let n = span_of(x0, x1);
-    let mut c: usize = 0;
-    while c < n {
-        if !cell_free(w, h, map, x0, y0, x1, y1, r, c) {
-            return Obstacle::Cell(floor::cell_before(
-                w,
-                h,
-                map,
-                line_at(x0, x1, c),
-                line_at(y0, y1, r),
-            ));
+    let y = line_at(y0, y1, r);
+    let run = row_run(x0, y0, x1, y1, r);
+    let past = run.past;
+    let mut c = run.first;
+    while c < past {
+        let x = line_at(x0, x1, c);
+        if floor::blocked_at(w, h, map, x, y) {
+            return Obstacle::Cell(floor::cell_before(w, h, map, x, y));
         }
         c += 1;
     }
