@@ -2,13 +2,13 @@
 use mathlib.Core.Path.{refl}
 use Rattle.basics.specs.Bounded.{bounded-opened}
 use Rattle.floor.specs.Floor.{floor-opened}
-use Rattle.floor.specs.Refusals.{floorShape, endShape}
+use Rattle.floor.specs.Refusals.{sidesShape, floorShape, endShape}
 use Rattle.sight.specs.Sight.{sight-opened}
 use Rattle.sight.specs.Obstacle.{obstacle-opened}
 use Rattle.sight.specs.Question.{sightAnswer}
 use Rattle.worked.specs.Sights.{SightsHold}
 
 pub sights-hold : SightsHold
-unfolding sightAnswer floorShape endShape bounded-opened floor-opened sight-opened obstacle-opened
+unfolding sightAnswer sidesShape floorShape endShape bounded-opened floor-opened sight-opened obstacle-opened
 sights-hold =
     (refl, (refl, (refl, (refl, (refl, (refl, (refl, (refl, (refl, (refl, (refl, (refl, (refl, (refl, tt))))))))))))))
