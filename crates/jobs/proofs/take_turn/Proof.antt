@@ -8,6 +8,12 @@ use Rattle.jobs.proofs.take_turn.Tie as tie
 abbrev start : tie.After-step → tie.Start
 start c = c .before .before .before .before .before .before .before .before .before .before .before
 
+-- The call of `job_text`, from its return.
+abbrev told : tie.After-slice-known16 → tie.After-job-text
+told c =
+    c .before .before .before .before .before .before .before .before .before .before .before .before .before .before
+    .before .before
+
 step-requires : tie.Need-step-requires
 step-requires c κs = search needs
 
@@ -30,38 +36,37 @@ enum-told-2 : tie.Need-enum-told-2
 enum-told-2 c = search needs
 
 same-length : tie.Need-same-length
-same-length c = search needs
+same-length c = told c .job-text .kept .1 .1 .1 .1 .0
 
 same-length-2 : tie.Need-same-length-2
-same-length-2 c = search needs
+same-length-2 c = told c .job-text .kept .1 .1 .1 .1 .1 .0
 
 same-length-3 : tie.Need-same-length-3
-same-length-3 c = search needs
+same-length-3 c = told c .job-text .kept .1 .1 .1 .1 .1 .1 .0
 
 same-length-4 : tie.Need-same-length-4
-same-length-4 c = search needs
+same-length-4 c = told c .job-text .kept .1 .1 .1 .1 .1 .1 .1 .0
 
 same-length-5 : tie.Need-same-length-5
-same-length-5 c = search needs
+same-length-5 c = told c .job-text .kept .1 .1 .1 .1 .1 .1 .1 .1 .0
 
 same-length-6 : tie.Need-same-length-6
-same-length-6 c = search needs
+same-length-6 c = told c .job-text .kept .1 .1 .1 .1 .1 .1 .1 .1 .1 .0
 
 same-length-7 : tie.Need-same-length-7
-same-length-7 c = search needs
+same-length-7 c = told c .job-text .kept .1 .1 .1 .1 .1 .1 .1 .1 .1 .1 .0
 
 same-length-8 : tie.Need-same-length-8
-same-length-8 c = search needs
+same-length-8 c = told c .job-text .kept .1 .1 .1 .1 .1 .1 .1 .1 .1 .1 .1 .0
 
 returns : tie.Need-returns
 returns c =
-    let t = c .before .before .before .before .before .before .before .before .before .before .before .before .before
-    .before .before .before in
+    let t = told c in
     let j = t .before .before .before .before .before .before .before .before .before .before in
     turn-job (sym (j .before .before .step .ensures) ∙ j .j .given .1) (t .job-text .ensures)
 
 same-length-9 : tie.Need-same-length-9
-same-length-9 c = search needs
+same-length-9 c = c .before .before .put-bad .kept .0
 
 returns-2 : tie.Need-returns-2
 returns-2 c =

@@ -25,7 +25,7 @@ use borrow.Author.Needs.{needs}
 use Rattle.planner.proofs.find_route.Statement.{statement}
 use Rattle.planner.proofs.find_route.Tie as tie
 
--- The places: where the function begins, after each of its calls, and where the total fits.
+-- The places: where the function begins, after each of its calls, and where the total fits or not.
 abbrev ordered : tie.After-reach-of → tie.After-costs-over-masks
 ordered c = c .before .before .before .before .before
 
@@ -34,6 +34,9 @@ start c = ordered c .before .before .before .before .before .before .before .bef
 
 abbrev reach : tie.After-fill-counts → tie.After-reach-of
 reach c = c .before .before .before .before .before .before .before .before .before .before .before .before .before
+
+abbrev tried : tie.Then1 → tie.After-fill-counts
+tried c = c .before .before .before .before .before
 
 abbrev counted : tie.Else1 → tie.After-fill-counts
 counted c = c .before .before .before .before .before
@@ -89,20 +92,20 @@ fill-counts-requires c κs =
     (found-readied F (ordered r .costs-over-masks .ensures) (r .reach-of .ensures), s .0, s .1, s .2, s .3)
 
 same-length : tie.Need-same-length
-same-length c = search needs
+same-length c = ordered (reach (tried c)) .costs-over-masks .kept .1 .1 .1 .1 .1 .0
 
 same-length-2 : tie.Need-same-length-2
-same-length-2 c = search needs
+same-length-2 c = tried c .fill-counts .kept .1 .1 .1 .1 .1 .1 .1 .1 .1 .1 .1 .0
 
 same-length-3 : tie.Need-same-length-3
-same-length-3 c = search needs
+same-length-3 c = tried c .fill-counts .kept .1 .1 .1 .1 .1 .1 .1 .1 .1 .1 .1 .1 .0
 
 same-length-4 : tie.Need-same-length-4
-same-length-4 c = search needs
+same-length-4 c = ordered (reach (tried c)) .costs-over-masks .kept .1 .1 .1 .1 .1 .1 .0
 
 returns : tie.Need-returns
 returns c =
-    let at = c .before .before .before .before .before in
+    let at = tried c in
     let r = reach at in
     let F = start r .pre in
     let C = ordered r .costs-over-masks .ensures in
@@ -153,13 +156,13 @@ same-length-5 c =
     ordered (reach (counted (fitting (c .before .before)))) .costs-over-masks .kept .1 .1 .1 .1 .1 .0
 
 same-length-6 : tie.Need-same-length-6
-same-length-6 c = search needs
+same-length-6 c = counted (fitting (c .before .before)) .fill-counts .kept .1 .1 .1 .1 .1 .1 .1 .1 .1 .1 .1 .0
 
 same-length-7 : tie.Need-same-length-7
-same-length-7 c = search needs
+same-length-7 c = counted (fitting (c .before .before)) .fill-counts .kept .1 .1 .1 .1 .1 .1 .1 .1 .1 .1 .1 .1 .0
 
 same-length-8 : tie.Need-same-length-8
-same-length-8 c = search needs
+same-length-8 c = c .before .before .before .before .write-route .kept .1 .1 .1 .1 .1 .1 .1 .1 .1 .1 .1 .1 .0
 
 same-length-9 : tie.Need-same-length-9
 same-length-9 c =

@@ -5,31 +5,40 @@ use borrow.Author.Needs.{needs}
 use Rattle.planner.proofs.finish.Statement.{statement}
 use Rattle.planner.proofs.finish.Tie as tie
 
+-- The two calls, from the return.
+abbrev masked : tie.After-finish-over-masks-arg5 → tie.After-fill-masks
+masked c = c .before .before .before .before .before .before .before
+
+abbrev finished : tie.After-slice-known11 → tie.After-finish-over-masks
+finished c = c .before .before .before .before .before .before .before .before .before .before
+
 fill-masks-requires : tie.Need-fill-masks-requires
 fill-masks-requires c κs = search needs
 
 finish-over-masks-requires : tie.Need-finish-over-masks-requires
 finish-over-masks-requires c κs =
-    let m = c .before .before .before .before .before .before .before in
+    let m = masked c in
     let P = m .before .before .before .before .before .before .before .before .before .pre in (
       finishable-of (P .job) (P .lent) (P .costs) (m .fill-masks .ensures .len ∙ P .lent .work-len),
       m .fill-masks .ensures .masks,
     )
 
 same-length : tie.Need-same-length
-same-length c = search needs
+same-length c = finished c .finish-over-masks .kept .1 .1 .1 .1 .1 .1 .1 .0
 
 same-length-2 : tie.Need-same-length-2
-same-length-2 c = search needs
+same-length-2 c = finished c .finish-over-masks .kept .1 .1 .1 .1 .1 .1 .1 .1 .0
 
 same-length-3 : tie.Need-same-length-3
-same-length-3 c = search needs
+same-length-3 c = finished c .finish-over-masks .kept .1 .1 .1 .1 .1 .1 .1 .1 .1 .0
 
 same-length-4 : tie.Need-same-length-4
-same-length-4 c = search needs
+same-length-4 c = finished c .finish-over-masks .kept .1 .1 .1 .1 .1 .1 .1 .1 .1 .1 .0
 
 same-length-5 : tie.Need-same-length-5
-same-length-5 c = search needs
+same-length-5 c =
+    finished c .finish-over-masks .kept .1 .1 .1 .1 .1 .1 .1 .1 .1 .1 .1 .0
+    ∙ masked (finished c .before) .fill-masks .kept .1 .1 .1 .0
 
 returns : tie.Need-returns
 returns c = search needs

@@ -19,6 +19,17 @@ cleared-back c = c .before .before .before .before
 abbrev cleared : tie.After-shared-slice-known3 → tie.After-clear-u16
 cleared c = c .before .before .before
 
+-- What is cleared first and the route that is found, from the two returns.
+abbrev unjoined : tie.After-slice-known10 → tie.After-clear-u16
+unjoined c = cleared (c .before .before .before .before .before .before .before .before .before)
+
+abbrev found : tie.After-slice-known16 → tie.After-find-route
+found c =
+    c .before .before .before .before .before .before .before .before .before .before .before .before .before .before
+
+abbrev joined : tie.After-find-route → tie.After-clear-u16
+joined c = cleared (c .before .before .before .before .before .before .before)
+
 clear-u64-requires : tie.Need-clear-u64-requires
 clear-u64-requires c κs = search needs
 
@@ -41,19 +52,19 @@ fill-u32-requires-2 : tie.Need-fill-u32-requires-2
 fill-u32-requires-2 c κs = search needs
 
 same-length : tie.Need-same-length
-same-length c = search needs
+same-length c = c .before .before .before .before .before .before .fill-u32 .kept .0
 
 same-length-2 : tie.Need-same-length-2
-same-length-2 c = search needs
+same-length-2 c = cleared-f (cleared-back (unjoined c)) .clear-u64 .kept .0
 
 same-length-3 : tie.Need-same-length-3
-same-length-3 c = search needs
+same-length-3 c = cleared-back (unjoined c) .clear-u642 .kept .0
 
 same-length-4 : tie.Need-same-length-4
-same-length-4 c = search needs
+same-length-4 c = unjoined c .clear-u16 .kept .0
 
 same-length-5 : tie.Need-same-length-5
-same-length-5 c = search needs
+same-length-5 c = c .before .before .fill-u322 .kept .0
 
 returns : tie.Need-returns
 returns c =
@@ -78,19 +89,20 @@ fill-u32-requires-3 : tie.Need-fill-u32-requires-3
 fill-u32-requires-3 c κs = search needs
 
 same-length-6 : tie.Need-same-length-6
-same-length-6 c = search needs
+same-length-6 c = found c .find-route .kept .1 .1 .1 .1 .1 .1 .1 .0
 
 same-length-7 : tie.Need-same-length-7
-same-length-7 c = search needs
+same-length-7 c =
+    found c .find-route .kept .1 .1 .1 .1 .1 .1 .1 .1 .0 ∙ cleared-f (cleared-back (joined (found c))) .clear-u64 .kept .0
 
 same-length-8 : tie.Need-same-length-8
-same-length-8 c = search needs
+same-length-8 c = found c .find-route .kept .1 .1 .1 .1 .1 .1 .1 .1 .1 .0 ∙ cleared-back (joined (found c)) .clear-u642 .kept .0
 
 same-length-9 : tie.Need-same-length-9
-same-length-9 c = search needs
+same-length-9 c = found c .find-route .kept .1 .1 .1 .1 .1 .1 .1 .1 .1 .1 .0 ∙ joined (found c) .clear-u16 .kept .0
 
 same-length-10 : tie.Need-same-length-10
-same-length-10 c = search needs
+same-length-10 c = c .before .before .fill-u323 .kept .0 ∙ found c .find-route .kept .1 .1 .1 .1 .1 .1 .1 .1 .1 .1 .1 .0
 
 returns-2 : tie.Need-returns-2
 returns-2 c =

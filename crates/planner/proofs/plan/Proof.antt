@@ -1,9 +1,13 @@
 -- `planner::plan` meets its contract: a job of bad shape is refused, and any other is planned. Assumes nothing.
-use mathlib.Core.Path.{refl}
+use mathlib.Core.Path.{refl, sym, _∙_}
 use Rattle.planner.proofs.Shaped.{good-job, plans-unfit, plans-fit}
 use borrow.Author.Needs.{needs}
 use Rattle.planner.proofs.plan.Statement.{statement}
 use Rattle.planner.proofs.plan.Tie as tie
+
+-- The call of `plan_job`, from its return.
+abbrev planned : tie.After-slice-known12 → tie.After-plan-job
+planned c = c .before .before .before .before .before .before .before .before .before .before .before .before
 
 job-of-requires : tie.Need-job-of-requires
 job-of-requires c κs = search needs
@@ -20,29 +24,29 @@ plan-job-requires c κs =
     good-job _ _ _ (at .before .before .job-of .ensures) (at .job2 .given .1)
 
 returns : tie.Need-returns
-returns c = plans-unfit (cc) refl
+returns c = plans-unfit (sym (c .before .before .before .job-of .ensures) ∙ c .before .job .given .1) refl
 
 same-length : tie.Need-same-length
-same-length c = search needs
+same-length c = planned c .plan-job .kept .1 .1 .1 .1 .1 .1 .0
 
 same-length-2 : tie.Need-same-length-2
-same-length-2 c = search needs
+same-length-2 c = planned c .plan-job .kept .1 .1 .1 .1 .1 .1 .1 .0
 
 same-length-3 : tie.Need-same-length-3
-same-length-3 c = search needs
+same-length-3 c = planned c .plan-job .kept .1 .1 .1 .1 .1 .1 .1 .1 .0
 
 same-length-4 : tie.Need-same-length-4
-same-length-4 c = search needs
+same-length-4 c = planned c .plan-job .kept .1 .1 .1 .1 .1 .1 .1 .1 .1 .0
 
 same-length-5 : tie.Need-same-length-5
-same-length-5 c = search needs
+same-length-5 c = planned c .plan-job .kept .1 .1 .1 .1 .1 .1 .1 .1 .1 .1 .0
 
 same-length-6 : tie.Need-same-length-6
-same-length-6 c = search needs
+same-length-6 c = planned c .plan-job .kept .1 .1 .1 .1 .1 .1 .1 .1 .1 .1 .1 .0
 
 returns-2 : tie.Need-returns-2
 returns-2 c =
-    let done = c .before .before .before .before .before .before .before .before .before .before .before .before in
+    let done = planned c in
     let at = done .before .before .before .before .before .before .before .before in
     plans-fit (at .before .before .job-of .ensures) (at .job2 .given .1) (done .plan-job .ensures)
 

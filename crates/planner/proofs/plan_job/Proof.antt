@@ -1,6 +1,6 @@
 -- `planner::plan_job` meets its contract: the lengths of the slices pass the test or not, and then the masks are
 -- stored, the costs from a are filled, and the job is finished from them. Assumes nothing.
-use mathlib.Core.Path.{refl}
+use mathlib.Core.Path.{refl, _∙_}
 use borrow.Author.Tests.{not-false}
 use Rattle.floor.specs.Floor.{vertices}
 use Rattle.planner.specs.Parts.{FullSlices}
@@ -9,7 +9,7 @@ use borrow.Author.Needs.{needs}
 use Rattle.planner.proofs.plan_job.Statement.{statement}
 use Rattle.planner.proofs.plan_job.Tie as tie
 
--- The places: where the function begins, at the test, and after the masks and the costs from a.
+-- The places: where the function begins, at the test, after the masks and the costs from a, and after all.
 abbrev start : tie.After-lengths-good → tie.Start
 start c = c .before .before .before .before .before .before .before .before .before
 
@@ -21,6 +21,9 @@ masked c = c .before .before .before .before .before
 
 abbrev costed : tie.After-finish-over-masks-arg6 → tie.After-costs-over-masks
 costed c = c .before .before .before .before .before .before .before .before .before .before
+
+abbrev finished : tie.After-slice-known14 → tie.After-finish-over-masks
+finished c = c .before .before .before .before .before .before .before .before .before .before
 
 -- The slices have the lengths that they need.
 lent : (c : tie.Else1) → let s = start (c .before) .args in
@@ -58,26 +61,29 @@ finish-over-masks-requires c κs =
     (finishable-of (start (at .before) .pre) (lent at) (C .costs) (C .work-len), C .masks)
 
 same-length : tie.Need-same-length
-same-length c = search needs
+same-length c = costed (finished c .before) .costs-over-masks .kept .1 .1 .1 .1 .1 .0
 
 same-length-2 : tie.Need-same-length-2
-same-length-2 c = search needs
+same-length-2 c = finished c .finish-over-masks .kept .1 .1 .1 .1 .1 .1 .1 .0
 
 same-length-3 : tie.Need-same-length-3
-same-length-3 c = search needs
+same-length-3 c = finished c .finish-over-masks .kept .1 .1 .1 .1 .1 .1 .1 .1 .0
 
 same-length-4 : tie.Need-same-length-4
-same-length-4 c = search needs
+same-length-4 c = finished c .finish-over-masks .kept .1 .1 .1 .1 .1 .1 .1 .1 .1 .0
 
 same-length-5 : tie.Need-same-length-5
-same-length-5 c = search needs
+same-length-5 c = finished c .finish-over-masks .kept .1 .1 .1 .1 .1 .1 .1 .1 .1 .1 .0
 
 same-length-6 : tie.Need-same-length-6
-same-length-6 c = search needs
+same-length-6 c =
+    let at = finished c in
+    let C = costed (at .before) in
+    at .finish-over-masks .kept .1 .1 .1 .1 .1 .1 .1 .1 .1 .1 .1 .0 ∙ C .costs-over-masks .kept .1 .1 .1 .1 .1 .1 .0 ∙ masked C .fill-masks .kept .1 .1 .1 .0
 
 returns-2 : tie.Need-returns-2
 returns-2 c =
-    let at = c .before .before .before .before .before .before .before .before .before .before in
+    let at = finished c in
     job-sized (lent (tested (masked (costed (at .before))))) (at .finish-over-masks .ensures)
 
 pub plan-job-spec : {M : Type 1} → statement M

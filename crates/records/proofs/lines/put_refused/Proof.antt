@@ -4,7 +4,7 @@ use Prim.Native.Nat.{_+_, _≤_}
 use native.Mathlib.Omega.{arith}
 use lib.ListN.{length}
 use Rattle.records.proofs.Decimal.{decimal-u64}
-use Rattle.records.proofs.Writing.{written-more, room-after}
+use Rattle.records.proofs.Writing.{written-length, written-more, room-after}
 use borrow.Author.Needs.{needs}
 use Rattle.records.proofs.lines.put_refused.Statement.{statement}
 use Rattle.records.proofs.lines.put_refused.Tie as tie
@@ -48,9 +48,6 @@ slice-aggregate-put-text c = search needs
 put-text-requires : tie.Need-put-text-requires
 put-text-requires c κs = omega (arith, room2 (c .before .before .before .before))
 
-same-length : tie.Need-same-length
-same-length c = search needs
-
 returns : tie.Need-returns
 returns c =
     let t = c .before .before in
@@ -59,6 +56,9 @@ returns c =
     let w1 = f1 .put-field .ensures in
     let w2 = written-more w1 (f2 .put-field2 .ensures) in
     written-more w2 (t .put-text .ensures)
+
+same-length : tie.Need-same-length
+same-length c = written-length (returns c)
 
 pub put-refused-spec : {M : Type 1} → statement M
 put-refused-spec =

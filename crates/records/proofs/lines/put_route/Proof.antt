@@ -4,7 +4,7 @@ use Prim.Native.Nat.{_+_, _≤_}
 use native.Mathlib.Omega.{arith}
 use lib.ListN.{length}
 use Rattle.records.proofs.Decimal.{decimal-u64}
-use Rattle.records.proofs.Writing.{written-more, room-after}
+use Rattle.records.proofs.Writing.{written-length, written-more, room-after}
 use borrow.Author.Needs.{needs}
 use Rattle.records.proofs.lines.put_route.Statement.{statement}
 use Rattle.records.proofs.lines.put_route.Tie as tie
@@ -105,9 +105,6 @@ slice-aggregate-put-text c = search needs
 put-text-requires : tie.Need-put-text-requires
 put-text-requires c κs = omega (arith, room5 (c .before .before .before .before))
 
-same-length : tie.Need-same-length
-same-length c = search needs
-
 returns : tie.Need-returns
 returns c =
     let t = c .before .before in
@@ -122,6 +119,9 @@ returns c =
     let w4 = written-more w3 (f4 .put-field4 .ensures) in
     let w5 = written-more w4 (f5 .put-field5 .ensures) in
     written-more w5 (t .put-text .ensures)
+
+same-length : tie.Need-same-length
+same-length c = written-length (returns c)
 
 pub put-route-spec : {M : Type 1} → statement M
 put-route-spec =
