@@ -2,6 +2,7 @@
 --
 --   Floor            == its sides in cells, and whether the cell in column i and row j is blocked
 --   cellNumber w i j == the number of the cell in column i and row j
+--   storedCells l    == the map that stores the cells given by the bytes l, 0 open and 1 blocked, row by row
 --   floorOf w h l    == the floor of width w and height h whose map is the list of bytes l
 --   mapOf f          == the map of floor f: a byte for each cell, 1 where it is blocked and 0 where it is open
 --   withBlocked f p  == the floor f, blocked also where p holds
@@ -30,7 +31,10 @@ pub record Floor : Type 0 where
 abbrev pub cellNumber : ℕ → ℕ → ℕ → ℕ
 cellNumber w i j = j * w + i
 
--- A byte for each cell, 0 open.
+-- A map stores a byte for each cell, 0 open: what it stores of cells that are given so are those bytes.
+abbrev pub storedCells : List ℕ → List ℕ
+storedCells l = l
+
 unfoldable pub cellOf : ℕ → List ℕ → ℕ → ℕ → Bool
 cellOf w l i j = not (eqb (getD l (cellNumber w i j) 0) 0)
 

@@ -5,7 +5,7 @@ ghost use lib.ListN.{length, getD};
 ghost use lib.Dec.{eqb};
 ghost use mathlib.Core.Bool.{not};
 ghost use Rattle.basics.specs.Bounded.{every};
-ghost use Rattle.floor.specs.Floor.{Sized, cellNumber, floorOf, blockedFrom, blocked};
+ghost use Rattle.floor.specs.Floor.{Sized, cellNumber, storedCells, floorOf, blockedFrom, blocked};
 ghost use Rattle.floor.specs.Floor.{vertices, number, column, row};
 ghost use Rattle.floor.specs.Refusals.{refusalNumber, sidesShape, floorShape, endShape, mapByte};
 
@@ -75,8 +75,8 @@ pub fn cell_before(w: usize, h: usize, map: &[u8], x: usize, y: usize) -> Cell
     cell_at(w, x - 1, y - 1)
 }
 
-// Whether a cell of the map is blocked. Only this, `block_cells`, `copy_map` and `floor_shape`, which tests length and
-// bytes, know how a map is stored.
+// Whether a cell of the map is blocked. Only this, `block_cells`, `copy_map`, `store_cells` and `floor_shape`, which
+// tests length and bytes, know how a map is stored.
 fn is_blocked(map: &[u8], c: Cell) -> bool
     requires { ⌜ c .0 < length (now map) ⌝ }
     ensures { λ r. ⌜ r ≡ not (eqb (getD (now (map .entry)) (c .0) 0) 0) ⌝ }
@@ -124,6 +124,14 @@ pub fn copy_map(base: &[u8], map: &mut [u8])
     for at in 0..base.len() {
         map[at] = base[at];
     }
+}
+
+// Stores a map whose cells are given by a byte each, row by row, 0 open and 1 blocked.
+pub fn store_cells(cells: &[u8], map: &mut [u8])
+    requires { ⌜ length (now map) ≡ length (now cells) ⌝ }
+    ensures { λ _. ⌜ now (map .exit) ≡ storedCells (now (cells .entry)) ⌝ }
+{
+    copy_map(cells, map);
 }
 
 // The number of vertices, V.

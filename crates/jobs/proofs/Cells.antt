@@ -1,41 +1,35 @@
--- The cells of the map: copying them, and that they are a small floor.
+-- The cells of the map: where they stand, and that they are a small floor.
 --
---   copied     == a slice that is as long as they are holds just them
+--   part-cells == the part of the input that the program stores is just them
 --   map-small  == what the first step finds as a map is a floor of good shape with sides of at most 31 cells
 use Prim.Native.Nat.{ℕ, _+_, _-_, _*_, _<_}
-use mathlib.Core.Path.{_≡_, sym, ap, ap₂, _∙_}
+use mathlib.Core.Path.{_≡_, sym, ap, _∙_}
 use mathlib.Core.Bool.{true}
-use mathlib.Core.List.{List, [], _++_, append-nil}
+use mathlib.Core.List.{List}
 use native.Mathlib.Omega.{arith}
 use lib.Dec.{leb}
 use lib.ListN.{length, take, drop, length-drop}
-use lib.Seq.{length-take-le, drop-length, getD-take, getD-drop}
+use lib.Seq.{length-take-le, getD-take, getD-drop}
 use Rattle.basics.specs.Bounded.{every}
 use Rattle.basics.proofs.Bounded.{every-cong}
 use Rattle.floor.specs.Refusals.{mapByte}
 use Rattle.floor.proofs.Shapes.{floor-good}
 use Rattle.records.specs.Format.{cellByte, recordAt, first, cellsOf}
-use Rattle.records.specs.Lines.{Written}
 use Rattle.records.specs.declared.stream.Cursor.{Cursor}
 use Rattle.records.specs.declared.stream.MapRecord.{MapRecord}
 use Rattle.records.specs.declared.stream.Record.the-variants.{Map}
 use Rattle.records.proofs.Moved.{MapFound, map-step}
 use Rattle.jobs.specs.Contract.{SmallFloor, CellsIn}
 
-pub copied : {s map map' : List ℕ} {m : MapRecord} {r : ℕ} → CellsIn s m map
-    → Written map 0 (take (m .cells + length map - m .cells) (drop (m .cells) s)) map' r → map' ≡ cellsOf s m
-copied {s} {map} {map'} {m} {r} c w =
-    let count : m .cells + length map - m .cells ≡ m .wide * m .high = omega (arith, c .size) in
-    let text : List ℕ = take (m .cells + length map - m .cells) (drop (m .cells) s) in
-    let same : text ≡ cellsOf s m = ap (λ n. take n (drop (m .cells) s)) count in
-    let size : length text ≡ m .cells + length map - m .cells =
-    length-take-le (m .cells + length map - m .cells) (drop (m .cells) s)
-    (omega (arith, c .within, c .size, length-drop (m .cells) s)) in
-    let whole : 0 + length text ≡ length map = omega arith in
-    let none : drop (0 + length text) map ≡ [] = ap (λ n. drop n map) whole ∙ drop-length map in
-    w .holds
-    ∙ ap₂ _++_ same none
-    ∙ append-nil (cellsOf s m)
+module _ {s map : List ℕ} {m : MapRecord} (c : CellsIn s m map) where
+  -- The part of the input from the cells on, as long as the map.
+  abbrev part : List ℕ
+  part = take (m .cells + length map - m .cells) (drop (m .cells) s)
+
+  pub part-cells : part ≡ cellsOf s m
+  part-cells =
+      let count : m .cells + length map - m .cells ≡ m .wide * m .high = omega (arith, c .size) in
+      ap (λ n. take n (drop (m .cells) s)) count
 
 module _ (s : List ℕ) (m : MapRecord) (c : Cursor) (e : recordAt s first ≡ Map m c) where
   found : MapFound s first m c

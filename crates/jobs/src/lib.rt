@@ -1,7 +1,7 @@
 // One job of the program, planned, thinned and written as lines, and one turn of the program.
 ghost use mathlib.Core.Path.{_≡_};
 ghost use Prim.Native.Nat.{_≤_};
-ghost use Rattle.floor.specs.Floor.{floorOf};
+ghost use Rattle.floor.specs.Floor.{storedCells, floorOf};
 ghost use Rattle.planner.specs.Plan.{slicesOf};
 ghost use Rattle.records.specs.Format.{cellsOf};
 ghost use Rattle.jobs.specs.Contract.{Ready, Told, Routable, RouteTold, CellsIn, bytesOf, TurnTold};
@@ -103,14 +103,14 @@ pub fn job_text(
     }
 }
 
-// Copies the cells of the map m from the input into `map`.
+// Stores the cells of the map m of the input in `map`.
 pub fn copy_cells(s: &[u8], m: MapRecord, map: &mut [u8])
     requires { ⌜ CellsIn (now s) m (now map) ⌝ }
-    ensures { λ _. ⌜ now (map .exit) ≡ cellsOf (now (s .entry)) m ⌝ }
+    ensures { λ _. ⌜ now (map .exit) ≡ storedCells (cellsOf (now (s .entry)) m) ⌝ }
 {
     let from = m.cells;
     let to = from + map.len();
-    lines::put_text(map, 0, &s[from..to]);
+    floor::store_cells(&s[from..to], map);
 }
 
 // One turn of the program past the map: writes the text of what stands at the cursor at the start of `out`. The text of

@@ -1,5 +1,6 @@
--- `jobs::copy_cells` meets its contract: the part of the input that is copied is the cells of the map. Assumes nothing.
-use Rattle.jobs.proofs.Cells.{copied}
+-- `jobs::copy_cells` meets its contract: the part of the input that is stored is the cells of the map. Assumes nothing.
+use mathlib.Core.Path.{_∙_}
+use Rattle.jobs.proofs.Cells.{part-cells}
 use borrow.Author.Needs.{needs}
 use Rattle.jobs.proofs.copy_cells.Statement.{statement}
 use Rattle.jobs.proofs.copy_cells.Tie as tie
@@ -7,17 +8,17 @@ use Rattle.jobs.proofs.copy_cells.Tie as tie
 add-to : tie.Need-add-to
 add-to c = search needs
 
-sub-put-text : tie.Need-sub-put-text
-sub-put-text c = search needs
+sub-store-cells : tie.Need-sub-store-cells
+sub-store-cells c = search needs
 
-part-put-text-start : tie.Need-part-put-text-start
-part-put-text-start c = search needs
+part-store-cells-start : tie.Need-part-store-cells-start
+part-store-cells-start c = search needs
 
-part-put-text-end : tie.Need-part-put-text-end
-part-put-text-end c = search needs
+part-store-cells-end : tie.Need-part-store-cells-end
+part-store-cells-end c = search needs
 
-put-text-requires : tie.Need-put-text-requires
-put-text-requires c κs = search needs
+store-cells-requires : tie.Need-store-cells-requires
+store-cells-requires c κs = search needs
 
 same-length : tie.Need-same-length
 same-length c = search needs
@@ -25,16 +26,16 @@ same-length c = search needs
 returns : tie.Need-returns
 returns c =
     let t = c .before .before in
-    copied (t .before .before .before .before .before .pre) (t .put-text .ensures)
+    t .store-cells .ensures ∙ part-cells (t .before .before .before .before .before .pre)
 
 pub copy-cells-spec : {M : Type 1} → statement M
 copy-cells-spec =
     tie.close
     (tie.spec
     add-to
-    sub-put-text
-    part-put-text-start
-    part-put-text-end
-    put-text-requires
+    sub-store-cells
+    part-store-cells-start
+    part-store-cells-end
+    store-cells-requires
     same-length
     returns)
