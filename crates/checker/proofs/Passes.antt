@@ -13,9 +13,9 @@ use Rattle.basics.proofs.Scan.{Passed, passed-none, passed-stop, passed-more, p
 use Rattle.floor.specs.Floor.{Sized, floorOf, vertices}
 use Rattle.moves.specs.declared.Rows.{Rows}
 use Rattle.moves.specs.Table.{Listed}
-use Rattle.moves.specs.declared.Sweep.{Sweep}
-use Rattle.moves.specs.declared.Swept.{Swept}
-use Rattle.moves.specs.Masks.{OpenAt, SweepAt, SweptAt}
+use Rattle.masks.specs.declared.Sweep.{Sweep}
+use Rattle.masks.specs.declared.Swept.{Swept}
+use Rattle.masks.specs.Masks.{OpenAt, SweepAt, SweptAt}
 use Rattle.paths.specs.Graph.{Graph}
 use Rattle.paths.specs.Sheet.{Sheet}
 use Rattle.paths.specs.Local.{entry, localOn}

@@ -60,7 +60,7 @@ fn point_right(
     if n <= i + 1 {
         return false;
     }
-    let mask = moves::open_moves(w, h, map, at);
+    let mask = masks::open_moves(w, h, map, at);
     let Step::To(u) = neighbours::next_at(
         count,
         row,

@@ -164,9 +164,9 @@ pub fn vertices_right(
     let up = t.up;
     let down = t.down;
     let cost = t.cost;
-    let mut at = moves::sweep_start();
+    let mut at = masks::sweep_start();
     for v in 0..d.len() {
-        let here = moves::sweep_on(w, h, map, at);
+        let here = masks::sweep_on(w, h, map, at);
         if !vertex_right(
             count,
             &row,

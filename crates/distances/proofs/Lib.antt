@@ -2,5 +2,4 @@ pub mod Store
 pub mod Relax
 pub mod Turn
 pub mod Start
-pub mod MaskRows
 pub mod Operations

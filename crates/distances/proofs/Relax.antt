@@ -1,6 +1,6 @@
 -- The far ends of the open moves of one class from a vertex, offered a key one after the other.
 --
---   farAt up down u k    == where the offset of row k leads from u
+--   farAt shifts u k     == where the offset of row k leads from u
 --   open-step, step-open == a move whose row is in the mask leads where its offset does, and only such a move leads on
 --   Offered ..           == what an offer of a key to x leaves: x costs at most key
 --   offered              == an offer leaves the settled with one more, or as they were
@@ -31,14 +31,14 @@ use Rattle.basics.proofs.Order.{eq-or-ne}
 use Rattle.basics.proofs.Bools.{true-or-false}
 use Rattle.basics.proofs.Bounded.{pick-no}
 use Rattle.moves.specs.declared.Rows.{Rows}
-use Rattle.moves.specs.declared.Class.{Class}
+use Rattle.masks.specs.declared.Class.{Class}
 use Rattle.moves.specs.declared.Step.the-variants.{To, Off}
 use Rattle.moves.specs.Moves.{rowAt}
 use Rattle.moves.specs.Steps.{stepOf}
-use Rattle.moves.specs.Masks.{bit, RowMovable, lowestRow, lowestEnd}
-use Rattle.moves.specs.Classes.{Member}
-use Rattle.moves.proofs.Bits.{set-both, set-left, set-right, set-pos, lowest-set, others-set}
-use Rattle.moves.proofs.Masked.{lowest-to, lowest-off}
+use Rattle.masks.specs.Masks.{bit, shiftBase, RowMovable, lowestRow, lowestEnd}
+use Rattle.masks.specs.Classes.{Member}
+use Rattle.masks.proofs.Bits.{set-both, set-left, set-right, set-pos, lowest-set, others-set}
+use Rattle.masks.proofs.Masked.{lowest-to, lowest-off}
 use Rattle.paths.specs.Graph.{Graph}
 use Rattle.paths.specs.Distance.{unreachable}
 use Rattle.paths.specs.Local.{entry}
@@ -52,8 +52,8 @@ use Rattle.distances.proofs.Store.{ready-past, grown-past}
 
 -- ---- the far end of a move
 
-abbrev pub farAt : List ℕ → List ℕ → ℕ → ℕ → ℕ
-farAt up down u k = u + entry up k - entry down k
+abbrev pub farAt : List ℕ → ℕ → ℕ → ℕ
+farAt shifts u k = u + entry shifts k - shiftBase
 
 some-same : {x y : ℕ} → _≡_ {A = Option ℕ} (some x) (some y) → x ≡ y
 some-same e = cc
@@ -61,12 +61,12 @@ some-same e = cc
 none-some : {P : Type 0} {x : ℕ} → _≡_ {A = Option ℕ} none (some x) → P
 none-some e = let z : _≡_ {A = ℕ} 0 1 = cc in absurd (omega arith)
 
-module _ {g : Graph} {r : Rows} {up down work : List ℕ} (K : RowSteps g r up down work) {u mask : ℕ} (i : u < g .size)
+module _ {g : Graph} {r : Rows} {shifts work : List ℕ} (K : RowSteps g r shifts work) {u mask : ℕ} (i : u < g .size)
     (is : mask ≡ maskAt (g .size) work u) {m : ℕ} (lt : m < g .moves) where
   in-mask : bit mask (rowAt r m) ≡ bit (maskAt (g .size) work u) (rowAt r m)
   in-mask = ap (λ n. bit n (rowAt r m)) is
 
-  open-step : bit mask (rowAt r m) ≡ true → g .step m u ≡ some (farAt up down u (rowAt r m))
+  open-step : bit mask (rowAt r m) ≡ true → g .step m u ≡ some (farAt shifts u (rowAt r m))
   open-step e = let b = sym in-mask ∙ e in sym (K .step u m i lt) ∙ rw b
 
   step-open : {w : ℕ} → g .step m u ≡ some w → bit mask (rowAt r m) ≡ true
@@ -135,25 +135,25 @@ pub record RelaxedTo (g : Graph) (r : Rows) (a u mask : ℕ) (c : Class) (rest k
       → (bit rest (rowAt r m) ≡ true) ⊎ (entry d′ w ≤ key)
 
 -- The same of any graph, rows, class and source that the loop can run on, where it starts with the rows `all`.
-abbrev pub RelaxedOn : (up down : List ℕ) (p u mask all rest key n s : ℕ) (d d′ work work′ : List ℕ) → Type 0
-RelaxedOn up down p u mask all rest key n s d d′ work work′ =
-    (g : Graph) (r : Rows) (c : Class) (a : ℕ) → Relaxing g r up down c a p key n d work → all ≡ bitAnd mask (c .rows)
+abbrev pub RelaxedOn : (shifts : List ℕ) (p u mask all rest key n s : ℕ) (d d′ work work′ : List ℕ) → Type 0
+RelaxedOn shifts p u mask all rest key n s d d′ work work′ =
+    (g : Graph) (r : Rows) (c : Class) (a : ℕ) → Relaxing g r shifts c a p key n d work → all ≡ bitAnd mask (c .rows)
     → RelaxedTo g r a u mask c rest key n s d d′ work work′
 
 -- Row k is that of a move of class c, which leads from u where its offset does.
-record OpenRow (g : Graph) (up down : List ℕ) (c : Class) (u k : ℕ) : Type 0 where
+record OpenRow (g : Graph) (shifts : List ℕ) (c : Class) (u k : ℕ) : Type 0 where
   move : ℕ
   listed : move < g .moves
   cost : g .cost move ≡ c .cost
-  goes : g .step move u ≡ some (farAt up down u k)
-  movable : RowMovable u k up down
+  goes : g .step move u ≡ some (farAt shifts u k)
+  movable : RowMovable u k shifts
 
-pub row-left : (rest u : ℕ) (up down : List ℕ) {x : ℕ} → stepOf (lowestEnd rest u up down) ≡ To (record { 0 = x })
-    → (0 < rest) × (farAt up down u (lowestRow rest) ≡ x)
-row-left rest u up down {x} to = lowest-to u up down rest x (stepOf-to (lowestEnd rest u up down) x to)
+pub row-left : (rest u : ℕ) (shifts : List ℕ) {x : ℕ} → stepOf (lowestEnd rest u shifts) ≡ To (record { 0 = x })
+    → (0 < rest) × (farAt shifts u (lowestRow rest) ≡ x)
+row-left rest u shifts {x} to = lowest-to u shifts rest x (stepOf-to (lowestEnd rest u shifts) x to)
 
-module _ {g : Graph} {r : Rows} {up down : List ℕ} {c : Class} {a p key n : ℕ} {d work : List ℕ}
-    (B : Relaxing g r up down c a p key n d work) {u mask : ℕ} (vertex : u ≡ entry work p)
+module _ {g : Graph} {r : Rows} {shifts : List ℕ} {c : Class} {a p key n : ℕ} {d work : List ℕ}
+    (B : Relaxing g r shifts c a p key n d work) {u mask : ℕ} (vertex : u ≡ entry work p)
     (read : mask ≡ maskAt (length d) work u) where
   inside : u < g .size
   inside = omega (arith, B .walk .inside)
@@ -172,7 +172,7 @@ module _ {g : Graph} {r : Rows} {up down : List ℕ} {c : Class} {a p key n : �
   })
 
   module _ {rest s : ℕ} {d′ work′ : List ℕ} (P : RelaxedTo g r a u mask c rest key n s d d′ work work′) where
-    next-row : 0 < rest → OpenRow g up down c u (lowestRow rest)
+    next-row : 0 < rest → OpenRow g shifts c u (lowestRow rest)
     next-row h =
         let t = lowestRow rest in
         let q = P .within t (lowest-set rest h (P .small)) in
@@ -187,24 +187,23 @@ module _ {g : Graph} {r : Rows} {up down : List ℕ} {c : Class} {a p key n : �
           move = m;
           listed = lt;
           cost = B .class .same m M lt;
-          goes = open-step (B .steps) inside is lt b ∙ ap (λ k. some (farAt up down u k)) e;
+          goes = open-step (B .steps) inside is lt b ∙ ap (λ k. some (farAt shifts u k)) e;
           movable = record {
-            up-in = rw e at (B .table .ups m lt);
-            down-in = rw e at (B .table .downs m lt);
+            inside = rw e at (B .table .inside m lt);
             sum = rw e at (v .sum);
             enough = rw e at (v .enough (sym (in-mask (B .steps) inside is lt) ∙ b));
           };
         }
 
-    pub next-movable : 0 < rest → RowMovable u (lowestRow rest) up down
+    pub next-movable : 0 < rest → RowMovable u (lowestRow rest) shifts
     next-movable h = next-row h .movable
 
     -- x is the vertex to which the lowest row leads
-    module _ {x : ℕ} (to : stepOf (lowestEnd rest u up down) ≡ To (record { 0 = x })) where
-      end : (0 < rest) × (farAt up down u (lowestRow rest) ≡ x)
-      end = row-left rest u up down to
+    module _ {x : ℕ} (to : stepOf (lowestEnd rest u shifts) ≡ To (record { 0 = x })) where
+      end : (0 < rest) × (farAt shifts u (lowestRow rest) ≡ x)
+      end = row-left rest u shifts to
 
-      row : OpenRow g up down c u (lowestRow rest)
+      row : OpenRow g shifts c u (lowestRow rest)
       row = next-row (end .0)
 
       goes : g .step (row .move) u ≡ some x
@@ -232,16 +231,16 @@ module _ {g : Graph} {r : Rows} {up down : List ℕ} {c : Class} {a p key n : �
                 (λ b. ⊎-elim
                 (λ e.
                 let leads = open-step (B .steps) inside is lt (P .within (rowAt r m) b .0) in
-                let q : x ≡ w = sym (end .1) ∙ ap (farAt up down u) (sym e) ∙ some-same (sym leads ∙ st) in
+                let q : x ≡ w = sym (end .1) ∙ ap (farAt shifts u) (sym e) ∙ some-same (sym leads ∙ st) in
                 inr (omega (arith, ap (entry d″) q, O .low)))
                 (λ ne. inl (others-set rest (end .0) (P .small) (rowAt r m) b ne))
                 (eq-or-ne (rowAt r m) (lowestRow rest)))
                 (λ q. inr (omega (arith, O .grown .same-cost w (omega arith)))) (P .relaxed m w M lt st);
           }
 
-    pub relaxed-all : stepOf (lowestEnd rest u up down) ≡ Off → Relaxed g r a (entry work p) c key n s d d′ work work′
+    pub relaxed-all : stepOf (lowestEnd rest u shifts) ≡ Off → Relaxed g r a (entry work p) c key n s d d′ work work′
     relaxed-all off =
-        let z = lowest-off u up down rest (stepOf-off (lowestEnd rest u up down) off) in
+        let z = lowest-off u shifts rest (stepOf-off (lowestEnd rest u shifts) off) in
         rw (← vertex) (record {
           ready = P .ready;
           grown = P .grown;

@@ -17,10 +17,10 @@ use lib.Seq.{getD-set-same, getD-set-other}
 use Rattle.basics.proofs.Order.{eq-or-ne}
 use Rattle.basics.proofs.Bounded.{pick-no}
 use Rattle.moves.specs.declared.Rows.{Rows}
-use Rattle.moves.specs.declared.Class.{Class}
+use Rattle.masks.specs.declared.Class.{Class}
 use Rattle.moves.specs.Moves.{rowAt}
-use Rattle.moves.specs.Classes.{Member, classAt}
-use Rattle.moves.proofs.Bits.{set-pos}
+use Rattle.masks.specs.Classes.{Member, classAt}
+use Rattle.masks.proofs.Bits.{set-pos}
 use Rattle.paths.specs.Graph.{Graph}
 use Rattle.paths.specs.Distance.{unreachable}
 use Rattle.paths.specs.Local.{entry}
@@ -129,9 +129,9 @@ three-classes {g} {r} {l} C = record {
     same (suc (suc zero)) h = refl
     same (suc (suc (suc k))) h = absurd (omega arith)
 
-module _ {g : Graph} {r : Rows} {up down : List ℕ} {l : List Class} {a : ℕ} where
-  pub mergeable-start : {d work : List ℕ} (d′ : List ℕ) → Mergeable g r up down l a d work → length d′ ≡ length d
-      → Mergeable g r up down (classAt l 0 ∷ classAt l 1 ∷ classAt l 2 ∷ []) a (set d′ a 0) (set work 0 a)
+module _ {g : Graph} {r : Rows} {shifts : List ℕ} {l : List Class} {a : ℕ} where
+  pub mergeable-start : {d work : List ℕ} (d′ : List ℕ) → Mergeable g r shifts l a d work → length d′ ≡ length d
+      → Mergeable g r shifts (classAt l 0 ∷ classAt l 1 ∷ classAt l 2 ∷ []) a (set d′ a 0) (set work 0 a)
   mergeable-start {work = work} d′ M same = record {
     few = M .few;
     lawful = M .lawful;
@@ -143,7 +143,7 @@ module _ {g : Graph} {r : Rows} {up down : List ℕ} {l : List Class} {a : ℕ} 
     work-len = length-set work 0 a ∙ M .work-len;
   }
 
-  pub merging-start : (v : ℕ) (pos d work : List ℕ) → Mergeable g r up down l a (set d a 0) (set work 0 a)
+  pub merging-start : (v : ℕ) (pos d work : List ℕ) → Mergeable g r shifts l a (set d a 0) (set work 0 a)
       → d ≡ replicate v unreachable → ((k : ℕ) → k < 3 → 0 < classAt l k .rows → getD pos k 0 ≡ 0)
       → Merging g r a 1 l pos (set d a 0) (set work 0 a) (set work 0 a)
   merging-start v pos d work M e firsts =

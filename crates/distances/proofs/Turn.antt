@@ -25,17 +25,17 @@ use Rattle.basics.proofs.Order.{le-or-lt, eq-or-ne}
 use Rattle.basics.proofs.Lists.{tabulate-of}
 use Rattle.basics.proofs.Bounded.{pick-yes, pick-no}
 use Rattle.moves.specs.declared.Rows.{Rows}
-use Rattle.moves.specs.declared.Class.{Class}
+use Rattle.masks.specs.declared.Class.{Class}
 use Rattle.moves.specs.Moves.{rowAt}
-use Rattle.moves.specs.Masks.{maskedEnd, Movable}
-use Rattle.moves.specs.Classes.{Member, classAt}
-use Rattle.moves.proofs.Bits.{set-pos}
+use Rattle.masks.specs.Masks.{maskedEnd, Movable, shiftedBy}
+use Rattle.masks.specs.Classes.{Member, classAt}
+use Rattle.masks.proofs.Bits.{set-pos}
 use Rattle.paths.specs.Graph.{Graph}
 use Rattle.paths.specs.Distance.{unreachable, distance}
 use Rattle.paths.specs.Local.{entry}
 use Rattle.paths.proofs.Costs.{walked-true}
 use Rattle.distances.specs.Order.{maskAt, SettledCosts}
-use Rattle.distances.specs.Merge.{keyOf, Keyed, offsetAt, RowSteps, OneCost, Settled, Ready, Grown}
+use Rattle.distances.specs.Merge.{keyOf, Keyed, RowSteps, OneCost, Settled, Ready, Grown}
 use Rattle.distances.specs.Merge.{Relaxing, Relaxed, Passed, Merging, Mergeable, remaining}
 use Rattle.distances.proofs.Store.{last, settled-le}
 
@@ -59,13 +59,13 @@ keyed S = record {
 
 -- ---- the masks
 
-pub steps-same : {g : Graph} {r : Rows} {up down work₀ work : List ℕ} → RowSteps g r up down work₀
-    → ((i : ℕ) → g .size < i → entry work i ≡ entry work₀ i) → RowSteps g r up down work
-steps-same {g} {r} {up} {down} {work₀} {work} M same = record {
+pub steps-same : {g : Graph} {r : Rows} {shifts work₀ work : List ℕ} → RowSteps g r shifts work₀
+    → ((i : ℕ) → g .size < i → entry work i ≡ entry work₀ i) → RowSteps g r shifts work
+steps-same {g} {r} {shifts} {work₀} {work} M same = record {
   movable = λ u m i lt.
-      subst (λ z. Movable z u (rowAt r m) (offsetAt up down (rowAt r m))) (sym (kept u i)) (M .movable u m i lt);
+      subst (λ z. Movable z u (rowAt r m) (shiftedBy shifts (rowAt r m))) (sym (kept u i)) (M .movable u m i lt);
   step = λ u m i lt.
-      ap (λ z. maskedEnd z u (rowAt r m) (offsetAt up down (rowAt r m))) (kept u i) ∙ M .step u m i lt;
+      ap (λ z. maskedEnd z u (rowAt r m) (shiftedBy shifts (rowAt r m))) (kept u i) ∙ M .step u m i lt;
 }
   where
     kept : (u : ℕ) → u < g .size → maskAt (g .size) work u ≡ maskAt (g .size) work₀ u
@@ -148,22 +148,22 @@ remaining-falls v (x ∷ l) (suc k) h s = omega (arith, remaining-falls v l k (o
 
 -- ---- a turn
 
-abbrev pub MergingOn : (up down : List ℕ) (a n : ℕ) (l : List Class) (pos d₀ d work₀ work : List ℕ) → Type 0
-MergingOn up down a n l pos d₀ d work₀ work =
-    (g : Graph) (r : Rows) → Mergeable g r up down l a d₀ work₀ → Merging g r a n l pos d work₀ work
+abbrev pub MergingOn : (shifts : List ℕ) (a n : ℕ) (l : List Class) (pos d₀ d work₀ work : List ℕ) → Type 0
+MergingOn shifts a n l pos d₀ d work₀ work =
+    (g : Graph) (r : Rows) → Mergeable g r shifts l a d₀ work₀ → Merging g r a n l pos d work₀ work
 
 -- What a turn of class k needs, and what it leaves.
-pub record Turn (g : Graph) (r : Rows) (up down : List ℕ) (a n k key : ℕ) (l : List Class)
+pub record Turn (g : Graph) (r : Rows) (shifts : List ℕ) (a n k key : ℕ) (l : List Class)
     (pos d₀ d work₀ work : List ℕ) : Type 0 where
-  pub relaxing : Relaxing g r up down (classAt l k) a (getD pos k 0) key n d work
+  pub relaxing : Relaxing g r shifts (classAt l k) a (getD pos k 0) key n d work
   pub small : getD pos k 0 < 16384
   pub falls : remaining (length d₀) (set pos k (getD pos k 0 + 1)) < remaining (length d₀) pos
   pub next : {s : ℕ} {d′ work′ : List ℕ}
       → Relaxed g r a (entry work (getD pos k 0)) (classAt l k) key n s d d′ work work′
       → Merging g r a s l (set pos k (getD pos k 0 + 1)) d′ work₀ work′
 
-module _ {g : Graph} {r : Rows} {up down : List ℕ} {a n k key : ℕ} {l : List Class} {pos d₀ d work₀ work : List ℕ}
-    (M : Mergeable g r up down l a d₀ work₀) (K : Merging g r a n l pos d work₀ work) (T : Least n k key l pos d work)
+module _ {g : Graph} {r : Rows} {shifts : List ℕ} {a n k key : ℕ} {l : List Class} {pos d₀ d work₀ work : List ℕ}
+    (M : Mergeable g r shifts l a d₀ work₀) (K : Merging g r a n l pos d work₀ work) (T : Least n k key l pos d work)
   where
     module _ (low : key < unreachable) where
       abbrev p : ℕ
@@ -186,7 +186,7 @@ module _ {g : Graph} {r : Rows} {up down : List ℕ} {a n k key : ℕ} {l : List
       one-cost : OneCost g r c
       one-cost = M .classes .each k (T .one)
 
-      relaxing : Relaxing g r up down c a p key n d work
+      relaxing : Relaxing g r shifts c a p key n d work
       relaxing = let S = K .settled in let i = S .ordered .inside p before-end in record {
         lawful = M .lawful;
         table = M .table;
@@ -227,7 +227,7 @@ module _ {g : Graph} {r : Rows} {up down : List ℕ} {a n k key : ℕ} {l : List
           stayed j h =
               passed-same (K .settled) (P .ready) (P .grown) (M .classes .each j h .high) (K .passed j h) (T .least j h)
 
-      pub turn : length pos ≡ 3 → Turn g r up down a n k key l pos d₀ d work₀ work
+      pub turn : length pos ≡ 3 → Turn g r shifts a n k key l pos d₀ d work₀ work
       turn len = record {
         relaxing = relaxing;
         small = omega (arith, before-all, K .settled .few);

@@ -7,9 +7,8 @@
 --   keyOf n p c d work       == the key of place p of the order for moves of cost c; `unreachable` past the n settled
 --   Keyed n d work           == the keys of the first n places can be worked out
 --   Lowest r k0 k1 k2        == r is the number of the least key; 3 where no key is below `unreachable`
---   offsetAt up down k       == by how much the move of row k changes a vertex number
---   Table g r up down        == the lists have a place for the row of every move
---   RowSteps g r up down ..  == the masks, with the offsets of the rows, give the steps of the graph g
+--   Table g r shifts         == the list has a place for the row of every move
+--   RowSteps g r shifts ..   == the masks, with the shifts of the rows, give the steps of the graph g
 --   OneCost g r c            == the rows of class c are rows of moves of g, which all have its cost
 --   CostClasses g r l        == the three classes of l have every move of g
 --   reached l                == how many costs of the list l are below `unreachable`
@@ -31,12 +30,11 @@ use mathlib.Core.List.{List, [], _∷_}
 use lib.Dec.{ltb, eqb}
 use lib.ListN.{length, getD, set}
 use Rattle.basics.specs.Bounded.{pick}
-use Rattle.moves.specs.declared.Class.{Class}
-use Rattle.moves.specs.declared.Offset.{Offset}
+use Rattle.masks.specs.declared.Class.{Class}
 use Rattle.moves.specs.declared.Rows.{Rows}
 use Rattle.moves.specs.Moves.{rowAt}
-use Rattle.moves.specs.Masks.{bit, maskedEnd, Movable}
-use Rattle.moves.specs.Classes.{Member, classAt}
+use Rattle.masks.specs.Masks.{bit, maskedEnd, Movable, shiftedBy}
+use Rattle.masks.specs.Classes.{Member, classAt}
 use Rattle.paths.specs.Graph.{Graph, Lawful}
 use Rattle.paths.specs.Distance.{unreachable}
 use Rattle.paths.specs.Local.{entry}
@@ -74,18 +72,14 @@ pub record Lowest (r k0 k1 k2 : ℕ) : Type 0 where
 
 -- ---- the moves
 
-abbrev pub offsetAt : List ℕ → List ℕ → ℕ → Offset
-offsetAt up down k = record { up = entry up k; down = entry down k }
+pub record Table (g : Graph) (r : Rows) (shifts : List ℕ) : Type 0 where
+  pub inside : (m : ℕ) → m < g .moves → rowAt r m < length shifts
 
-pub record Table (g : Graph) (r : Rows) (up down : List ℕ) : Type 0 where
-  pub ups : (m : ℕ) → m < g .moves → rowAt r m < length up
-  pub downs : (m : ℕ) → m < g .moves → rowAt r m < length down
-
-pub record RowSteps (g : Graph) (r : Rows) (up down work : List ℕ) : Type 0 where
+pub record RowSteps (g : Graph) (r : Rows) (shifts work : List ℕ) : Type 0 where
   pub movable : (u m : ℕ) → u < g .size → m < g .moves
-      → Movable (maskAt (g .size) work u) u (rowAt r m) (offsetAt up down (rowAt r m))
+      → Movable (maskAt (g .size) work u) u (rowAt r m) (shiftedBy shifts (rowAt r m))
   pub step : (u m : ℕ) → u < g .size → m < g .moves
-      → maskedEnd (maskAt (g .size) work u) u (rowAt r m) (offsetAt up down (rowAt r m)) ≡ g .step m u
+      → maskedEnd (maskAt (g .size) work u) u (rowAt r m) (shiftedBy shifts (rowAt r m)) ≡ g .step m u
 
 pub record OneCost (g : Graph) (r : Rows) (c : Class) : Type 0 where
   pub high : c .cost ≤ 4095
@@ -135,11 +129,11 @@ pub record Grown (v n r key : ℕ) (d d′ work work′ : List ℕ) : Type 0 whe
 
 -- ---- one class of moves
 
-pub record Relaxing (g : Graph) (r : Rows) (up down : List ℕ) (c : Class) (a p key n : ℕ) (d work : List ℕ)
+pub record Relaxing (g : Graph) (r : Rows) (shifts : List ℕ) (c : Class) (a p key n : ℕ) (d work : List ℕ)
     : Type 0 where
   pub lawful : Lawful g
-  pub table : Table g r up down
-  pub steps : RowSteps g r up down work
+  pub table : Table g r shifts
+  pub steps : RowSteps g r shifts work
   pub class : OneCost g r c
   pub ready : Ready g a n key d work
   pub place : p < n
@@ -165,11 +159,11 @@ pub record Merging (g : Graph) (r : Rows) (a n : ℕ) (l : List Class) (pos d wo
   pub passed : (k : ℕ) → k < 3 → Passed g r n (classAt l k) (getD pos k 0) d work
   pub rest : (i : ℕ) → g .size < i → entry work i ≡ entry work₀ i
 
-pub record Mergeable (g : Graph) (r : Rows) (up down : List ℕ) (l : List Class) (a : ℕ) (d work : List ℕ) : Type 0 where
+pub record Mergeable (g : Graph) (r : Rows) (shifts : List ℕ) (l : List Class) (a : ℕ) (d work : List ℕ) : Type 0 where
   pub few : g .size ≤ 16384
   pub lawful : Lawful g
-  pub table : Table g r up down
-  pub steps : RowSteps g r up down work
+  pub table : Table g r shifts
+  pub steps : RowSteps g r shifts work
   pub classes : CostClasses g r l
   pub source : a < g .size
   pub d-len : length d ≡ g .size

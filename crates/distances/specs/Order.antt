@@ -6,8 +6,8 @@
 --   Ordered v n D O        == O 0, .. O (n - 1) are the vertices below v that have a cost, each once, by rising cost D
 --   Masked g t work        == the masks, read by the table t, give the steps of the graph g
 --   maskOn f work v        == the mask of vertex v of the floor f
---   OpenMasks f work       == the mask of each vertex says which of the table's moves are open from it
---   MasksTo f n work work′ == so do the masks of the first n vertices; all else is as it was
+--   MasksIn f work         == the mask of each vertex says which of the table's moves are open from it
+--   MasksFilled f w w′     == so it does in the slice w′, which is as long as w
 --   SettledCosts ..        == d holds the distances from a, and the working slice begins with the n vertices that have
 --                             one, in order; past the order it is as it was
 --   Costing ..             == what is asked of the operations: a floor of good shape, the rows of a neighbourhood, a
@@ -22,7 +22,7 @@ use Rattle.basics.specs.Lists.{tabulate, zeros}
 use Rattle.floor.specs.Floor.{Floor, Sized, vertices}
 use Rattle.moves.specs.declared.Rows.{Rows}
 use Rattle.moves.specs.Table.{Listed}
-use Rattle.moves.specs.Masks.{OpenAt}
+use Rattle.masks.specs.Masks.{OpenAt}
 use Rattle.paths.specs.Graph.{Graph}
 use Rattle.paths.specs.Distance.{unreachable, distance}
 use Rattle.paths.specs.Local.{entry}
@@ -48,15 +48,13 @@ pub record Masked (g : Graph) (t : Reach) (work : List ℕ) : Type 0 where
 abbrev pub maskOn : Floor → List ℕ → ℕ → ℕ
 maskOn f = maskAt (vertices (f .wide) (f .high))
 
-abbrev pub OpenMasks : Floor → List ℕ → Type 0
-OpenMasks f work =
+abbrev pub MasksIn : Floor → List ℕ → Type 0
+MasksIn f work =
     (v : ℕ) → v < vertices (f .wide) (f .high) → OpenAt f v (maskOn f work v)
 
-pub record MasksTo (f : Floor) (n : ℕ) (work work′ : List ℕ) : Type 0 where
+pub record MasksFilled (f : Floor) (work work′ : List ℕ) : Type 0 where
   pub len : length work′ ≡ length work
-  pub masks : (v : ℕ) → v < n → OpenAt f v (maskOn f work′ v)
-  pub before : (i : ℕ) → i < 2 * vertices (f .wide) (f .high) → entry work′ i ≡ entry work i
-  pub after : (i : ℕ) → 3 * vertices (f .wide) (f .high) ≤ i → entry work′ i ≡ entry work i
+  pub masks : MasksIn f work′
 
 pub record SettledCosts (g : Graph) (a n : ℕ) (d work work′ : List ℕ) : Type 0 where
   pub costs : d ≡ tabulate (g .size) (distance g a)
@@ -79,7 +77,7 @@ pub record OrderedCosts (f : Floor) (r : Rows) (a n : ℕ) (d work : List ℕ) :
   pub few : n ≤ floorGraph f r .size
   pub work-len : length work ≡ 4 * floorGraph f r .size
   pub ordered : Ordered (floorGraph f r .size) n (entry d) (entry work)
-  pub masks : OpenMasks f work
+  pub masks : MasksIn f work
   pub masked : (t : Reach) → Built (f .wide) r t → Masked (floorGraph f r) t work
 
 pub record FilledCosts (g : Graph) (a : ℕ) (d work : List ℕ) : Type 0 where

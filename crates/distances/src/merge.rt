@@ -12,7 +12,7 @@ ghost use Rattle.distances.specs.Order.{SettledCosts};
 ghost use Rattle.distances.specs.Merge.{costGiven, countGiven, Given, keyOf, Keyed, Lowest};
 ghost use Rattle.distances.specs.Merge.{Relaxing, Relaxed, Mergeable};
 use floor::Vertex;
-use moves::Class;
+use masks::Class;
 use moves::Step;
 
 // A number of 32 bits as a usize.
@@ -55,11 +55,10 @@ fn offer(x: usize, key: u32, n: usize, d: &mut [u32], work: &mut [u32]) -> usize
 }
 
 // Gives the key to the far ends of the open moves of a class from the vertex at place p of the order: of the rows whose
-// bit both the class and the vertex's mask have, the lowest first. `up` and `down` have by how much the move of each
-// row changes a vertex number; they are lent, since a table passed by value would be copied at each turn.
+// bit both the class and the vertex's mask have, the lowest first. `shifts` has by how much the move of each row
+// changes a vertex number; it is lent, since a table passed by value would be copied at each turn.
 fn relax_class(
-    up: &[usize],
-    down: &[usize],
+    shifts: &[usize],
     class: Class,
     p: usize,
     key: u32,
@@ -68,9 +67,9 @@ fn relax_class(
     work: &mut [u32],
 ) -> usize
     requires { ⌜ ((g : Graph) × (r : Rows) × (a : ℕ)
-        × Relaxing g r (now up) (now down) class a p key n (now d) (now work)) ⌝ }
+        × Relaxing g r (now shifts) class a p key n (now d) (now work)) ⌝ }
     ensures { λ s. ⌜ ((g : Graph) → (r : Rows) → (a : ℕ)
-        → Relaxing g r (now (up .entry)) (now (down .entry)) class a p key n (now (d .entry)) (now (work .entry))
+        → Relaxing g r (now (shifts .entry)) class a p key n (now (d .entry)) (now (work .entry))
         → Relaxed g r a (entry (now (work .entry)) p) class key n s (now (d .entry)) (now (d .exit))
         (now (work .entry)) (now (work .exit))) ⌝ }
 {
@@ -79,7 +78,7 @@ fn relax_class(
     let mut k = n;
     let mut rest = mask & class.rows;
     loop {
-        let Step::To(x) = moves::lowest_step(rest, u, up, down) else {
+        let Step::To(x) = masks::lowest_step(rest, u, shifts) else {
             return k;
         };
         k = offer(x.0, key, k, d, work);
@@ -131,16 +130,15 @@ fn first_place(class: Class, v: usize) -> usize
 // Fills d with the costs from a, and the beginning of `work` with the vertices that have one, by rising cost; answers
 // how many those are. Each turn moves one position on by one place, so there are at most three turns for a vertex.
 pub fn settle(
-    up: &[usize],
-    down: &[usize],
+    shifts: &[usize],
     classes: [Class; 3],
     a: usize,
     d: &mut [u32],
     work: &mut [u32],
 ) -> usize
-    requires { ⌜ ((g : Graph) × (r : Rows) × Mergeable g r (now up) (now down) classes a (now d) (now work)) ⌝ }
+    requires { ⌜ ((g : Graph) × (r : Rows) × Mergeable g r (now shifts) classes a (now d) (now work)) ⌝ }
     ensures { λ n. ⌜ ((g : Graph) → (r : Rows)
-        → Mergeable g r (now (up .entry)) (now (down .entry)) classes a (now (d .entry)) (now (work .entry))
+        → Mergeable g r (now (shifts .entry)) classes a (now (d .entry)) (now (work .entry))
         → SettledCosts g a n (now (d .exit)) (now (work .entry)) (now (work .exit))) ⌝ }
 {
     basics::fill_u32(d, paths::UNREACHABLE);
@@ -162,16 +160,16 @@ pub fn settle(
             return n;
         }
         if k == 0 {
-            n = relax_class(up, down, c0, p0, k0, n, d, work);
+            n = relax_class(shifts, c0, p0, k0, n, d, work);
             p0 += 1;
             continue;
         }
         if k == 1 {
-            n = relax_class(up, down, c1, p1, k1, n, d, work);
+            n = relax_class(shifts, c1, p1, k1, n, d, work);
             p1 += 1;
             continue;
         }
-        n = relax_class(up, down, c2, p2, k2, n, d, work);
+        n = relax_class(shifts, c2, p2, k2, n, d, work);
         p2 += 1;
     }
 }

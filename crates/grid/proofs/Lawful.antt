@@ -6,77 +6,26 @@
 --   graph-same         == two floors with the same cells have the same graph: what a change of how floors are stored
 --                         has to show
 use Prim.Native.Nat.{ℕ, suc, _≤_, _<_}
-use mathlib.Core.Path.{_≡_, sym, ap, _∙_}
+use mathlib.Core.Path.{_≡_, sym}
 use mathlib.Core.Logic.{⊎-elim}
 use mathlib.Core.Bool.{true}
-use mathlib.Core.Option.{some}
 use native.Mathlib.Omega.{arith}
 use Rattle.basics.proofs.Order.{le-or-lt}
-use Rattle.floor.specs.Floor.{Floor, vertices, column, row}
-use Rattle.floor.proofs.Numbers.{vertices-le, number-lt, number-of}
-use Rattle.floor.proofs.Numbers.{column-le, row-le, column-number, row-number}
-use Rattle.sight.specs.Sight.{Segment, segmentOf, sees}
-use Rattle.sight.proofs.Symmetry.{sees-back, sees-same}
-use Rattle.moves.specs.declared.Move.{Move}
+use Rattle.floor.specs.Floor.{Floor, column, row}
+use Rattle.floor.proofs.Numbers.{vertices-le, column-le}
+use Rattle.sight.specs.Sight.{Segment, sees}
+use Rattle.sight.proofs.Symmetry.{sees-same}
 use Rattle.moves.specs.declared.Rows.{Rows}
 use Rattle.moves.specs.Moves.{moveAt}
-use Rattle.moves.specs.Steps.{openEndAt, openEnd}
+use Rattle.moves.specs.Steps.{openEndAt}
 use Rattle.moves.specs.Table.{oppositeOf, lawfulRows}
-use Rattle.moves.proofs.Table.{Turned, LawfulMove, lawful-move, offset-eq}
-use Rattle.moves.proofs.Steps.{Goes, goes-open, open-goes}
+use Rattle.moves.proofs.Table.{LawfulMove, lawful-move}
+use Rattle.moves.proofs.Steps.{goes-open}
+use Rattle.moves.proofs.Opposites.{goes, goes-inside, goes-dx, goes-dy, goes-back}
 use Rattle.paths.specs.Graph.{Lawful}
 use Rattle.grid.specs.Grid.{floorGraph}
 
 module _ (f : Floor) where
-  abbrev W : ℕ
-  W = f .wide
-
-  abbrev X : ℕ → ℕ
-  X = column W
-
-  abbrev Y : ℕ → ℕ
-  Y = row W
-
-  goes : (m : Move) (u w : ℕ) → openEnd f m u ≡ some w → Goes f m (X u) (Y u) w
-  goes m u w e = open-goes f m (X u) (Y u) w (column-le W u) e
-
-  goes-column : (m : Move) (u w : ℕ) (g : Goes f m (X u) (Y u) w) → X w ≡ g .i
-  goes-column m u w g = ap X (g .vertex) ∙ column-number W (g .i) (g .j) (g .columns .inside)
-
-  goes-row : (m : Move) (u w : ℕ) (g : Goes f m (X u) (Y u) w) → Y w ≡ g .j
-  goes-row m u w g = ap Y (g .vertex) ∙ row-number W (g .i) (g .j) (g .columns .inside)
-
-  goes-inside : (m : Move) (u w : ℕ) → Goes f m (X u) (Y u) w → w < vertices W (f .high)
-  goes-inside m u w g = rw (g .vertex) (number-lt W (f .high) (g .i) (g .j) (g .columns .inside) (g .rows .inside))
-
-  -- The same two ends give the same offsets.
-  goes-dx : (m n : Move) (u w : ℕ) → Goes f m (X u) (Y u) w → Goes f n (X u) (Y u) w → m .dx ≡ n .dx
-  goes-dx m n u w g k =
-      offset-eq (m .dx) (n .dx)
-      (omega (arith, goes-column m u w g, goes-column n u w k, g .columns .moved, k .columns .moved))
-
-  goes-dy : (m n : Move) (u w : ℕ) → Goes f m (X u) (Y u) w → Goes f n (X u) (Y u) w → m .dy ≡ n .dy
-  goes-dy m n u w g k =
-      offset-eq (m .dy) (n .dy) (omega (arith, goes-row m u w g, goes-row n u w k, g .rows .moved, k .rows .moved))
-
-  -- The opposite offsets lead back.
-  goes-back : (m n : Move) (u w : ℕ) → u < vertices W (f .high) → Turned (n .dx) (m .dx) → Turned (n .dy) (m .dy)
-      → Goes f m (X u) (Y u) w → Goes f n (X w) (Y w) u
-  goes-back m n u w l p q g = record {
-    i = X u;
-    j = Y u;
-    columns = record {
-      moved = omega (arith, goes-column m u w g, g .columns .moved, p .up-down, p .down-up);
-      inside = column-le W u;
-    };
-    rows = record {
-      moved = omega (arith, goes-row m u w g, g .rows .moved, q .up-down, q .down-up);
-      inside = row-le W (f .high) u l;
-    };
-    vertex = sym (number-of W u);
-    seen = rw (goes-column m u w g, goes-row m u w g) (sees-back f (segmentOf (X u) (Y u) (g .i) (g .j)) ∙ g .seen);
-  }
-
   module _ (r : Rows) (e : lawfulRows r ≡ true) where
     law : (m : ℕ) → m < r .count → LawfulMove r m
     law m l = lawful-move r m e l
@@ -95,21 +44,23 @@ module _ (f : Floor) where
     floor-lawful = record {
       low = λ m l. law m l .cost-low;
       high = λ m l. law m l .cost-high;
-      inside = λ m u w l i s. goes-inside (moveAt r m) u w (goes (moveAt r m) u w s);
+      inside = λ m u w l i s. goes-inside f (moveAt r m) u w (goes f (moveAt r m) u w s);
       distinct = λ m n u w l k i s t.
-          let a = goes (moveAt r m) u w s in
-          let b = goes (moveAt r n) u w t in
-          same-move m n l k (goes-dx (moveAt r m) (moveAt r n) u w a b) (goes-dy (moveAt r m) (moveAt r n) u w a b);
+          let a = goes f (moveAt r m) u w s in
+          let b = goes f (moveAt r n) u w t in
+          same-move m n l k (goes-dx f (moveAt r m) (moveAt r n) u w a b)
+          (goes-dy f (moveAt r m) (moveAt r n) u w a b);
       opposite = oppositeOf r;
       opposite-listed = λ m l. law m l .opposite-listed;
       opposite-cost = λ m l. law m l .opposite-cost;
       opposite-back = λ m u w l i s.
           let n = moveAt r (oppositeOf r m) in
-          goes-open f n (X w) (Y w) u (column-le W w)
-          (goes-back (moveAt r m) n u w i (law m l .opposite-dx) (law m l .opposite-dy) (goes (moveAt r m) u w s));
+          goes-open f n (column (f .wide) w) (row (f .wide) w) u (column-le (f .wide) w)
+          (goes-back f (moveAt r m) n u w i (law m l .opposite-dx) (law m l .opposite-dy)
+          (goes f (moveAt r m) u w s));
     }
 
-  pub size-le : W ≤ 127 → f .high ≤ 127 → (r : Rows) → floorGraph f r .size ≤ 16384
+  pub size-le : f .wide ≤ 127 → f .high ≤ 127 → (r : Rows) → floorGraph f r .size ≤ 16384
   size-le p q r = vertices-le p q
 
 pub graph-same : (f h : Floor) (r : Rows) → f .wide ≡ h .wide → f .high ≡ h .high

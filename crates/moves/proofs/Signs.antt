@@ -1,8 +1,9 @@
 -- A small signed byte: what the machine reads back, and its two parts by its sign.
 --
 --   back, back-neg   == the offset, and its negation, as the machine reads them back
+--   parts-abs        == its two parts together are how far it goes
 --   Below d, Above d == the parts of an offset below 0, and of one that is not
-use Prim.Native.Nat.{ℕ, _≤_}
+use Prim.Native.Nat.{ℕ, _+_, _≤_}
 use mathlib.Core.Path.{_≡_, refl}
 use mathlib.Core.Bool.{true, false}
 use native.Mathlib.Omega.{arith}
@@ -53,6 +54,11 @@ pub above : (d : ℤ) → natAbs d ≤ 2 → ltZ d (pos 0) ≡ false → Above d
 unfolding up down
 above (pos n) h e = record { sign = tt; up-is = refl; down-zero = refl; fits = record { fits = omega arith } }
 above (negsuc n) h e = let g : true ≡ false = e in let z : _≡_ {A = ℕ} 0 1 = cc in absurd (omega arith)
+
+pub parts-abs : (d : ℤ) → up d + down d ≡ natAbs d
+unfolding up down
+parts-abs (pos n) = omega arith
+parts-abs (negsuc n) = omega arith
 
 pub up-le : (d : ℤ) → up d ≤ natAbs d
 unfolding up

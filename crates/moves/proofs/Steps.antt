@@ -1,26 +1,32 @@
 -- The far end of a move: one coordinate, the spot, the vertex, and what an open move is.
 --
 --   shifted-at, shifted-is, -low, -high == one coordinate moved by an offset
+--   shifted-span, shifted-same          == how far that is
+--   spot-reaches, reaches-on            == the spot to which a move leads
 --   Goes f m x y w                      == move m goes from (x, y) to vertex w and is open
 --   open-goes, goes-open                == `openEndAt` says so
 --   open-if-seen, open-past-spot        == an open move by what its ends see; a move that leaves the floor is not open
 use Prim.Native.Nat.{ℕ, _+_, _-_, _≤_, _<_}
 use mathlib.Core.Path.{_≡_, refl, sym, ap, _∙_}
 use mathlib.Core.Bool.{Bool, true, false, _&&_, and-false}
+use mathlib.Core.Logic.{⊎-elim}
 use mathlib.Core.Option.{Option, none, some}
 use native.Mathlib.Omega.{arith}
-use borrow.Author.Tests.{le-leb, lt-leb, leb-true}
-use lib.Dec.{leb}
-use lib.IntN.{ℤ}
+use borrow.Author.Tests.{le-leb, lt-leb, leb-true, eq-eqb, ne-eqb}
+use lib.Dec.{leb, eqb}
+use lib.IntN.{ℤ, pos, negsuc, natAbs}
+use Rattle.basics.proofs.Order.{le-or-lt}
 use Rattle.floor.specs.Floor.{Floor, number}
 use Rattle.floor.proofs.Numbers.{column-number, row-number}
 use Rattle.sight.specs.Sight.{segment, segmentOf, sees}
+use Rattle.sight.specs.Obstacle.{span}
+use Rattle.sight.proofs.Travel.{span-up, span-down}
 use Rattle.moves.specs.declared.Move.{Move}
 use Rattle.moves.specs.declared.Place.the-variants.{Is, Past}
 use Rattle.moves.specs.declared.Spot.the-variants.{At, Outside}
 use Rattle.moves.specs.declared.Step.the-variants.{To, Off}
 use Rattle.moves.specs.Steps.{up, down, shifted, thenAt, farEndAt, openEndAt, stepOf}
-use Rattle.moves.specs.Table.{OnFloor, placeOf, spotOf}
+use Rattle.moves.specs.Table.{OnFloor, Reaches, placeOf, spotOf}
 
 -- ---- one coordinate
 
@@ -63,6 +69,26 @@ shifted-is n a b d e = cases (leb (down d) (a + up d)) (leb (a + up d) (n + down
     cases true false p q h = never h
     cases false q p r h = never h
 
+-- An offset leads as far as it is long, and nowhere else exactly where it is 0.
+pub shifted-span : (n a b : ℕ) (d : ℤ) → Shifted n a b d → span a b ≡ natAbs d
+unfolding up down
+shifted-span n a b (pos k) s = omega (arith, s .moved, span-up a b (omega (arith, s .moved)))
+shifted-span n a b (negsuc k) s = omega (arith, s .moved, span-down a b (omega (arith, s .moved)))
+
+pub shifted-same : (n a b : ℕ) (d : ℤ) → Shifted n a b d → eqb (natAbs d) 0 ≡ eqb a b
+shifted-same n a b d s =
+    let e = shifted-span n a b d s in
+    ⊎-elim
+    (λ l. ⊎-elim
+    (λ k.
+    let z : a ≡ b = omega arith in
+    eq-eqb (natAbs d) 0 (omega (arith, e, span-up a b l)) ∙ sym (eq-eqb a b z))
+    (λ k. ne-eqb (natAbs d) 0 (λ z. omega (arith, e, span-up a b l)) ∙ sym (ne-eqb a b (λ z. omega arith)))
+    (le-or-lt b a))
+    (λ l.
+    ne-eqb (natAbs d) 0 (λ z. omega (arith, e, span-down a b (omega arith))) ∙ sym (ne-eqb a b (λ z. omega arith)))
+    (le-or-lt a b)
+
 -- What the code answers of one coordinate, and of both.
 module _ (n a : ℕ) (d : ℤ) where
   pub place-low : a + up d < down d → Past ≡ placeOf (shifted n a d)
@@ -76,6 +102,10 @@ module _ (n a : ℕ) (d : ℤ) where
   pub place-is : down d ≤ a + up d → a + up d ≤ n + down d → Is (a + up d - down d) ≡ placeOf (shifted n a d)
   unfolding placeOf
   place-is l h = rw (shifted-at n a (a + up d - down d) d (omega arith) (omega arith))
+
+  pub place-stays : up d ≡ down d → a ≤ n → Is a ≡ placeOf (shifted n a d)
+  unfolding placeOf
+  place-stays e h = rw (shifted-at n a a d (omega arith) h)
 
 pub place-past : (o : Option ℕ) → placeOf o ≡ Past → o ≡ none
 unfolding placeOf
@@ -111,11 +141,6 @@ far-past w h x y m e = cases (shifted w x (m .dx)) (shifted h y (m .dy)) e
     cases none b e = refl
     cases (some i) none e = refl
     cases (some i) (some j) e = let z : _≡_ {A = ℕ} 0 1 = cc in absurd (omega arith)
-
--- Both coordinates of the spot where a move leads.
-pub record Reaches (w h : ℕ) (m : Move) (x y i j : ℕ) : Type 0 where
-  pub columns : shifted w x (m .dx) ≡ some i
-  pub rows : shifted h y (m .dy) ≡ some j
 
 pub spot-reaches : (w h x y i j : ℕ) (m : Move) → spotOf (shifted w x (m .dx)) (shifted h y (m .dy)) ≡ At i j
     → Reaches w h m x y i j

@@ -4,6 +4,8 @@
 --   LawfulMove r m       == what the test gives of move m
 --   listed-lawful        == the rows of a neighbourhood pass the test
 --   listed-few           == they are no more than the table has
+--   table-short          == every row of the table is short
+--   table-turned         == the second half of the table is the first turned round, row by row
 --   offset-eq            == an offset is known by where it leads
 use Prim.Native.Nat.{ℕ, zero, suc, _+_, _*_, _≤_, _<_}
 use mathlib.Core.Path.{_≡_, refl, ap, ap₂}
@@ -16,7 +18,7 @@ use borrow.Author.Tests.{eqb-true, eq-eqb, leb-true, ltb-true, not-true}
 use lib.Dec.{eqb}
 use lib.IntN.{ℤ, pos, negsuc, natAbs}
 use lib.ListN.{length, getD}
-use Rattle.basics.specs.Bounded.{pick, bounded-opened}
+use Rattle.basics.specs.Bounded.{pick, every, bounded-opened}
 use Rattle.basics.proofs.Bools.{and-left, and-right, not-both}
 use Rattle.basics.proofs.Bounded.{every-at}
 use Rattle.moves.specs.declared.Move.{Move}
@@ -72,7 +74,7 @@ listed-found {r} h = cases (eqb (h .number) 8) (eqb (h .number) 4) (h .known)
 
 -- ---- the test, and what it gives
 
-whole-lawful : lawfulRows (rowsOf 0 1 8) ≡ true
+pub whole-lawful : lawfulRows (rowsOf 0 1 (length moves)) ≡ true
 unfolding lawfulRows bounded-opened turned sameOffset up down
 whole-lawful = refl
 
@@ -148,3 +150,22 @@ pub table-short : (k : ℕ) → k < length moves → Short (rowMove k)
 table-short k l =
     let e : 0 + 1 * k ≡ k = omega arith in
     rw e at (lawful-move (rowsOf 0 1 8) k whole-lawful l .is-short)
+
+-- The second half of the table is the first turned round.
+pub record RowsTurned (k : ℕ) : Type 0 where
+  pub dx : Turned (rowMove (k + 4) .dx) (rowMove k .dx)
+  pub dy : Turned (rowMove (k + 4) .dy) (rowMove k .dy)
+
+abbrev turnedTest : ℕ → Bool
+turnedTest k = turned (rowMove (k + 4) .dx) (rowMove k .dx) && turned (rowMove (k + 4) .dy) (rowMove k .dy)
+
+pub table-turned : (k : ℕ) → k < 4 → RowsTurned k
+unfolding bounded-opened turned up down
+table-turned k l =
+    let e : every 4 turnedTest ≡ true = refl in
+    let t = every-at 4 turnedTest e k l in
+    let a = rowMove (k + 4) in
+    let b = rowMove k in
+    let p = turned (a .dx) (b .dx) in
+    let q = turned (a .dy) (b .dy) in
+    record { dx = turned-true (a .dx) (b .dx) (and-left p q t); dy = turned-true (a .dy) (b .dy) (and-right p q t) }

@@ -1,5 +1,3 @@
 pub mod Moves
 pub mod Steps
 pub mod Table
-pub mod Masks
-pub mod Classes

@@ -6,6 +6,7 @@
 --                     no other row leads, and has its opposite, half the rows on, at the same cost
 --   Short m        == move m goes at most 2 columns and 2 rows: what a step takes
 --   OnFloor ..     == the vertex (x, y) is on a floor whose sides are not refused
+--   Reaches ..     == move m leads from (x, y) to (i, j), which is on the floor
 --   partsOf d      == the signed offset d as how far up and how far down
 --   placeOf a      == one coordinate where it is there, as the code answers it
 --   spotOf a b     == the column a and the row b, where both are there
@@ -27,7 +28,7 @@ use Rattle.moves.specs.declared.Place.the-variants.{Is, Past}
 use Rattle.moves.specs.declared.Spot.{Spot}
 use Rattle.moves.specs.declared.Spot.the-variants.{At, Outside}
 use Rattle.moves.specs.Moves.{moves, rowAt, moveAt, neighbourhoodOf}
-use Rattle.moves.specs.Steps.{up, down}
+use Rattle.moves.specs.Steps.{up, down, shifted}
 
 pub record Listed (r : Rows) : Type 0 where
   pub number : ℕ
@@ -75,6 +76,10 @@ pub record OnFloor (w h x y : ℕ) : Type 0 where
   pub high : h ≤ 127
   pub column : x ≤ w
   pub row : y ≤ h
+
+pub record Reaches (w h : ℕ) (m : Move) (x y i j : ℕ) : Type 0 where
+  pub columns : shifted w x (m .dx) ≡ some i
+  pub rows : shifted h y (m .dy) ≡ some j
 
 abbrev pub partsOf : ℤ → Offset
 partsOf d = record { up = up d; down = down d }

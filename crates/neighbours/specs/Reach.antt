@@ -26,7 +26,7 @@ use Rattle.basics.specs.Bounded.{pick}
 use Rattle.moves.specs.declared.Offset.{Offset}
 use Rattle.moves.specs.declared.Rows.{Rows}
 use Rattle.moves.specs.Moves.{rowAt, moveAt}
-use Rattle.moves.specs.Masks.{offsetOf, maskedEnd, Movable}
+use Rattle.masks.specs.Masks.{offsetOf, maskedEnd, Movable}
 use Rattle.paths.specs.Graph.{Graph}
 use Rattle.paths.specs.Local.{given, if-there, is-there, when-eq, entry}
 use Rattle.neighbours.specs.declared.Reach.{Reach}

@@ -4,7 +4,7 @@ ghost use mathlib.Core.Path.{_≡_};
 ghost use Prim.Native.Nat.{_<_, _≤_, _^_};
 ghost use lib.ListN.{length};
 ghost use Rattle.moves.specs.Steps.{stepOf};
-ghost use Rattle.moves.specs.Masks.{Movable, maskedEnd};
+ghost use Rattle.masks.specs.Masks.{Movable, maskedEnd};
 ghost use Rattle.moves.specs.Table.{Listed};
 ghost use Rattle.paths.specs.Route.{onShortest};
 ghost use Rattle.paths.specs.Local.{entry, rightCost, inflow};
@@ -51,7 +51,7 @@ fn neighbour(mask: u32, v: usize, row: usize, up: usize, down: usize) -> Step
     requires { ⌜ Movable mask v row (by up down) ⌝ }
     ensures { λ r. ⌜ r ≡ stepOf (maskedEnd mask v row (by up down)) ⌝ }
 {
-    moves::masked_step(mask, Vertex(v), row, Offset { up: up, down: down })
+    masks::masked_step(mask, Vertex(v), row, Offset { up: up, down: down })
 }
 
 // The moves of the rows of a neighbourhood on floors of width w.
@@ -67,7 +67,7 @@ pub fn reach_of(w: usize, rows: Rows) -> Reach
         cost: [0; 8],
     };
     for m in 0..rows.count {
-        let by = moves::offset_of(w, rows, m);
+        let by = masks::offset_of(w, rows, m);
         t.row[m] = moves::row_at(rows, m);
         t.up[m] = by.up;
         t.down[m] = by.down;

@@ -32,7 +32,7 @@ use Rattle.grid.specs.Grid.{floorGraph}
 use Rattle.grid.proofs.Lawful.{floor-lawful, size-le}
 use Rattle.neighbours.specs.declared.Reach.{Reach}
 use Rattle.neighbours.specs.Reach.{Built}
-use Rattle.distances.specs.Order.{OpenMasks, Costing, OrderedCosts, Masked}
+use Rattle.distances.specs.Order.{MasksIn, Costing, OrderedCosts, Masked}
 use Rattle.counts.specs.Passes.{Priced, Readied, Known, Filled}
 use Rattle.planner.specs.declared.Planned.{Planned}
 use Rattle.planner.specs.declared.Planned.the-variants.{Found, Refused}
@@ -184,7 +184,7 @@ module _ {w h : ℕ} {map : List ℕ} {rows : Rows} {a b : ℕ} {d e f back rout
       (e-blank ∙ ap zeros (P .lent .e-len)) (f-blank ∙ ap zeros (P .lent .f-len))
       (back-blank ∙ ap zeros (P .lent .back-len)) (route-blank ∙ ap zeros (P .lent .route-len))
 
-  pub finish-findable : OpenMasks (floorOf w h map) work → (entry d b ≡ unreachable → ⊥)
+  pub finish-findable : MasksIn (floorOf w h map) work → (entry d b ≡ unreachable → ⊥)
       → Findable w h map rows a b d e f′ back′ route′ work
   finish-findable masks near = record {
     finishable = record {

@@ -30,7 +30,7 @@ use Rattle.grid.specs.Grid.{floorGraph}
 use Rattle.grid.specs.declared.Job.the-variants.{Fit}
 use Rattle.neighbours.specs.declared.Reach.{Reach}
 use Rattle.neighbours.specs.Reach.{Lent}
-use Rattle.distances.specs.Order.{Masked, OpenMasks}
+use Rattle.distances.specs.Order.{Masked, MasksIn}
 use Rattle.counts.specs.Passes.{Priced}
 use Rattle.planner.specs.declared.Planned.{Planned}
 use Rattle.planner.specs.Plan.{Slices, routeAnswer, routeLeft, answered, leftBy}
@@ -80,7 +80,7 @@ pub record Finishable (w h : ℕ) (map : List ℕ) (rows : Rows) (a b : ℕ) (d 
 
 pub record Findable (w h : ℕ) (map : List ℕ) (rows : Rows) (a b : ℕ) (d e f back route work : List ℕ) : Type 0 where
   pub finishable : Finishable w h map rows a b d e f back route work
-  pub masks : OpenMasks (floorOf w h map) work
+  pub masks : MasksIn (floorOf w h map) work
   pub reached : distance (floorGraph (floorOf w h map) rows) a b < unreachable
   pub f-blank : f ≡ zeros (vertices w h)
   pub back-blank : back ≡ zeros (vertices w h)

@@ -14,10 +14,9 @@ ghost use Prim.Native.Nat.{_*_, _≤_};
 ghost use Rattle.basics.specs.Lists.{zeros};
 ghost use Rattle.floor.specs.Floor.{floorOf, vertices};
 ghost use Rattle.grid.specs.Grid.{floorGraph};
-ghost use Rattle.distances.specs.Order.{OpenMasks};
+ghost use Rattle.distances.specs.Order.{MasksIn};
 ghost use Rattle.planner.specs.Plan.{planNumber, planCost, planTotal, planPoints, slicesOf, Plans};
 ghost use Rattle.planner.specs.Parts.{lengthsGood, GoodJob, Finishable, Findable, Finished, PlansJob};
-use distances::masks;
 use floor::Refusal;
 use floor::Vertex;
 use grid::Job;
@@ -207,7 +206,7 @@ fn finish_over_masks(
 ) -> Planned
     requires { ⌜ Finishable w h (now map) rows (a .0) (b .0)
         (now d) (now e) (now f) (now back) (now route) (now work) ⌝ }
-    requires { ⌜ OpenMasks (floorOf w h (now map)) (now work) ⌝ }
+    requires { ⌜ MasksIn (floorOf w h (now map)) (now work) ⌝ }
     ensures { λ r. ⌜ Finished (floorGraph (floorOf w h (now (map .entry))) rows) (a .0) (b .0) r
         (slicesOf (now (d .entry)) (now (e .exit)) (now (f .exit)) (now (back .exit)) (now (route .exit))
         (now (work .exit))) ⌝ }
@@ -249,7 +248,7 @@ pub fn finish(
         (slicesOf (now (d .entry)) (now (e .exit)) (now (f .exit)) (now (back .exit)) (now (route .exit))
         (now (work .exit))) ⌝ }
 {
-    masks::fill_masks(w, h, map, work);
+    distances::fill_masks(w, h, map, work);
     finish_over_masks(w, h, map, rows, a, b, d, e, f, back, route, work)
 }
 
@@ -287,7 +286,7 @@ fn plan_job(
     ) {
         return Planned::Refused(Refusal::SliceLength);
     }
-    masks::fill_masks(w, h, map, work);
+    distances::fill_masks(w, h, map, work);
     distances::costs_over_masks(w, h, map, rows, a, d, work);
     finish_over_masks(w, h, map, rows, a, b, d, e, f, back, route, work)
 }

@@ -1,16 +1,18 @@
 -- A unit segment reads the two cells beside it along a grid line, and one cell across a diagonal.
 --
---   unit-..        == the law for two ends at most one column and one row apart
---   clear-unit, .. == what is in the way of such a segment, as the code reads the cells
---   sees-east, ..  == the law for each of the eight directions from (x, y) to (u, v), columns counted eastwards and
---                     rows southwards, by the four cells at (x, y): `blocked f` at (x, y) north-west, (suc x, y)
---                     north-east, (x, suc y) south-west and (suc x, suc y) south-east
+--   near-both                              == the test of two lengths
+--   unit-still, -upright, -level, -slanted == whether two ends at most one column and one row apart see each other
+--   unit-clear                             == nothing is in the way where they do
+--   upright-step, level-step, slanted-cell == what is in the way where they do not
 use Prim.Native.Nat.{ℕ, suc, _-_, _≤_, max}
 use mathlib.Core.Path.{_≡_, sym, ap, ap₂, _∙_}
 use mathlib.Core.Bool.{Bool, true, false, _&&_, not, and-true}
 use mathlib.Core.Logic.{⊎-elim, _≢_}
 use native.Mathlib.Omega.{arith}
-use Rattle.basics.specs.Bounded.{pick, every}
+use Rattle.basics.specs.Bounded.{every}
+use borrow.Author.Tests.{leb-true}
+use lib.Dec.{leb}
+use Rattle.basics.proofs.Bools.{and-left, and-right}
 use Rattle.basics.proofs.Order.{le-or-lt}
 use Rattle.floor.specs.Floor.{Floor, blocked}
 use Rattle.sight.specs.Sight.{Segment, segmentOf, uprightOpen, levelOpen, sees}
@@ -32,14 +34,18 @@ use Rattle.sight.specs.declared.Obstacle.the-variants.{Clear}
 use Rattle.sight.proofs.Travel.{span-up, span-down, cellOn-up, cellOn-down, start-first}
 use Rattle.sight.proofs.Sees.{upright-sees, level-sees, slanted-sees}
 use Rattle.sight.proofs.Symmetry.{sees-self}
-use Rattle.sight.proofs.First.{first-none}
+use Rattle.sight.proofs.First.{clear-is}
 use Rattle.sight.proofs.Obstacles.{
   upright-obstacle,
   level-obstacle,
   slanted-obstacle,
-  cell-past,
   cell-met,
+  obstacle-sees,
 }
+
+pub near-both : (a b : ℕ) → (leb a 1 && leb b 1) ≡ true → (a ≤ 1) × (b ≤ 1)
+near-both a b e =
+    (leb-true a 1 (and-left (leb a 1) (leb b 1) e), leb-true b 1 (and-right (leb a 1) (leb b 1) e))
 
 module _ (a b : ℕ) (n : span a b ≤ 1) (ne : a ≢ b) where
   span-one : span a b ≡ 1
@@ -91,107 +97,51 @@ first-one : (n : ℕ) (F : ℕ → Obstacle) → n ≡ 1 → first n F ≡ F 0
 unfolding first
 first-one n F e = rw e
 
-module _ (f : Floor) (x0 y0 x1 y1 : ℕ) (nx : span x0 x1 ≤ 1) (ny : span y0 y1 ≤ 1) where
+module _ (f : Floor) (x0 y0 x1 y1 : ℕ) (e : Ends (f .wide) (f .high) x0 y0 x1 y1)
+    (nx : span x0 x1 ≤ 1) (ny : span y0 y1 ≤ 1) where
   abbrev line : Segment
   line = segmentOf x0 y0 x1 y1
 
-  pub clear-unit : x0 ≡ x1 → y0 ≡ y1 → obstacle f line ≡ Clear
-  clear-unit p q =
-      upright-obstacle f x0 y0 x1 y1 p
-      ∙ first-none (span y0 y1) (uprightStep f x0 y0 y1) (λ k l. absurd (omega (arith, span-up y0 y1 (omega arith))))
+  pub unit-clear : sees f line ≡ true → Clear ≡ obstacle f line
+  unit-clear t = sym (clear-is (obstacle f line) (obstacle-sees f x0 y0 x1 y1 e ∙ t))
 
-  pub upright-unit : x0 ≡ x1 → y0 ≢ y1 → obstacle f line ≡ pick (uprightTo f x0 (max y0 y1)) Clear (stepAt f x0 y0)
-  unfolding uprightStep uprightOpen
-  upright-unit p q =
-      upright-obstacle f x0 y0 x1 y1 p ∙ first-one (span y0 y1) (uprightStep f x0 y0 y1) (span-one y0 y1 ny q)
-      ∙ rw (cell-one y0 y1 ny q, start-first y0 y1)
+  module _ (shut : sees f line ≡ false) where
+    -- The ends do not see each other, so they are two.
+    apart : x0 ≡ x1 → y0 ≡ y1 → ⊥
+    apart p q =
+        let t : true ≡ false = sym (unit-still f x0 y0 x1 y1 e nx ny p q) ∙ shut in
+        let z : _≡_ {A = ℕ} 0 1 = cc in
+        omega arith
 
-  pub level-unit : x0 ≢ x1 → y0 ≡ y1 → obstacle f line ≡ pick (levelTo f (max x0 x1) y0) Clear (stepAt f x0 y0)
-  unfolding levelStep levelOpen
-  level-unit p q =
-      level-obstacle f x0 y0 x1 y1 p q ∙ first-one (span x0 x1) (levelStep f y0 x0 x1) (span-one x0 x1 nx p)
-      ∙ rw (cell-one x0 x1 nx p, start-first x0 x1)
+    pub upright-step : x0 ≡ x1 → stepAt f x0 y0 ≡ obstacle f line
+    unfolding uprightStep uprightOpen
+    upright-step p =
+        let q = apart p in
+        let free : uprightTo f x0 (max y0 y1) ≡ false = sym (unit-upright f x0 y0 x1 y1 e nx ny p q) ∙ shut in
+        sym
+        (upright-obstacle f x0 y0 x1 y1 p ∙ first-one (span y0 y1) (uprightStep f x0 y0 y1) (span-one y0 y1 ny q)
+        ∙ rw (cell-one y0 y1 ny q, start-first y0 y1, free))
 
-  module _ (p : x0 ≢ x1) (q : y0 ≢ y1) where
-    -- The one cell of the box is entered.
-    free-unit : cellFree f line 0 0 ≡ not (blocked f (max x0 x1) (max y0 y1))
-    unfolding cellFree touches
-    free-unit =
-        rw (cell-one x0 x1 nx p, cell-one y0 y1 ny q, span-one x0 x1 nx p, span-one y0 y1 ny q)
-        (ap not (and-true (blocked f (max x0 x1) (max y0 y1))))
+    pub level-step : x0 ≢ x1 → y0 ≡ y1 → stepAt f x0 y0 ≡ obstacle f line
+    unfolding levelStep levelOpen
+    level-step p q =
+        let free : levelTo f (max x0 x1) y0 ≡ false = sym (unit-level f x0 y0 x1 y1 e nx ny p q) ∙ shut in
+        sym
+        (level-obstacle f x0 y0 x1 y1 p q ∙ first-one (span x0 x1) (levelStep f y0 x0 x1) (span-one x0 x1 nx p)
+        ∙ rw (cell-one x0 x1 nx p, start-first x0 x1, free))
 
-    one-cell : obstacle f line ≡ rowCell f line 0 0
-    unfolding rowObstacle
-    one-cell =
-        slanted-obstacle f x0 y0 x1 y1 p q ∙ first-one (span y0 y1) (rowObstacle f line) (span-one y0 y1 ny q)
-        ∙ first-one (span x0 x1) (rowCell f line 0) (span-one x0 x1 nx p)
-
-    pub open-unit : blocked f (max x0 x1) (max y0 y1) ≡ false → Clear ≡ obstacle f line
-    open-unit e = sym (one-cell ∙ cell-past f line 0 0 (free-unit ∙ ap not e))
-
-    pub cell-unit : blocked f (max x0 x1) (max y0 y1) ≡ true
-        → cellAt f (max x0 x1 - 1) (max y0 y1 - 1) ≡ obstacle f line
-    cell-unit e =
+    pub slanted-cell : x0 ≢ x1 → y0 ≢ y1 → cellAt f (max x0 x1 - 1) (max y0 y1 - 1) ≡ obstacle f line
+    unfolding rowObstacle cellFree touches
+    slanted-cell p q =
+        let dx = span-one x0 x1 nx p in
+        let dy = span-one y0 y1 ny q in
         let i : max x0 x1 - 1 ≡ cellOn x0 x1 0 = omega (arith, cell-one x0 x1 nx p) in
         let j : max y0 y1 - 1 ≡ cellOn y0 y1 0 = omega (arith, cell-one y0 y1 ny q) in
+        let free : cellFree f line 0 0 ≡ not (blocked f (max x0 x1) (max y0 y1)) =
+        rw (cell-one x0 x1 nx p, cell-one y0 y1 ny q, dx, dy)
+        (ap not (and-true (blocked f (max x0 x1) (max y0 y1)))) in
         ap₂ (cellAt f) i j
-        ∙ sym (one-cell ∙ cell-met f line 0 0 (free-unit ∙ ap not e))
-
--- ---- the eight directions
-
-span-still : (a b : ℕ) → b ≡ a → span a b ≤ 1
-span-still a b e = omega (arith, span-up a b (omega arith))
-
-span-more : (a b : ℕ) → b ≡ suc a → span a b ≤ 1
-span-more a b e = omega (arith, span-up a b (omega arith))
-
-span-less : (a b : ℕ) → suc b ≡ a → span a b ≤ 1
-span-less a b e = omega (arith, span-down a b (omega arith))
-
-module _ (f : Floor) (x y u v : ℕ) (e : Ends (f .wide) (f .high) x y u v) where
-  abbrev to : Segment
-  to = segmentOf x y u v
-
-  pub sees-east : u ≡ suc x → v ≡ y → sees f to ≡ not (blocked f (suc x) y && blocked f (suc x) (suc y))
-  sees-east p q =
-      let m : max x u ≡ suc x = omega arith in
-      unit-level f x y u v e (span-more x u p) (span-still y v q) (λ z. omega arith) (sym q) ∙ rw m
-
-  pub sees-west : suc u ≡ x → v ≡ y → sees f to ≡ not (blocked f x y && blocked f x (suc y))
-  sees-west p q =
-      let m : max x u ≡ x = omega arith in
-      unit-level f x y u v e (span-less x u p) (span-still y v q) (λ z. omega arith) (sym q) ∙ rw m
-
-  pub sees-south : u ≡ x → v ≡ suc y → sees f to ≡ not (blocked f x (suc y) && blocked f (suc x) (suc y))
-  sees-south p q =
-      let m : max y v ≡ suc y = omega arith in
-      unit-upright f x y u v e (span-still x u p) (span-more y v q) (sym p) (λ z. omega arith) ∙ rw m
-
-  pub sees-north : u ≡ x → suc v ≡ y → sees f to ≡ not (blocked f x y && blocked f (suc x) y)
-  sees-north p q =
-      let m : max y v ≡ y = omega arith in
-      unit-upright f x y u v e (span-still x u p) (span-less y v q) (sym p) (λ z. omega arith) ∙ rw m
-
-  pub sees-south-east : u ≡ suc x → v ≡ suc y → sees f to ≡ not (blocked f (suc x) (suc y))
-  sees-south-east p q =
-      let m : max x u ≡ suc x = omega arith in
-      let n : max y v ≡ suc y = omega arith in
-      unit-slanted f x y u v e (span-more x u p) (span-more y v q) (λ z. omega arith) (λ z. omega arith) ∙ rw (m, n)
-
-  pub sees-south-west : suc u ≡ x → v ≡ suc y → sees f to ≡ not (blocked f x (suc y))
-  sees-south-west p q =
-      let m : max x u ≡ x = omega arith in
-      let n : max y v ≡ suc y = omega arith in
-      unit-slanted f x y u v e (span-less x u p) (span-more y v q) (λ z. omega arith) (λ z. omega arith) ∙ rw (m, n)
-
-  pub sees-north-west : suc u ≡ x → suc v ≡ y → sees f to ≡ not (blocked f x y)
-  sees-north-west p q =
-      let m : max x u ≡ x = omega arith in
-      let n : max y v ≡ y = omega arith in
-      unit-slanted f x y u v e (span-less x u p) (span-less y v q) (λ z. omega arith) (λ z. omega arith) ∙ rw (m, n)
-
-  pub sees-north-east : u ≡ suc x → suc v ≡ y → sees f to ≡ not (blocked f (suc x) y)
-  sees-north-east p q =
-      let m : max x u ≡ suc x = omega arith in
-      let n : max y v ≡ y = omega arith in
-      unit-slanted f x y u v e (span-more x u p) (span-less y v q) (λ z. omega arith) (λ z. omega arith) ∙ rw (m, n)
+        ∙ sym
+        (slanted-obstacle f x0 y0 x1 y1 p q ∙ first-one (span y0 y1) (rowObstacle f line) dy
+        ∙ first-one (span x0 x1) (rowCell f line 0) dx
+        ∙ cell-met f line 0 0 (free ∙ sym (unit-slanted f x0 y0 x1 y1 e nx ny p q) ∙ shut))

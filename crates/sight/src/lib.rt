@@ -1,12 +1,14 @@
 // Line of sight between two vertices of a floor, and the sight question.
 ghost use mathlib.Core.Path.{_≡_};
-ghost use Prim.Native.Nat.{_<_, _≤_, max};
+ghost use mathlib.Core.Bool.{_&&_};
+ghost use lib.Dec.{leb};
+ghost use Prim.Native.Nat.{_<_, max};
 ghost use Rattle.floor.specs.Floor.{Sized, floorOf, vertices};
 ghost use Rattle.floor.specs.Refusals.{floorShape, endShape, andThen};
 ghost use Rattle.sight.specs.Sight.{segmentOf, segment, sees};
-ghost use Rattle.sight.specs.Obstacle.{isClear, span, obstacle};
+ghost use Rattle.sight.specs.Obstacle.{isClear, obstacle};
 ghost use Rattle.sight.specs.Question.{sightAnswer, sightNumber};
-ghost use Rattle.sight.specs.Travel.{Ends};
+ghost use Rattle.sight.specs.Travel.{Ends, Unit, Lies};
 use floor::Cell;
 use floor::Refusal;
 use floor::Shape;
@@ -64,8 +66,37 @@ fn higher(a: usize, b: usize) -> usize
     a
 }
 
-// What is in the way between two vertices at most one column and one row apart. It reads at most two cells, and one
-// across a diagonal.
+// Whether two vertices at most one column and one row apart see each other; `upright` and `level` say whether they share
+// a column and whether a row. It reads at most two cells, and one across a diagonal.
+fn unit_in_sight(
+    w: usize,
+    h: usize,
+    map: &[u8],
+    x0: usize,
+    y0: usize,
+    x1: usize,
+    y1: usize,
+    upright: bool,
+    level: bool,
+) -> bool
+    requires { ⌜ Sized w h (now map) × Ends w h x0 y0 x1 y1 × Unit x0 y0 x1 y1 upright level ⌝ }
+    ensures { λ r. ⌜ r ≡ sees (floorOf w h (now (map .entry))) (segmentOf x0 y0 x1 y1) ⌝ }
+{
+    let x = higher(x0, x1);
+    let y = higher(y0, y1);
+    if upright {
+        if level {
+            return true;
+        }
+        return scan::upright_open(w, h, map, x0, y);
+    }
+    if level {
+        return scan::level_open(w, h, map, x, y0);
+    }
+    !floor::blocked_at(w, h, map, x, y)
+}
+
+// What is in the way between two such vertices.
 fn unit_obstacle(
     w: usize,
     h: usize,
@@ -74,30 +105,28 @@ fn unit_obstacle(
     y0: usize,
     x1: usize,
     y1: usize,
+    upright: bool,
+    level: bool,
 ) -> Obstacle
-    requires { ⌜ Sized w h (now map) × Ends w h x0 y0 x1 y1 × (span x0 x1 ≤ 1) × (span y0 y1 ≤ 1) ⌝ }
+    requires { ⌜ Sized w h (now map) × Ends w h x0 y0 x1 y1 × Unit x0 y0 x1 y1 upright level ⌝ }
     ensures { λ r. ⌜ r ≡ obstacle (floorOf w h (now (map .entry))) (segmentOf x0 y0 x1 y1) ⌝ }
 {
-    let x = higher(x0, x1);
-    let y = higher(y0, y1);
-    if x0 == x1 {
-        if y0 == y1 {
-            return Obstacle::Clear;
-        }
-        return scan::shut_step(w, h, scan::upright_open(w, h, map, x0, y), x0, y0);
+    if unit_in_sight(w, h, map, x0, y0, x1, y1, upright, level) {
+        return Obstacle::Clear;
     }
-    if y0 == y1 {
-        return scan::shut_step(w, h, scan::level_open(w, h, map, x, y0), x0, y0);
+    if upright {
+        return Obstacle::Step(floor::vertex_at(w, h, x0, y0));
     }
-    if floor::blocked_at(w, h, map, x, y) {
-        return Obstacle::Cell(floor::cell_before(w, h, map, x, y));
+    if level {
+        return Obstacle::Step(floor::vertex_at(w, h, x0, y0));
     }
-    Obstacle::Clear
+    Obstacle::Cell(floor::cell_before(w, h, map, higher(x0, x1), higher(y0, y1)))
 }
 
 // What is in the way from the vertex (x0, y0) to the vertex (x1, y1): of a unit segment by its cells alone, of others by
-// a scan.
-pub fn look_at(
+// a scan. `unit`, `upright` and `level` say how the segment lies: a caller that knows this beforehand, as for the moves
+// of a table, spares the tests.
+fn look_along(
     w: usize,
     h: usize,
     map: &[u8],
@@ -105,16 +134,46 @@ pub fn look_at(
     y0: usize,
     x1: usize,
     y1: usize,
+    unit: bool,
+    upright: bool,
+    level: bool,
 ) -> Obstacle
-    requires { ⌜ Sized w h (now map) × Ends w h x0 y0 x1 y1 ⌝ }
+    requires { ⌜ Sized w h (now map) × Ends w h x0 y0 x1 y1 × Lies x0 y0 x1 y1 unit upright level ⌝ }
     ensures { λ r. ⌜ r ≡ obstacle (floorOf w h (now (map .entry))) (segmentOf x0 y0 x1 y1) ⌝ }
 {
-    if scan::span_of(x0, x1) <= 1 {
-        if scan::span_of(y0, y1) <= 1 {
-            return unit_obstacle(w, h, map, x0, y0, x1, y1);
-        }
+    if unit {
+        return unit_obstacle(w, h, map, x0, y0, x1, y1, upright, level);
     }
     scan::far_obstacle(w, h, map, x0, y0, x1, y1)
+}
+
+// Whether two vertices see each other, where it is known how the segment between them lies.
+pub fn in_sight_along(
+    w: usize,
+    h: usize,
+    map: &[u8],
+    x0: usize,
+    y0: usize,
+    x1: usize,
+    y1: usize,
+    unit: bool,
+    upright: bool,
+    level: bool,
+) -> bool
+    requires { ⌜ Sized w h (now map) × Ends w h x0 y0 x1 y1 × Lies x0 y0 x1 y1 unit upright level ⌝ }
+    ensures { λ r. ⌜ r ≡ sees (floorOf w h (now (map .entry))) (segmentOf x0 y0 x1 y1) ⌝ }
+{
+    is_clear(look_along(w, h, map, x0, y0, x1, y1, unit, upright, level))
+}
+
+// Whether two lengths are at most 1.
+pub fn is_unit(columns: usize, rows: usize) -> bool
+    ensures { λ r. ⌜ r ≡ (leb columns 1 && leb rows 1) ⌝ }
+{
+    if columns <= 1 {
+        return rows <= 1;
+    }
+    false
 }
 
 // What is in the way from one vertex to another.
@@ -126,23 +185,8 @@ pub fn look(w: usize, h: usize, map: &[u8], a: Vertex, b: Vertex) -> Obstacle
     let y0 = floor::row_of(w, h, a);
     let x1 = floor::column_of(w, b);
     let y1 = floor::row_of(w, h, b);
-    look_at(w, h, map, x0, y0, x1, y1)
-}
-
-// Whether the vertices (x0, y0) and (x1, y1) see each other.
-pub fn in_sight_at(
-    w: usize,
-    h: usize,
-    map: &[u8],
-    x0: usize,
-    y0: usize,
-    x1: usize,
-    y1: usize,
-) -> bool
-    requires { ⌜ Sized w h (now map) × Ends w h x0 y0 x1 y1 ⌝ }
-    ensures { λ r. ⌜ r ≡ sees (floorOf w h (now (map .entry))) (segmentOf x0 y0 x1 y1) ⌝ }
-{
-    is_clear(look_at(w, h, map, x0, y0, x1, y1))
+    let unit = is_unit(scan::span_of(x0, x1), scan::span_of(y0, y1));
+    look_along(w, h, map, x0, y0, x1, y1, unit, x0 == x1, y0 == y1)
 }
 
 // Whether two vertices see each other.

@@ -2,8 +2,7 @@
 // towards the other.
 ghost use mathlib.Core.Path.{_≡_};
 ghost use Prim.Native.Nat.{suc, _*_, _<_, _≤_};
-ghost use Rattle.basics.specs.Bounded.{pick};
-ghost use Rattle.floor.specs.Floor.{Sized, floorOf, number};
+ghost use Rattle.floor.specs.Floor.{Sized, floorOf};
 ghost use Rattle.sight.specs.Sight.{segmentOf};
 ghost use Rattle.sight.specs.Obstacle.{span, cellOn, startOn, first, uprightStep, levelStep, obstacle};
 ghost use Rattle.sight.specs.Travel.{Ends, uprightTo, levelTo, rowObstacle, RowRun};
@@ -61,17 +60,6 @@ pub fn level_open(w: usize, h: usize, map: &[u8], x: usize, y: usize) -> bool
         return !floor::blocked_at(w, h, map, x, y + 1);
     }
     true
-}
-
-// The step that begins in the vertex (x, y), unless it is free.
-pub fn shut_step(w: usize, h: usize, free: bool, x: usize, y: usize) -> Obstacle
-    requires { ⌜ (w ≤ 127) × (h ≤ 127) × (x ≤ w) × (y ≤ h) ⌝ }
-    ensures { λ r. ⌜ r ≡ pick free Obstacle.Clear (Obstacle.Step (record { 0 = number w x y })) ⌝ }
-{
-    if free {
-        return Obstacle::Clear;
-    }
-    Obstacle::Step(floor::vertex_at(w, h, x, y))
 }
 
 // The first shut step along column line x from row y0 to row y1.

@@ -1,9 +1,14 @@
 -- `moves::open_step` meets its contract: the spot to which the move leads, where it is in sight. Assumes nothing.
-use mathlib.Core.Path.{sym, ap, _∙_}
+use mathlib.Core.Path.{_≡_, sym, ap, _∙_}
 use native.Mathlib.Omega.{arith}
 use Rattle.floor.specs.Floor.{Floor, floorOf}
 use Rattle.moves.specs.declared.Step.the-variants.{To}
-use Rattle.moves.proofs.Steps.{Reaches, spot-reaches, reaches-on, open-step-past, open-step-shut, open-step-to}
+use Rattle.moves.specs.declared.Move.{Move}
+use Rattle.moves.specs.Moves.{moveOf}
+use Rattle.moves.specs.Steps.{shifted}
+use Rattle.moves.specs.Table.{Reaches, spotOf}
+use Rattle.moves.proofs.Signs.{back}
+use Rattle.moves.proofs.Steps.{spot-reaches, reaches-on, open-step-past, open-step-shut, open-step-to}
 use borrow.Author.Needs.{needs}
 use Rattle.moves.proofs.open_step.Statement.{statement}
 use Rattle.moves.proofs.open_step.Tie as tie
@@ -11,19 +16,33 @@ use Rattle.moves.proofs.open_step.Tie as tie
 abbrev plan : tie.Start → Floor
 plan s = floorOf (s .args .w) (s .args .h) (s .args .map .now)
 
+abbrev move : tie.Start → Move
+move s = moveOf (s .args .dx) (s .args .dy) 0
+
+-- The spot to which the offsets lead.
+spot : (c : tie.After-far-spot)
+    → let a = c .before .before .args in
+    c .far-spot .result ≡ spotOf (shifted (a .w) (a .x) (a .dx)) (shifted (a .h) (a .y) (a .dy))
+spot c =
+    let s = c .before .before in
+    rw (back (s .args .dx) (s .pre .2 .columns), back (s .args .dy) (s .pre .2 .rows)) at (c .far-spot .ensures)
+
 abbrev start : tie.After-i → tie.Start
 start c = c .before .before .before .before
 
--- The spot that was found.
+-- It is on the floor.
 found : (c : tie.After-i)
-    → let a = start c .args in Reaches (a .w) (a .h) (a .m) (a .x) (a .y) (c .i .given .0 .0) (c .i .given .0 .1 .0)
+    → let a = start c .args in
+    Reaches (a .w) (a .h) (move (start c)) (a .x) (a .y) (c .i .given .0 .0) (c .i .given .0 .1 .0)
 found c =
     let a = start c .args in
-    spot-reaches (a .w) (a .h) (a .x) (a .y) (c .i .given .0 .0) (c .i .given .0 .1 .0) (a .m)
-    (sym (c .before .before .far-spot .ensures) ∙ c .i .given .1)
+    spot-reaches (a .w) (a .h) (a .x) (a .y) (c .i .given .0 .0) (c .i .given .0 .1 .0) (move (start c))
+    (sym (spot (c .before .before)) ∙ c .i .given .1)
 
 far-spot-requires : tie.Need-far-spot-requires
-far-spot-requires c κs = search needs
+far-spot-requires c κs =
+    let s = c .before in
+    rw (back (s .args .dx) (s .pre .2 .columns), back (s .args .dy) (s .pre .2 .rows)) (s .pre .1, s .pre .2)
 
 enum-known-i : tie.Need-enum-known-i
 enum-known-i c = search needs
@@ -36,13 +55,13 @@ returns c =
     let u = c .before .before in
     let s = u .before .before in
     let a = s .args in
-    open-step-past (plan s) (a .m) (a .x) (a .y) (sym (u .far-spot .ensures) ∙ c .enum-told .given .1)
+    open-step-past (plan s) (move s) (a .x) (a .y) (sym (spot u) ∙ c .enum-told .given .1)
 
-in-sight-at-requires : tie.Need-in-sight-at-requires
-in-sight-at-requires c κs =
+ends-see-requires : tie.Need-ends-see-requires
+ends-see-requires c κs =
     let s = start (c .before) in
-    let p = reaches-on (s .pre .1) (found (c .before)) in
-    (s .pre .0, record { x-first = omega arith; y-first = omega arith; x-last = omega arith; y-last = omega arith })
+    rw (back (s .args .dx) (s .pre .2 .columns), back (s .args .dy) (s .pre .2 .rows))
+    (s .pre .0, s .pre .1, s .pre .2, found (c .before))
 
 vertex-at-requires : tie.Need-vertex-at-requires
 vertex-at-requires c κs =
@@ -57,16 +76,16 @@ returns-2 c =
     let s = start k in
     let a = s .args in
     ap (λ n. To (record { 0 = n })) (c .vertex-at .ensures .0)
-    ∙ open-step-to (plan s) (a .m) (a .x) (a .y) (k .i .given .0 .0) (k .i .given .0 .1 .0)
-    (s .pre .1 .column) (found k) (sym (t .before .in-sight-at .ensures) ∙ t .if1 .taken)
+    ∙ open-step-to (plan s) (move s) (a .x) (a .y) (k .i .given .0 .0) (k .i .given .0 .1 .0)
+    (s .pre .1 .column) (found k) (sym (t .before .ends-see .ensures) ∙ t .if1 .taken)
 
 returns-3 : tie.Need-returns-3
 returns-3 c =
     let k = c .before .before .before in
     let s = start k in
     let a = s .args in
-    open-step-shut (plan s) (a .m) (a .x) (a .y) (k .i .given .0 .0) (k .i .given .0 .1 .0)
-    (s .pre .1 .column) (found k) (sym (c .before .in-sight-at .ensures) ∙ c .if1 .left)
+    open-step-shut (plan s) (move s) (a .x) (a .y) (k .i .given .0 .0) (k .i .given .0 .1 .0)
+    (s .pre .1 .column) (found k) (sym (c .before .ends-see .ensures) ∙ c .if1 .left)
 
 pub open-step-spec : {M : Type 1} → statement M
 open-step-spec =
@@ -76,7 +95,7 @@ open-step-spec =
     enum-known-i
     enum-told
     returns
-    in-sight-at-requires
+    ends-see-requires
     vertex-at-requires
     returns-2
     returns-3)

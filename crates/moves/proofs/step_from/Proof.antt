@@ -1,20 +1,34 @@
 -- `moves::step_from` meets its contract: the vertex at the spot to which the move leads. Assumes nothing.
-use mathlib.Core.Path.{sym, ap, _∙_}
+use mathlib.Core.Path.{_≡_, sym, ap, _∙_}
 use native.Mathlib.Omega.{arith}
 use Rattle.moves.specs.declared.Step.the-variants.{To}
-use Rattle.moves.proofs.Steps.{Reaches, spot-reaches, reaches-on, step-off, step-to}
+use Rattle.moves.specs.Steps.{shifted}
+use Rattle.moves.specs.Table.{Reaches, spotOf}
+use Rattle.moves.proofs.Signs.{back}
+use Rattle.moves.proofs.Steps.{spot-reaches, reaches-on, step-off, step-to}
 use borrow.Author.Needs.{needs}
 use Rattle.moves.proofs.step_from.Statement.{statement}
 use Rattle.moves.proofs.step_from.Tie as tie
 
--- The spot that was found.
-found : (c : tie.After-i)
+-- The spot to which the move leads.
+spot : (c : tie.After-far-spot)
     → let a = c .before .before .before .args in
+    c .far-spot .result ≡ spotOf (shifted (a .w) (a .x) (a .m .dx)) (shifted (a .h) (a .y) (a .m .dy))
+spot c =
+    let s = c .before .before .before in
+    rw (back (s .args .m .dx) (s .pre .1 .columns), back (s .args .m .dy) (s .pre .1 .rows)) at (c .far-spot .ensures)
+
+abbrev start : tie.After-i → tie.Start
+start c = c .before .before .before .before .before
+
+-- It is on the floor.
+found : (c : tie.After-i)
+    → let a = start c .args in
     Reaches (a .w) (a .h) (a .m) (a .x) (a .y) (c .i .given .0 .0) (c .i .given .0 .1 .0)
 found c =
-    let a = c .before .before .before .args in
+    let a = start c .args in
     spot-reaches (a .w) (a .h) (a .x) (a .y) (c .i .given .0 .0) (c .i .given .0 .1 .0) (a .m)
-    (sym (c .before .before .far-spot .ensures) ∙ c .i .given .1)
+    (sym (spot (c .before .before)) ∙ c .i .given .1)
 
 far-spot-requires : tie.Need-far-spot-requires
 far-spot-requires c κs = search needs
@@ -28,13 +42,13 @@ enum-told c = search needs
 returns : tie.Need-returns
 returns c =
     let u = c .before .before in
-    let a = u .before .args in
-    step-off (a .w) (a .h) (a .x) (a .y) (a .m) (sym (u .far-spot .ensures) ∙ c .enum-told .given .1)
+    let a = u .before .before .before .args in
+    step-off (a .w) (a .h) (a .x) (a .y) (a .m) (sym (spot u) ∙ c .enum-told .given .1)
 
 vertex-at-requires : tie.Need-vertex-at-requires
 vertex-at-requires c κs =
     let k = c .before in
-    let p = reaches-on (k .before .before .before .pre .0) (found k) in
+    let p = reaches-on (start k .pre .0) (found k) in
     omega arith
 
 returns-2 : tie.Need-returns-2

@@ -1,5 +1,8 @@
 -- `sight::look` meets its contract: the columns and rows are those of the two vertices. Assumes nothing.
+use mathlib.Core.Path.{refl, sym, _∙_}
+use native.Mathlib.Omega.{arith}
 use Rattle.sight.specs.Sight.{segment}
+use Rattle.sight.proofs.Unit.{near-both}
 use borrow.Author.Needs.{needs}
 use Rattle.sight.proofs.look.Statement.{statement}
 use Rattle.sight.proofs.look.Tie as tie
@@ -16,18 +19,41 @@ column-of-requires-2 c κs = search needs
 row-of-requires-2 : tie.Need-row-of-requires-2
 row-of-requires-2 c κs = search needs
 
-look-at-requires : tie.Need-look-at-requires
-look-at-requires c κs = search needs
+span-of-requires : tie.Need-span-of-requires
+span-of-requires c κs = search needs
+
+span-of-requires-2 : tie.Need-span-of-requires-2
+span-of-requires-2 c κs = search needs
+
+is-unit-requires : tie.Need-is-unit-requires
+is-unit-requires c κs = search needs
+
+look-along-requires : tie.Need-look-along-requires
+look-along-requires c κs =
+    let b = c .before in
+    let a = b .before in
+    let y1 = a .before in
+    let s = y1 .before .before .before .before .before in (
+      s .pre .0,
+      search needs,
+      record {
+        near = λ t.
+            let n = near-both (a .span-of .result) (b .span-of2 .result) (sym (c .is-unit .ensures) ∙ t) in
+            (omega (arith, a .span-of .ensures), omega (arith, b .span-of2 .ensures));
+        upright-is = refl;
+        level-is = refl;
+      },
+    )
 
 returns : tie.Need-returns
 unfolding segment
 returns c =
-    let y1 = c .before in
+    let y1 = c .before .before .before .before in
     let x1 = y1 .before in
     let y0 = x1 .before in
     let x0 = y0 .before in
     rw (x0 .column-of .ensures .0, y0 .row-of .ensures .0, x1 .column-of2 .ensures .0, y1 .row-of2 .ensures .0)
-    at (c .look-at .ensures)
+    at (c .look-along .ensures)
 
 pub look-spec : {M : Type 1} → statement M
 look-spec =
@@ -37,5 +63,8 @@ look-spec =
     row-of-requires
     column-of-requires-2
     row-of-requires-2
-    look-at-requires
+    span-of-requires
+    span-of-requires-2
+    is-unit-requires
+    look-along-requires
     returns)

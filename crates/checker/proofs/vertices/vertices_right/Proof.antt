@@ -6,7 +6,7 @@ use native.Mathlib.Omega.{arith}
 use lib.ListN.{length}
 use Rattle.floor.specs.Floor.{floorOf, vertices}
 use Rattle.floor.proofs.Numbers.{vertices-le}
-use Rattle.moves.specs.Masks.{SweptAt}
+use Rattle.masks.specs.Masks.{SweptAt}
 use Rattle.paths.specs.Sheet.{sheetOf}
 use Rattle.neighbours.specs.Reach.{tableOf}
 use Rattle.checker.proofs.Passes.{VertexScan, scan-start, scan-stop, scan-on, scan-all}

@@ -8,7 +8,7 @@ use lib.Bits.{and-le-r}
 use lib.ListN.{length}
 use Rattle.moves.specs.declared.Step.the-variants.{To}
 use Rattle.moves.specs.Steps.{stepOf}
-use Rattle.moves.specs.Masks.{lowestEnd}
+use Rattle.masks.specs.Masks.{lowestEnd}
 use Rattle.distances.proofs.Store.{settled-le}
 use Rattle.distances.proofs.Relax.{RelaxedOn, relaxed-none, row-left, next-movable, offering}
 use Rattle.distances.proofs.Relax.{relaxed-more, relaxed-all}
@@ -16,14 +16,14 @@ use Rattle.distances.proofs.merge.relax_class.Statement.{statement}
 use Rattle.distances.proofs.merge.relax_class.Tie as tie
 
 abbrev Inv-loop : tie.InvT-loop
-Inv-loop up down p key n d₀ work₀ u mask k₀ rest₀ d work k rest =
-    RelaxedOn up down p (u .0) mask rest₀ rest key n k d₀ d work₀ work
+Inv-loop shifts p key n d₀ work₀ u mask k₀ rest₀ d work k rest =
+    RelaxedOn shifts p (u .0) mask rest₀ rest key n k d₀ d work₀ work
 
 abbrev μ-loop : tie.MeasureT-loop
-μ-loop up down p key n d₀ work₀ u mask k₀ rest₀ d work k rest = rest
+μ-loop shifts p key n d₀ work₀ u mask k₀ rest₀ d work k rest = rest
 
 abbrev start : tie.After-wide Inv-loop μ-loop → tie.Start Inv-loop μ-loop
-start c = c .before .before .before .before .before .before
+start c = c .before .before .before .before .before
 
 abbrev entered : tie.At-loop Inv-loop μ-loop → tie.After-wide Inv-loop μ-loop
 entered c = c .before .before .before .before
@@ -38,7 +38,7 @@ stepped c = c .before .before .before .before .before .before .before
 leads : (c : tie.After-known-told Inv-loop μ-loop)
     → let l = looped c in
     let a = start (entered l) .args in
-    stepOf (lowestEnd (l .loop .rest) (entered l .wide .result) (a .up .now) (a .down .now))
+    stepOf (lowestEnd (l .loop .rest) (entered l .wide .result) (a .shifts .now))
     ≡ To (record { 0 = c .before .x .given .0 .0 .0 })
 leads c = sym (c .before .before .before .lowest-step .ensures) ∙ c .before .x .given .1
 
@@ -46,7 +46,7 @@ left : (c : tie.After-known-told Inv-loop μ-loop) → 0 < looped c .loop .rest
 left c =
     let l = looped c in
     let a = start (entered l) .args in
-    row-left (l .loop .rest) (entered l .wide .result) (a .up .now) (a .down .now) (leads c) .0
+    row-left (l .loop .rest) (entered l .wide .result) (a .shifts .now) (leads c) .0
 
 place-in : (s : tie.Start Inv-loop μ-loop) → s .args .p < length (s .args .work .now)
 place-in s =
@@ -61,10 +61,10 @@ few : (s : tie.Start Inv-loop μ-loop) → length (s .args .d .now) ≤ 16384
 few s = let S = s .pre .3 .ready .settled in omega (arith, S .d-len, S .few)
 
 mul-wide : tie.Need-mul-wide Inv-loop μ-loop
-mul-wide c = omega (arith, place-in (c .before .before .before .before))
+mul-wide c = omega (arith, place-in (c .before .before .before))
 
 slice-read-wide : tie.Need-slice-read-wide Inv-loop μ-loop
-slice-read-wide c = place-in (c .before .before .before .before .before)
+slice-read-wide c = place-in (c .before .before .before .before)
 
 wide-requires : tie.Need-wide-requires Inv-loop μ-loop
 wide-requires c κs = search needs

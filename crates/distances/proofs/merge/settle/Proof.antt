@@ -6,9 +6,9 @@ use mathlib.Core.Path.{_≡_, refl, sym, ap, _∙_}
 use mathlib.Core.List.{List, [], _∷_}
 use Prim.Native.Nat.{ℕ, _<_}
 use lib.ListN.{length, set, length-replicate}
-use Rattle.moves.specs.declared.Class.{Class}
+use Rattle.masks.specs.declared.Class.{Class}
 use Rattle.moves.specs.declared.Rows.{Rows}
-use Rattle.moves.specs.Classes.{classAt}
+use Rattle.masks.specs.Classes.{classAt}
 use Rattle.paths.specs.Graph.{Graph}
 use Rattle.paths.specs.Distance.{unreachable}
 use Rattle.distances.specs.Merge.{Mergeable, remaining}
@@ -18,20 +18,20 @@ use Rattle.distances.proofs.merge.settle.Statement.{statement}
 use Rattle.distances.proofs.merge.settle.Tie as tie
 
 abbrev Inv-loop : tie.InvT-loop
-Inv-loop up down a d₀ work₀ c0 c1 c2 n₀ p0₀ p1₀ p2₀ d work n p0 p1 p2 =
-    MergingOn up down a n (c0 ∷ c1 ∷ c2 ∷ []) (p0 ∷ p1 ∷ p2 ∷ []) d₀ d work₀ work
+Inv-loop shifts a d₀ work₀ c0 c1 c2 n₀ p0₀ p1₀ p2₀ d work n p0 p1 p2 =
+    MergingOn shifts a n (c0 ∷ c1 ∷ c2 ∷ []) (p0 ∷ p1 ∷ p2 ∷ []) d₀ d work₀ work
 
 abbrev μ-loop : tie.MeasureT-loop
-μ-loop up down a d₀ work₀ c0 c1 c2 n₀ p0₀ p1₀ p2₀ d work n p0 p1 p2 = remaining (length d₀) (p0 ∷ p1 ∷ p2 ∷ [])
+μ-loop shifts a d₀ work₀ c0 c1 c2 n₀ p0₀ p1₀ p2₀ d work n p0 p1 p2 = remaining (length d₀) (p0 ∷ p1 ∷ p2 ∷ [])
 
 abbrev class : tie.Start Inv-loop μ-loop → ℕ → Class
-class s k = classAt (s .args .t3) k
+class s k = classAt (s .args .t2) k
 
 abbrev classes : tie.Start Inv-loop μ-loop → List Class
 classes s = class s 0 ∷ class s 1 ∷ class s 2 ∷ []
 
 abbrev start : tie.After-slice-known3 Inv-loop μ-loop → tie.Start Inv-loop μ-loop
-start c = c .before .before .before .before .before .before .before .before
+start c = c .before .before .before .before .before .before .before
 
 abbrev entered : tie.At-loop Inv-loop μ-loop → tie.After-slice-known3 Inv-loop μ-loop
 entered c = c .before .before .before .before .before .before .before
@@ -53,12 +53,12 @@ same-size c =
 abbrev Runs : tie.After-slice-known3 Inv-loop μ-loop → Graph → Rows → Type 0
 Runs c g r =
     let a = start c .args in
-    Mergeable g r (a .up .now) (a .down .now) (classes (start c)) (a .a) (set (cleared c) (a .a) 0)
+    Mergeable g r (a .shifts .now) (classes (start c)) (a .a) (set (cleared c) (a .a) 0)
     (set (a .work .now) 0 (a .a))
 
 runs : (c : tie.After-slice-known3 Inv-loop μ-loop) (g : Graph) (r : Rows)
     → let a = start c .args in
-    Mergeable g r (a .up .now) (a .down .now) (a .t3) (a .a) (a .d .now) (a .work .now)
+    Mergeable g r (a .shifts .now) (a .t2) (a .a) (a .d .now) (a .work .now)
     → Runs c g r
 runs c g r M = mergeable-start (cleared c) M (same-size c)
 
@@ -102,7 +102,7 @@ TurnOf c k key =
     let s = start e in
     let a = s .args in
     (g : Graph) (r : Rows) → Runs e g r
-    → Turn g r (a .up .now) (a .down .now) (a .a) (l .loop .n) k key (classes s) (positions l)
+    → Turn g r (a .shifts .now) (a .a) (l .loop .n) k key (classes s) (positions l)
     (set (cleared e) (a .a) 0) (l .loop .d) (set (a .work .now) 0 (a .a)) (l .loop .work)
 
 turn-of : (c : tie.After-lowest Inv-loop μ-loop) (k key : ℕ) → Chosen c k key → key < unreachable → TurnOf c k key

@@ -1,0 +1,79 @@
+-- Where an open move leads, by vertex numbers; and back again by the opposite move, since sight goes both ways.
+--
+--   goes              == an open move goes where it leads
+--   goes-column, -row == the column and row of its far end
+--   goes-inside       == which is a vertex
+--   goes-dx, goes-dy  == the same two ends give the same offsets
+--   goes-back         == the opposite offsets lead back
+--   goes-later        == the first half of the table leads to higher vertex numbers
+use Prim.Native.Nat.{ℕ, zero, suc, _*_, _≤_, _<_}
+use mathlib.Core.Path.{_≡_, sym, ap, _∙_}
+use mathlib.Core.Option.{some}
+use native.Mathlib.Omega.{arith}
+use Rattle.floor.specs.Floor.{Floor, vertices, number, column, row}
+use Rattle.floor.proofs.Numbers.{number-lt, number-of, column-le, row-le, column-number, row-number}
+use Rattle.sight.specs.Sight.{segmentOf}
+use Rattle.sight.proofs.Symmetry.{sees-back}
+use Rattle.moves.specs.declared.Move.{Move}
+use Rattle.moves.specs.Moves.{rowMove}
+use Rattle.moves.specs.Steps.{up, down, openEnd}
+use Rattle.moves.proofs.Table.{Turned, offset-eq}
+use Rattle.moves.proofs.Steps.{Goes, open-goes}
+
+module _ (f : Floor) where
+  abbrev W : ℕ
+  W = f .wide
+
+  abbrev X : ℕ → ℕ
+  X = column W
+
+  abbrev Y : ℕ → ℕ
+  Y = row W
+
+  pub goes : (m : Move) (u w : ℕ) → openEnd f m u ≡ some w → Goes f m (X u) (Y u) w
+  goes m u w e = open-goes f m (X u) (Y u) w (column-le W u) e
+
+  pub goes-column : (m : Move) (u w : ℕ) (g : Goes f m (X u) (Y u) w) → X w ≡ g .i
+  goes-column m u w g = ap X (g .vertex) ∙ column-number W (g .i) (g .j) (g .columns .inside)
+
+  pub goes-row : (m : Move) (u w : ℕ) (g : Goes f m (X u) (Y u) w) → Y w ≡ g .j
+  goes-row m u w g = ap Y (g .vertex) ∙ row-number W (g .i) (g .j) (g .columns .inside)
+
+  pub goes-inside : (m : Move) (u w : ℕ) → Goes f m (X u) (Y u) w → w < vertices W (f .high)
+  goes-inside m u w g = rw (g .vertex) (number-lt W (f .high) (g .i) (g .j) (g .columns .inside) (g .rows .inside))
+
+  -- The same two ends give the same offsets.
+  pub goes-dx : (m n : Move) (u w : ℕ) → Goes f m (X u) (Y u) w → Goes f n (X u) (Y u) w → m .dx ≡ n .dx
+  goes-dx m n u w g k =
+      offset-eq (m .dx) (n .dx)
+      (omega (arith, goes-column m u w g, goes-column n u w k, g .columns .moved, k .columns .moved))
+
+  pub goes-dy : (m n : Move) (u w : ℕ) → Goes f m (X u) (Y u) w → Goes f n (X u) (Y u) w → m .dy ≡ n .dy
+  goes-dy m n u w g k =
+      offset-eq (m .dy) (n .dy) (omega (arith, goes-row m u w g, goes-row n u w k, g .rows .moved, k .rows .moved))
+
+  -- The opposite offsets lead back.
+  pub goes-back : (m n : Move) (u w : ℕ) → u < vertices W (f .high) → Turned (n .dx) (m .dx) → Turned (n .dy) (m .dy)
+      → Goes f m (X u) (Y u) w → Goes f n (X w) (Y w) u
+  goes-back m n u w l p q g = record {
+    i = X u;
+    j = Y u;
+    columns = record {
+      moved = omega (arith, goes-column m u w g, g .columns .moved, p .up-down, p .down-up);
+      inside = column-le W u;
+    };
+    rows = record {
+      moved = omega (arith, goes-row m u w g, g .rows .moved, q .up-down, q .down-up);
+      inside = row-le W (f .high) u l;
+    };
+    vertex = sym (number-of W u);
+    seen = rw (goes-column m u w g, goes-row m u w g) (sees-back f (segmentOf (X u) (Y u) (g .i) (g .j)) ∙ g .seen);
+  }
+
+pub goes-later : (f : Floor) (k x y w : ℕ) → k < 4 → x ≤ f .wide → Goes f (rowMove k) x y w → number (f .wide) x y < w
+unfolding up down
+goes-later f zero x y w l h g = omega (arith, g .vertex, g .columns .moved, ap (λ z. z * suc (f .wide)) (g .rows .moved))
+goes-later f (suc zero) x y w l h g = omega (arith, g .vertex, g .columns .moved, ap (λ z. z * suc (f .wide)) (g .rows .moved))
+goes-later f (suc (suc zero)) x y w l h g = omega (arith, g .vertex, g .columns .moved, ap (λ z. z * suc (f .wide)) (g .rows .moved))
+goes-later f (suc (suc (suc zero))) x y w l h g = omega (arith, g .vertex, g .columns .moved, ap (λ z. z * suc (f .wide)) (g .rows .moved))
+goes-later f (suc (suc (suc (suc k)))) x y w l h g = absurd (omega arith)

@@ -1,0 +1,87 @@
+-- `sight::unit_in_sight` meets its contract: each return is one case of the law of unit segments. Assumes nothing.
+use mathlib.Core.Path.{sym, ap, ap₂, _∙_}
+use mathlib.Core.Bool.{not}
+use borrow.Author.Tests.{eqb-true, eqb-false}
+use Rattle.floor.specs.Floor.{Floor, floorOf, blocked}
+use Rattle.sight.specs.Travel.{uprightTo, levelTo}
+use Rattle.sight.proofs.Unit.{unit-still, unit-upright, unit-level, unit-slanted}
+use borrow.Author.Needs.{needs}
+use Rattle.sight.proofs.unit_in_sight.Statement.{statement}
+use Rattle.sight.proofs.unit_in_sight.Tie as tie
+
+abbrev plan : tie.Start → Floor
+plan s = floorOf (s .args .w) (s .args .h) (s .args .map .now)
+
+higher-requires : tie.Need-higher-requires
+higher-requires c κs = search needs
+
+higher-requires-2 : tie.Need-higher-requires-2
+higher-requires-2 c κs = search needs
+
+returns : tie.Need-returns
+returns c =
+    let s = c .before .before .before .before .before in
+    let a = s .args in
+    let u = s .pre .2 in
+    sym
+    (unit-still (plan s) (a .x0) (a .y0) (a .x1) (a .y1) (s .pre .1) (u .columns) (u .rows)
+    (eqb-true _ _ (sym (u .upright-is) ∙ c .before .if1 .taken)) (eqb-true _ _ (sym (u .level-is) ∙ c .if2 .taken)))
+
+upright-open-requires : tie.Need-upright-open-requires
+upright-open-requires c κs = search needs
+
+returns-2 : tie.Need-returns-2
+returns-2 c =
+    let s = c .before .before .before .before .before .before in
+    let a = s .args in
+    let u = s .pre .2 in
+    c .upright-open .ensures ∙ ap (uprightTo (plan s) (a .x0)) (c .before .before .before .higher2 .ensures)
+    ∙ sym
+    (unit-upright (plan s) (a .x0) (a .y0) (a .x1) (a .y1) (s .pre .1) (u .columns) (u .rows)
+    (eqb-true _ _ (sym (u .upright-is) ∙ c .before .before .if1 .taken))
+    (eqb-false _ _ (sym (u .level-is) ∙ c .before .if2 .left)))
+
+level-open-requires : tie.Need-level-open-requires
+level-open-requires c κs = search needs
+
+returns-3 : tie.Need-returns-3
+returns-3 c =
+    let s = c .before .before .before .before .before .before in
+    let a = s .args in
+    let u = s .pre .2 in
+    c .level-open .ensures ∙ ap (λ x. levelTo (plan s) x (a .y0)) (c .before .before .before .before .higher .ensures)
+    ∙ sym
+    (unit-level (plan s) (a .x0) (a .y0) (a .x1) (a .y1) (s .pre .1) (u .columns) (u .rows)
+    (eqb-false _ _ (sym (u .upright-is) ∙ c .before .before .if1 .left))
+    (eqb-true _ _ (sym (u .level-is) ∙ c .before .if3 .taken)))
+
+blocked-at-requires : tie.Need-blocked-at-requires
+blocked-at-requires c κs = search needs
+
+returns-4 : tie.Need-returns-4
+returns-4 c =
+    let s = c .before .before .before .before .before .before in
+    let a = s .args in
+    let u = s .pre .2 in
+    ap not
+    (c .blocked-at .ensures
+    ∙ ap₂ (blocked (plan s)) (c .before .before .before .before .higher .ensures)
+    (c .before .before .before .higher2 .ensures))
+    ∙ sym
+    (unit-slanted (plan s) (a .x0) (a .y0) (a .x1) (a .y1) (s .pre .1) (u .columns) (u .rows)
+    (eqb-false _ _ (sym (u .upright-is) ∙ c .before .before .if1 .left))
+    (eqb-false _ _ (sym (u .level-is) ∙ c .before .if3 .left)))
+
+pub unit-in-sight-spec : {M : Type 1} → statement M
+unit-in-sight-spec =
+    tie.close
+    (tie.spec
+    higher-requires
+    higher-requires-2
+    returns
+    upright-open-requires
+    returns-2
+    level-open-requires
+    returns-3
+    blocked-at-requires
+    returns-4)
