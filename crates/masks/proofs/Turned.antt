@@ -3,7 +3,6 @@
 --
 --   turned-open   == so they do
 --   turned-..     == one bit of it, as the code finds it
---   MasksTo f n l == the list l has the masks of the vertices before n
 --   masks-..      == what a loop that fills the masks keeps
 use Prim.Native.Nat.{ℕ, suc, _+_, _^_, _≤_, _<_}
 use mathlib.Core.Path.{_≡_, refl, sym, ap, _∙_}
@@ -29,7 +28,7 @@ use Rattle.moves.specs.Steps.{openEnd}
 use Rattle.moves.proofs.Table.{Turned, table-turned}
 use Rattle.moves.proofs.Steps.{Goes, goes-open}
 use Rattle.moves.proofs.Opposites.{goes, goes-back, goes-later}
-use Rattle.masks.specs.Masks.{bit, isSome, rowOpen, OpenAt, OpenMasks, offsetOf, origin, turnedBy, turnedOpen}
+use Rattle.masks.specs.Masks.{bit, isSome, rowOpen, OpenAt, MasksTo, OpenMasks, offsetOf, origin, turnedBy, turnedOpen}
 use Rattle.masks.proofs.Masked.{goes-offset}
 
 some-of : (o : Option ℕ) → isSome o ≡ true → (w : ℕ) × (o ≡ some w)
@@ -134,10 +133,6 @@ module _ (l : List ℕ) (v k : ℕ) (o : Offset) where
       turned-unset b = rw (le-leb (o .up) (v + o .down) h, lt-ltb (origin v o) v g, b)
 
 -- ---- the masks, filled one after the other
-
-pub record MasksTo (f : Floor) (n : ℕ) (l : List ℕ) : Type 0 where
-  pub len : length l ≡ vertices (f .wide) (f .high)
-  pub at : (v : ℕ) → v < n → OpenAt f v (getD l v 0)
 
 pub masks-none : {f : Floor} {l : List ℕ} → length l ≡ vertices (f .wide) (f .high) → MasksTo f 0 l
 masks-none e = record { len = e; at = λ v h. absurd (omega arith) }

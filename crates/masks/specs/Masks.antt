@@ -6,6 +6,7 @@
 --   rowOpen f x y k        == the move of the table's row k is open from (x, y)
 --   OpenMask f x y n       == bit k of n says so, for each row k
 --   OpenAt f v n           == the same from the vertex with number v
+--   MasksTo f n l          == the list l, of V places, has the mask of each vertex before n
 --   OpenMasks f l          == the list l has the mask of each vertex
 --   SweepAt f v s          == the sweep s stands at vertex v
 --   SweptAt f v r          == what a sweep finds at vertex v: its mask, and the sweep at the vertex after it
@@ -56,6 +57,10 @@ pub record OpenMask (f : Floor) (x y n : ℕ) : Type 0 where
 
 abbrev pub OpenAt : Floor → ℕ → ℕ → Type 0
 OpenAt f v n = OpenMask f (column (f .wide) v) (row (f .wide) v) n
+
+pub record MasksTo (f : Floor) (n : ℕ) (l : List ℕ) : Type 0 where
+  pub len : length l ≡ vertices (f .wide) (f .high)
+  pub at : (v : ℕ) → v < n → OpenAt f v (getD l v 0)
 
 pub record OpenMasks (f : Floor) (l : List ℕ) : Type 0 where
   pub len : length l ≡ vertices (f .wide) (f .high)

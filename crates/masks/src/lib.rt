@@ -2,14 +2,15 @@
 // a mask; and the classes of moves of one cost, as bits of rows. Every bit of a mask comes from the test of a move.
 ghost use mathlib.Core.Path.{_≡_};
 ghost use mathlib.Core.Bool.{true};
-ghost use Prim.Native.Nat.{ℕ, _<_, _≤_, _^_};
+ghost use Prim.Native.Nat.{ℕ, _+_, _<_, _≤_, _^_};
 ghost use lib.ListN.{length};
 ghost use Rattle.basics.specs.Bounded.{pick};
-ghost use Rattle.floor.specs.Floor.{Floor, Sized, floorOf, vertices};
+ghost use Rattle.floor.specs.Floor.{Floor, Sized, floorOf, vertices, number};
 ghost use Rattle.moves.specs.Moves.{moves, moveOf, moveAt};
 ghost use Rattle.moves.specs.Steps.{openEndAt, stepOf};
 ghost use Rattle.moves.specs.Table.{Listed, lawfulRows, Short, OnFloor};
-ghost use Rattle.masks.specs.Masks.{isSome, bitsOf, rowOpen, OpenAt, OpenMasks, SweepAt, SweptAt, NextTo};
+ghost use Rattle.masks.specs.Masks.{isSome, bitsOf, rowOpen, OpenAt, MasksTo, OpenMasks};
+ghost use Rattle.masks.specs.Masks.{SweepAt, SweptAt, NextTo};
 ghost use Rattle.masks.specs.Masks.{offsetOf, turnedOpen, maskedEnd, Movable, Shifts, RowMovable, lowestRow, lowestEnd};
 ghost use Rattle.masks.specs.Classes.{rowCosting, rowsCosting, classFor, Classes};
 use floor::Vertex;
@@ -209,16 +210,26 @@ fn rows_turned(w: usize, masks: &[u32], v: usize) -> u32
     bits
 }
 
-// Fills `masks` with the masks of all vertices. The first half of the table is tested at each vertex; the second half is
-// the first turned round, and is read off the masks of the vertices before.
+// The masks of the vertices of row y, where those of the rows before it are filled. The first half of the table is tested
+// at each vertex; the second half is the first turned round, and is read off the masks of the vertices before.
+fn fill_row(w: usize, h: usize, map: &[u8], y: usize, masks: &mut [u32])
+    requires { ⌜ Sized w h (now map) × (y ≤ h) × MasksTo (floorOf w h (now map)) (number w 0 y) (now masks) ⌝ }
+    ensures { λ _. ⌜ MasksTo (floorOf w h (now (map .entry))) (number w 0 (y + 1)) (now (masks .exit)) ⌝ }
+{
+    let first = y * (w + 1);
+    for x in 0..w + 1 {
+        let v = first + x;
+        masks[v] = rows_ahead(w, h, map, x, y) | (rows_turned(w, masks, v) * 16);
+    }
+}
+
+// Fills `masks` with the masks of all vertices.
 pub fn fill_masks(w: usize, h: usize, map: &[u8], masks: &mut [u32])
     requires { ⌜ Sized w h (now map) × (length (now masks) ≡ vertices w h) ⌝ }
     ensures { λ _. ⌜ OpenMasks (floorOf w h (now (map .entry))) (now (masks .exit)) ⌝ }
 {
-    let mut at = sweep_start();
-    for v in 0..masks.len() {
-        masks[v] = rows_ahead(w, h, map, at.x, at.y) | (rows_turned(w, masks, v) * 16);
-        at = sweep_next(w, at);
+    for y in 0..h + 1 {
+        fill_row(w, h, map, y, masks);
     }
 }
 
