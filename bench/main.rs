@@ -10,9 +10,9 @@
 mod lurfanzi;
 
 mod agree;
+mod buckets;
 mod floors;
 mod moves;
-mod plain;
 mod programs;
 mod shape;
 mod table;

@@ -2,7 +2,7 @@
 
 use crate::floors::Case;
 use crate::lurfanzi::{self, Floor, Job, Plan, Refusal, Sheet, SheetMut, Verdict};
-use crate::{plain, textbook, tuned, tuned_check, tuned_sight};
+use crate::{buckets, textbook, tuned, tuned_check, tuned_sight};
 use std::hint::black_box;
 
 /// A program: the operations of the header.
@@ -39,9 +39,9 @@ pub const TUNED: Program = Program {
 };
 
 /// A planner of its own; the rest is the tuned program's.
-pub const PLAIN: Program = Program { name: "bucket queue", plan: plain::plan, ..TUNED };
+pub const BUCKETS: Program = Program { name: "bucket queue", plan: buckets::plan, ..TUNED };
 
-pub const PROGRAMS: [Program; 4] = [LIBRARY, TEXTBOOK, TUNED, PLAIN];
+pub const PROGRAMS: [Program; 4] = [LIBRARY, TEXTBOOK, TUNED, BUCKETS];
 
 #[derive(Clone, Copy, Debug, PartialEq, Eq)]
 pub enum Operation {

@@ -1,19 +1,19 @@
 -- One turn of a counting pass: the vertex gets its count, since the cheaper vertices on the way have theirs.
 --
---   count-zero, count-one, count-sum == what the code answers for a vertex off the way, for the start, and for any
---                            other
+--   count-one, count-sum  == what the code answers for the start, and for any other vertex on the way
 --   Counted g s x i P f   == the vertices of the first i turns have their counts from s, and off the way stands 0
 --   counted-none          == so it is at the start
 --   count-right           == the count that the code works out for the next vertex is its count
---   counted-more          == so it is one turn on
+--   counted-more, counted-past == so it is one turn on, on the way and off it
 --   count-over            == a count above 64 bits: so is the total
 --   counted-all           == after the last turn f holds the counts
 --   Turning ..            == what holds at turn i of a pass, on whatever graph its data are of
---   turn-start, turn-more, turn-over, turn-end == so it is at the start and one turn on; what it says where a count
---                            does not fit, and at the end
+--   turn-start, turn-more, turn-past, turn-over, turn-end == so it is at the start and one turn on; what it says where
+--                            a count does not fit, and at the end
+--   turn-none             == a goal that is not reached has no counts
 --   turn-len              == the slice keeps its length
 use Prim.Native.Nat.{ℕ, suc, _+_, _^_, _≤_, _<_}
-use mathlib.Core.Path.{_≡_, sym, ap, _∙_, subst}
+use mathlib.Core.Path.{_≡_, refl, sym, ap, _∙_, subst}
 use mathlib.Core.Logic.{⊎-elim}
 use mathlib.Core.Bool.{Bool, true, false, true≢false}
 use mathlib.Core.List.{List}
@@ -23,9 +23,10 @@ use lib.Seq.{getD-set-same, getD-set-other}
 use Rattle.basics.specs.Lists.{tabulate, zeros}
 use Rattle.basics.proofs.Order.{le-or-lt, eq-or-ne}
 use Rattle.basics.proofs.Bools.{true-or-false}
+use Rattle.basics.proofs.Bounded.{pick-yes}
 use Rattle.basics.proofs.Lists.{tabulate-of, getD-zeros}
 use Rattle.paths.specs.Graph.{Graph}
-use Rattle.paths.specs.Distance.{distance, pathCount}
+use Rattle.paths.specs.Distance.{unreachable, distance, pathCount}
 use Rattle.paths.specs.Route.{onShortest, onWay, countFrom}
 use Rattle.paths.specs.Local.{inflow, countAt, entry}
 use Rattle.paths.proofs.Counts.{pathCount-self}
@@ -36,7 +37,6 @@ use Rattle.paths.proofs.CountTest.{
   way-closed,
   countAt-start,
   countAt-other,
-  countAt-off,
   count-next,
 }
 use Rattle.neighbours.specs.declared.Reach.{Reach}
@@ -51,26 +51,28 @@ use Rattle.counts.proofs.Sequence.{d-at, d-len, on-at, agrees, turn-ins
 
 -- ---- the count of one vertex
 
-module _ (t : Reach) (mask s x : ℕ) (d e f : List ℕ) (u : ℕ) where
+abbrev all : ℕ → Bool
+all v = true
+
+module _ (t : Reach) (mask s : ℕ) (d f : List ℕ) (u : ℕ) where
   abbrev star-here : Graph
   star-here = star (length d) t mask
 
-  abbrev on-here : ℕ → Bool
-  on-here = onShortest (entry d) (entry e) x
-
-  pub count-zero : on-here u ≡ false → Is 0 ≡ sumOf (countOf t mask s x d e f u)
-  count-zero o = rw (countAt-off star-here s on-here (entry d) (entry f) u o) (sumOf-fits 0 (omega arith))
-
-  pub count-one : on-here u ≡ true → u ≡ s → Is 1 ≡ sumOf (countOf t mask s x d e f u)
-  count-one o q =
-      let at : countOf t mask s x d e f u ≡ 1
-      = ap (countOf t mask s x d e f) q
-      ∙ countAt-start star-here s on-here (entry d) (entry f) (ap on-here (sym q) ∙ o) in
+  pub count-one : u ≡ s → Is 1 ≡ sumOf (countOf t mask s d f u)
+  count-one q =
+      let at : countOf t mask s d f u ≡ 1
+      = ap (countOf t mask s d f) q ∙ countAt-start star-here s all (entry d) (entry f) refl in
       rw at (sumOf-fits 1 (omega arith))
 
-  pub count-sum : on-here u ≡ true → (u ≡ s → ⊥) → (r : Sum) → r ≡ sumOf (inflow star-here (entry d) (entry f) u)
-      → r ≡ sumOf (countOf t mask s x d e f u)
-  count-sum o ne r q = q ∙ ap sumOf (sym (countAt-other star-here s on-here (entry d) (entry f) u o ne))
+  pub count-sum : (u ≡ s → ⊥) → (r : Sum) → r ≡ sumOf (inflow star-here (entry d) (entry f) u)
+      → r ≡ sumOf (countOf t mask s d f u)
+  count-sum ne r q = q ∙ ap sumOf (sym (countAt-other star-here s all (entry d) (entry f) u refl ne))
+
+-- Where a vertex is on the way, its count is what it would be if all were.
+count-all : (g : Graph) (s : ℕ) (on : ℕ → Bool) (D F : ℕ → ℕ) (u : ℕ) → on u ≡ true
+    → countAt g s all D F u ≡ countAt g s on D F u
+unfolding countAt
+count-all g s on D F u o = sym (pick-yes (on u) _ 0 o)
 
 -- ---- the counts so far
 
@@ -121,13 +123,25 @@ module _ {g : Graph} {t : Reach} {s x n : ℕ} {rev : Bool} {d e work : List ℕ
         (before o))
         (eq-or-ne u s)
 
-    count-of : countAt g s on (entry d) (entry f) u ≡ countFrom g s x u
-    count-of = ⊎-elim (λ o. count-on o ∙ sym (countFrom-way g s x u o))
-        (λ o. countAt-off g s on (entry d) (entry f) u (on-at K u in-u ∙ o) ∙ sym (countFrom-off g s x u o))
-        (true-or-false (onWay g s x u))
+    pub count-right : on u ≡ true → countOf t (maskAt (length d) work u) s d f u ≡ countFrom g s x u
+    count-right o =
+        let w = sym (on-at K u in-u) ∙ o in
+        rw (d-len K) (countAt-agrees (agrees K u in-u) (entry d) s all (entry f) ∙ count-all g s on (entry d) (entry f) u o
+        ∙ count-on w ∙ sym (countFrom-way g s x u w))
 
-    pub count-right : countOf t (maskAt (length d) work u) s x d e f u ≡ countFrom g s x u
-    count-right = rw (d-len K) (countAt-agrees (agrees K u in-u) (entry d) s on (entry f) ∙ count-of)
+    below : (j : ℕ) → j < i + 1 → (u ≡ P j → ⊥) → j < i
+    below j k ne = ⊎-elim (λ h. h) (λ h. absurd (ne (ap P (omega arith)))) (le-or-lt (suc j) i)
+
+    pub counted-past : on u ≡ false → Counted g s x (i + 1) P f
+    counted-past o =
+        let w = sym (on-at K u in-u) ∙ o in
+        record {
+          len = C .len;
+          done = λ j k. ⊎-elim
+              (λ p. subst (λ z. entry f z ≡ countFrom g s x z) p (C .off u in-u w ∙ sym (countFrom-off g s x u w)))
+              (λ ne. C .done j (below j k ne)) (eq-or-ne u (P j));
+          off = C .off;
+        }
 
     pub counted-more : (y : ℕ) → y ≡ countFrom g s x u → Counted g s x (i + 1) P (set f u y)
     counted-more y q = record {
@@ -141,9 +155,6 @@ module _ {g : Graph} {t : Reach} {s x n : ℕ} {rev : Bool} {d e work : List ℕ
       where
         at-u : entry (set f u y) u ≡ y
         at-u = getD-set-same f u y 0 (omega (arith, C .len, in-u))
-
-        below : (j : ℕ) → j < i + 1 → (u ≡ P j → ⊥) → j < i
-        below j k ne = ⊎-elim (λ h. h) (λ h. absurd (ne (ap P (omega arith)))) (le-or-lt (suc j) i)
 
     pub count-over : 2 ^ 64 ≤ countFrom g s x u → 2 ^ 64 ≤ pathCount g s x
     count-over h = omega (arith, countFrom-fits g (K .lawful) s x u)
@@ -172,15 +183,24 @@ module _ {t : Reach} {s x n : ℕ} {rev : Bool} {d e work : List ℕ} where
       → length f ≡ length f₀
   turn-len h q = h .len ∙ sym (ap length q ∙ length-replicate (length d) 0)
 
+  -- A vertex off the way keeps its 0.
+  pub turn-past : {i : ℕ} {f : List ℕ} → Turning t s x n rev d e work i f → i < n → (u : ℕ) → u ≡ turnOf work n rev i
+      → onShortest (entry d) (entry e) x u ≡ false → Turning t s x n rev d e work (i + 1) f
+  turn-past h l u at o = record {
+    within = omega arith;
+    len = h .len;
+    counted = λ g K. counted-past K l (h .counted g K) (ap (onShortest (entry d) (entry e) x) (sym at) ∙ o);
+  }
+
   module _ {i : ℕ} {f : List ℕ} (h : Turning t s x n rev d e work i f) (l : i < n) (u : ℕ)
-      (at : u ≡ turnOf work n rev i) (r : Sum)
-      (sum : r ≡ sumOf (countOf t (maskAt (length d) work u) s x d e f u)) where
+      (at : u ≡ turnOf work n rev i) (o : onShortest (entry d) (entry e) x u ≡ true) (r : Sum)
+      (sum : r ≡ sumOf (countOf t (maskAt (length d) work u) s d f u)) where
     -- What was worked out is the count of the vertex.
     worked : (g : Graph) (K : Known g t s x n rev d e work)
-        → countOf t (maskAt (length d) work u) s x d e f u ≡ countFrom g s x (turnOf work n rev i)
+        → countOf t (maskAt (length d) work u) s d f u ≡ countFrom g s x (turnOf work n rev i)
     worked g K =
-        subst (λ v. countOf t (maskAt (length d) work v) s x d e f v ≡ countFrom g s x (turnOf work n rev i)) (sym at)
-        (count-right K l (h .counted g K))
+        subst (λ v. countOf t (maskAt (length d) work v) s d f v ≡ countFrom g s x (turnOf work n rev i)) (sym at)
+        (count-right K l (h .counted g K) (ap (onShortest (entry d) (entry e) x) (sym at) ∙ o))
 
     pub turn-more : (y : ℕ) → r ≡ Is y → Turning t s x n rev d e work (i + 1) (set f u y)
     turn-more y q = record {
@@ -196,6 +216,10 @@ module _ {t : Reach} {s x n : ℕ} {rev : Bool} {d e work : List ℕ} where
       counted = λ z. absurd (true≢false (sym z));
       over = λ z. count-over K l (h .counted g K) (omega (arith, sumOf-passes _ (sym sum ∙ q), worked g K));
     }
+
+  -- The goal is reached.
+  pub turn-none : entry d x ≡ unreachable → (g : Graph) → Known g t s x n rev d e work → (f : List ℕ) → Passed g s x f true
+  turn-none q g K f = absurd (omega (arith, K .reached, d-at K x (K .goal-in)))
 
   pub turn-end : {i : ℕ} {f : List ℕ} → Turning t s x n rev d e work i f → n ≤ i → (g : Graph)
       → Known g t s x n rev d e work → Passed g s x f true

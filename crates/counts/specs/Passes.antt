@@ -4,7 +4,7 @@
 --   placeOf n i rev        == the place in an order of n that a pass comes to at turn i: from the front, or, reversed,
 --                             from the back
 --   turnOf work n rev i    == the vertex at that place
---   countOf ..             == the count of vertex u, by the counts f of the vertices that the pass came to before
+--   countOf ..             == the count of vertex u on the way, by the counts f of the vertices before
 --   Readied t n d e work   == a pass can read the order and the moves of every vertex
 --   Priced g t             == the table t has the costs of the moves of graph g
 --   Known g t s x n rev d e work == d are the costs from s, e those to x, which a walk from s reaches; the masks are
@@ -20,7 +20,7 @@ use Rattle.basics.specs.Bounded.{pick}
 use Rattle.basics.specs.Lists.{tabulate, zeros}
 use Rattle.paths.specs.Graph.{Graph, Lawful}
 use Rattle.paths.specs.Distance.{unreachable, distance, pathCount}
-use Rattle.paths.specs.Route.{onShortest, countFrom, countTo}
+use Rattle.paths.specs.Route.{countFrom, countTo}
 use Rattle.paths.specs.Sheet.{fits}
 use Rattle.paths.specs.Local.{countAt, entry}
 use Rattle.neighbours.specs.declared.Reach.{Reach}
@@ -33,8 +33,8 @@ placeOf n i rev = pick rev (n - 1 - i) i
 abbrev pub turnOf : List ℕ → ℕ → Bool → ℕ → ℕ
 turnOf work n rev i = entry work (placeOf n i rev)
 
-abbrev pub countOf : Reach → ℕ → ℕ → ℕ → List ℕ → List ℕ → List ℕ → ℕ → ℕ
-countOf t mask s x d e f = countAt (star (length d) t mask) s (onShortest (entry d) (entry e) x) (entry d) (entry f)
+abbrev pub countOf : Reach → ℕ → ℕ → List ℕ → List ℕ → ℕ → ℕ
+countOf t mask s d f = countAt (star (length d) t mask) s (λ _. true) (entry d) (entry f)
 
 pub record Readied (t : Reach) (n : ℕ) (d e work : List ℕ) : Type 0 where
   pub few : length d ≤ 16384

@@ -8,14 +8,23 @@
 // `count`, `row`, `up`, `down` and `cost` are a Reach of crate neighbours: the moves of the floor, lent list by list.
 ghost use mathlib.Core.Path.{_≡_};
 ghost use mathlib.Core.Bool.{true, false};
-ghost use Prim.Native.Nat.{_<_, _≤_};
+ghost use Prim.Native.Nat.{ℕ, _<_, _≤_};
 ghost use lib.ListN.{length};
 ghost use Rattle.basics.specs.Lists.{zeros};
 ghost use Rattle.paths.specs.Graph.{Graph};
+ghost use Rattle.paths.specs.Distance.{unreachable};
+ghost use Rattle.paths.specs.Route.{onShortest};
 ghost use Rattle.paths.specs.Local.{entry};
 ghost use Rattle.neighbours.specs.Reach.{tableOf, Lent, Here, sumOf};
 ghost use Rattle.counts.specs.Passes.{turnOf, countOf, Readied, Known, Passed, Filled};
 use neighbours::Sum;
+
+// A cost in 64 bits, where a sum of two fits.
+fn wide(x: u32) -> u64
+    ensures { λ r. ⌜ (r ≡ x) × (r < 4294967296) ⌝ }
+{
+    x as u64
+}
 
 // A vertex number of the working slice, as an index.
 fn index(x: u32) -> usize
@@ -35,8 +44,17 @@ fn vertex_of_turn(work: &[u32], n: usize, rev: bool, i: usize) -> usize
     index(work[i])
 }
 
-// The count of vertex u from the start, by the counts f of the vertices nearer to it: 1 at the start, else a sum over
-// the moves by which a cheapest walk comes to u; 0 off the way to the goal.
+// Whether vertex u is on the way to a vertex that costs `whole`.
+fn on_way(d: &[u32], e: &[u32], whole: u32, u: usize) -> bool
+    requires { ⌜ (u < length (now d)) × (u < length (now e)) ⌝ }
+    ensures { λ r. ⌜ ((x : ℕ) → whole ≡ entry (now (d .entry)) x → (whole ≡ unreachable → ⊥)
+        → r ≡ onShortest (entry (now (d .entry))) (entry (now (e .entry))) x u) ⌝ }
+{
+    wide(d[u]) + wide(e[u]) == wide(whole)
+}
+
+// The count from the start of vertex u, which is on the way, by the counts f of the vertices nearer to it: 1 at the start,
+// else a sum over the moves by which a cheapest walk comes to u.
 fn count_of(
     count: usize,
     row: &[usize],
@@ -45,29 +63,25 @@ fn count_of(
     cost: &[u32],
     mask: u32,
     start: usize,
-    goal: usize,
     d: &[u32],
-    e: &[u32],
     f: &[u64],
     u: usize,
 ) -> Sum
     requires { ⌜ Lent (tableOf count (now row) (now up) (now down) (now cost))
         × Here (length (now d)) (tableOf count (now row) (now up) (now down) (now cost)) mask u
-        × (goal < length (now d)) × (length (now e) ≡ length (now d)) × (length (now f) ≡ length (now d)) ⌝ }
+        × (length (now f) ≡ length (now d)) ⌝ }
     ensures { λ r. ⌜ r ≡ sumOf (countOf
         (tableOf count (now (row .entry)) (now (up .entry)) (now (down .entry)) (now (cost .entry))) mask
-        start goal (now (d .entry)) (now (e .entry)) (now (f .entry)) u) ⌝ }
+        start (now (d .entry)) (now (f .entry)) u) ⌝ }
 {
-    if !neighbours::on_way(d, e, goal, u) {
-        return Sum::Is(0);
-    }
     if u == start {
         return Sum::Is(1);
     }
     neighbours::inflow_at(count, row, up, down, cost, mask, d, f, u)
 }
 
-// Fills f with the counts from the start on the way to the goal; false where one does not fit 64 bits.
+// Fills f with the counts from the start on the way to the goal, and leaves the 0 that stands elsewhere; false where one
+// does not fit 64 bits.
 fn count_along(
     count: usize,
     row: &[usize],
@@ -91,14 +105,19 @@ fn count_along(
         → Passed g start goal (now (f .exit)) r) ⌝ }
 {
     let masks = 2 * d.len();
+    let whole = d[goal];
+    if whole == paths::UNREACHABLE {
+        return true;
+    }
     for i in 0..n {
         let u = vertex_of_turn(work, n, rev, i);
-        let mask = work[masks + u];
-        let sum = count_of(count, row, up, down, cost, mask, start, goal, d, e, f, u);
-        let Sum::Is(x) = sum else {
-            return false;
-        };
-        f[u] = x;
+        if on_way(d, e, whole, u) {
+            let mask = work[masks + u];
+            let Sum::Is(x) = count_of(count, row, up, down, cost, mask, start, d, f, u) else {
+                return false;
+            };
+            f[u] = x;
+        }
     }
     true
 }

@@ -1,4 +1,4 @@
--- `moves::class_of` meets its contract: the class has the rows of its cost where none of them is taken.
+-- `masks::class_of` meets its contract: the class has the rows of its cost where none of them is taken.
 -- Assumes nothing.
 use Prim.Native.Nat.{ℕ}
 use mathlib.Core.Path.{_≡_, sym, ap, ap₂, _∙_}

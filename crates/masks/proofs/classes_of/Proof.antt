@@ -1,4 +1,4 @@
--- `moves::classes_of` meets its contract: each class is that of one of the first three moves. Assumes nothing.
+-- `masks::classes_of` meets its contract: each class is that of one of the first three moves. Assumes nothing.
 use native.Mathlib.Omega.{arith}
 use Rattle.moves.proofs.Table.{listed-lawful}
 use Rattle.masks.proofs.Classes.{three-moves, three-classes}

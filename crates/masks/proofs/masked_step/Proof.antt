@@ -1,4 +1,4 @@
--- `moves::masked_step` meets its contract: the test is the row's bit. Assumes nothing.
+-- `masks::masked_step` meets its contract: the test is the row's bit. Assumes nothing.
 use Prim.Native.Nat.{_/_, _%_, _^_}
 use mathlib.Core.Path.{_≡_, ap}
 use mathlib.Core.Bool.{true, false}

@@ -1,4 +1,4 @@
--- `moves::offset_of` meets its contract: the parts of the two offsets, rows counted in vertices. Assumes nothing.
+-- `masks::offset_of` meets its contract: the parts of the two offsets, rows counted in vertices. Assumes nothing.
 use mathlib.Core.Path.{_≡_, ap, _∙_}
 use native.Mathlib.Omega.{arith}
 use Rattle.moves.specs.Table.{Short, partsOf}

@@ -1,4 +1,4 @@
--- `moves::row_costing` meets its contract: the bit of a row is 1 shifted up to it. Assumes nothing.
+-- `masks::row_costing` meets its contract: the bit of a row is 1 shifted up to it. Assumes nothing.
 use Prim.Native.Nat.{ℕ, _*_, _%_, _^_, _<_}
 use mathlib.Core.Path.{_≡_, sym, ap, _∙_}
 use Rattle.masks.proofs.Bits.{one-shifted}

@@ -1,4 +1,4 @@
--- `moves::rows_costing` meets its contract: the rows of the moves before m are put together. Assumes nothing.
+-- `masks::rows_costing` meets its contract: the rows of the moves before m are put together. Assumes nothing.
 use Prim.Native.Nat.{_-_, _≤_}
 use mathlib.Core.Path.{_≡_, refl, ap, ap₂, _∙_}
 use native.Mathlib.Omega.{arith}
