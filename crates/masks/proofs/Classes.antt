@@ -2,7 +2,6 @@
 --
 --   three-moves   == a neighbourhood has three moves at least
 --   three-classes == the classes of the costs of its first three are the classes of its moves
---   whole-listed  == the whole table is a neighbourhood
 use Prim.Native.Nat.{ℕ, _^_, _≤_}
 use mathlib.Core.Path.{_≡_, refl}
 use mathlib.Core.Logic.{⊎-elim}
@@ -18,7 +17,7 @@ use Rattle.basics.proofs.Bools.{or-cases, not-both}
 use Rattle.basics.proofs.Bounded.{every-at, any-cases}
 use Rattle.moves.specs.declared.Rows.{Rows}
 use Rattle.masks.specs.declared.Class.{Class}
-use Rattle.moves.specs.Moves.{moves, rowsOf, rowAt, moveAt, neighbourhoodOf}
+use Rattle.moves.specs.Moves.{moves, rowsOf, rowAt, moveAt}
 use Rattle.moves.specs.Table.{Listed}
 use Rattle.masks.specs.Masks.{bit}
 use Rattle.masks.specs.Classes.{classAt, CostClass, Classes, rowsCosting, classFor}
@@ -120,9 +119,3 @@ module _ {r : Rows} (h : Listed r) where
   pub three-classes : (a b c : Class) → a ≡ classFor r 0 0 → b ≡ classFor r 1 (a .rows)
       → c ≡ classFor r 2 (bitOr (a .rows) (b .rows)) → Classes r (a ∷ b ∷ c ∷ [])
   three-classes a b c p q s = rw (s, q, p) listed-classes
-
--- ---- the whole table
-
-pub whole-listed : Listed (rowsOf 0 1 (length moves))
-unfolding neighbourhoodOf
-whole-listed = record { number = 8; known = refl }
