@@ -1,7 +1,7 @@
 -- The far end of a move: one coordinate, the spot, the vertex, and what an open move is.
 --
 --   shifted-at, shifted-is, -low, -high == one coordinate moved by an offset
---   shifted-span, shifted-same          == how far that is
+--   shifted-span                        == how far that is
 --   spot-reaches, reaches-on            == the spot to which a move leads
 --   Goes f m x y w                      == move m goes from (x, y) to vertex w and is open
 --   open-goes, goes-open                == `openEndAt` says so
@@ -9,13 +9,11 @@
 use Prim.Native.Nat.{ℕ, _+_, _-_, _≤_, _<_}
 use mathlib.Core.Path.{_≡_, refl, sym, ap, _∙_}
 use mathlib.Core.Bool.{Bool, true, false, _&&_, and-false}
-use mathlib.Core.Logic.{⊎-elim}
 use mathlib.Core.Option.{Option, none, some}
 use native.Mathlib.Omega.{arith}
-use borrow.Author.Tests.{le-leb, lt-leb, leb-true, eq-eqb, ne-eqb}
-use lib.Dec.{leb, eqb}
+use borrow.Author.Tests.{le-leb, lt-leb, leb-true}
+use lib.Dec.{leb}
 use lib.IntN.{ℤ, pos, negsuc, natAbs}
-use Rattle.basics.proofs.Order.{le-or-lt}
 use Rattle.floor.specs.Floor.{Floor, number}
 use Rattle.floor.proofs.Numbers.{column-number, row-number}
 use Rattle.sight.specs.Sight.{segment, segmentOf, sees}
@@ -69,25 +67,15 @@ shifted-is n a b d e = cases (leb (down d) (a + up d)) (leb (a + up d) (n + down
     cases true false p q h = never h
     cases false q p r h = never h
 
--- An offset leads as far as it is long, and nowhere else exactly where it is 0.
-pub shifted-span : (n a b : ℕ) (d : ℤ) → Shifted n a b d → span a b ≡ natAbs d
+-- An offset leads as far as it is long.
+pub shifted-span : (n a b : ℕ) (d : ℤ) → shifted n a d ≡ some b → natAbs d ≡ span a b
 unfolding up down
-shifted-span n a b (pos k) s = omega (arith, s .moved, span-up a b (omega (arith, s .moved)))
-shifted-span n a b (negsuc k) s = omega (arith, s .moved, span-down a b (omega (arith, s .moved)))
-
-pub shifted-same : (n a b : ℕ) (d : ℤ) → Shifted n a b d → eqb (natAbs d) 0 ≡ eqb a b
-shifted-same n a b d s =
-    let e = shifted-span n a b d s in
-    ⊎-elim
-    (λ l. ⊎-elim
-    (λ k.
-    let z : a ≡ b = omega arith in
-    eq-eqb (natAbs d) 0 (omega (arith, e, span-up a b l)) ∙ sym (eq-eqb a b z))
-    (λ k. ne-eqb (natAbs d) 0 (λ z. omega (arith, e, span-up a b l)) ∙ sym (ne-eqb a b (λ z. omega arith)))
-    (le-or-lt b a))
-    (λ l.
-    ne-eqb (natAbs d) 0 (λ z. omega (arith, e, span-down a b (omega arith))) ∙ sym (ne-eqb a b (λ z. omega arith)))
-    (le-or-lt a b)
+shifted-span n a b (pos k) e =
+    let s = shifted-is n a b (pos k) e in
+    omega (arith, span-up a b (omega arith))
+shifted-span n a b (negsuc k) e =
+    let s = shifted-is n a b (negsuc k) e in
+    omega (arith, span-down a b (omega arith))
 
 -- What the code answers of one coordinate, and of both.
 module _ (n a : ℕ) (d : ℤ) where

@@ -216,7 +216,7 @@ pub fn step_from(w: usize, h: usize, x: usize, y: usize, m: Move) -> Step
     Step::To(floor::vertex_at(w, h, i, j))
 }
 
-// Whether (x, y) and (i, j), to which dx and dy lead from there, see each other. How the segment lies is read off the
+// Whether (x, y) and (i, j), to which dx and dy lead from there, see each other. How far apart they are is read off the
 // offsets: where these are constants, nothing is left to do but to read the cells.
 fn ends_see(
     w: usize,
@@ -233,10 +233,7 @@ fn ends_see(
         × Reaches w h (moveOf dx dy 0) x y i j ⌝ }
     ensures { λ r. ⌜ r ≡ sees (floorOf w h (now (map .entry))) (segmentOf x y i j) ⌝ }
 {
-    let columns = length_of(dx);
-    let rows = length_of(dy);
-    let unit = sight::is_unit(columns, rows);
-    sight::in_sight_along(w, h, map, x, y, i, j, unit, columns == 0, rows == 0)
+    sight::in_sight_along(w, h, map, x, y, i, j, length_of(dx), length_of(dy))
 }
 
 // The vertex to which the offsets of a move lead from (x, y), where the move is open: both ends on the floor, and in

@@ -6,5 +6,5 @@ pub mod First
 pub mod Obstacles
 pub mod Runs
 pub mod Named
-pub mod Unit
+mod Unit
 pub mod Question

@@ -12,7 +12,7 @@
 --                            segment enters, the one least far in columns from the first end, of equals least far in
 --                            rows; Clear where there is none
 --   isClear o             == nothing is in the way
-use Prim.Native.Nat.{ℕ, zero, suc, _+_, _-_, _*_, min, max}
+use Prim.Native.Nat.{ℕ, zero, suc, _+_, _-_, min, max}
 use mathlib.Core.Bool.{Bool, true, false, _&&_}
 use lib.Dec.{leb, eqb}
 use Rattle.basics.specs.Bounded.{pick}

@@ -2,9 +2,7 @@
 -- these: contracts of the scans cite them, and the laws in proofs/ tie them to `sees` and `obstacle`.
 --
 --   Ends w h x0 y0 x1 y1  == both ends of a segment lie on the floor
---   Unit x0 y0 x1 y1 u l  == they are at most one column and one row apart; u and l say whether they share a column and
---                            whether a row
---   Lies x0 y0 x1 y1 n u l == the same of any two ends; n says that they are no farther apart than that
+--   Apart x0 y0 x1 y1 c r == they are c columns and r rows apart
 --   uprightTo, levelTo    == the step that ends in a vertex is not shut
 --   uprightFree, levelFree == the k-th step of a segment along a grid line is not shut
 --   touches dx dy c r     == a segment dx wide and dy high enters the cell c columns and r rows from its first end
@@ -13,8 +11,8 @@
 --   RowRun s r first past == the cells that s enters in that row are those from column first to before column past
 use Prim.Native.Nat.{ℕ, suc, _*_, _≤_, _<_}
 use mathlib.Core.Path.{_≡_}
-use mathlib.Core.Bool.{Bool, true, _&&_, not}
-use lib.Dec.{leb, ltb, eqb}
+use mathlib.Core.Bool.{Bool, _&&_, not}
+use lib.Dec.{leb, ltb}
 use Rattle.basics.specs.Bounded.{pick, every}
 use Rattle.floor.specs.Floor.{Floor, blocked}
 use Rattle.sight.specs.Sight.{Segment, enters, uprightOpen, levelOpen}
@@ -28,16 +26,9 @@ pub record Ends (w h x0 y0 x1 y1 : ℕ) : Type 0 where
   pub x-last : x1 ≤ w
   pub y-last : y1 ≤ h
 
-pub record Unit (x0 y0 x1 y1 : ℕ) (upright level : Bool) : Type 0 where
-  pub columns : span x0 x1 ≤ 1
-  pub rows : span y0 y1 ≤ 1
-  pub upright-is : upright ≡ eqb x0 x1
-  pub level-is : level ≡ eqb y0 y1
-
-pub record Lies (x0 y0 x1 y1 : ℕ) (unit upright level : Bool) : Type 0 where
-  pub near : unit ≡ true → (span x0 x1 ≤ 1) × (span y0 y1 ≤ 1)
-  pub upright-is : upright ≡ eqb x0 x1
-  pub level-is : level ≡ eqb y0 y1
+pub record Apart (x0 y0 x1 y1 columns rows : ℕ) : Type 0 where
+  pub columns-are : columns ≡ span x0 x1
+  pub rows-are : rows ≡ span y0 y1
 
 -- The cells on both sides of the step along column line x that ends on row line y are not both blocked; the same of the
 -- step along row line y that ends on column line x. So `uprightOpen f x j` is `uprightTo f x (suc j)`.

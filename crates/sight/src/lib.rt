@@ -1,14 +1,12 @@
 // Line of sight between two vertices of a floor, and the sight question.
 ghost use mathlib.Core.Path.{_≡_};
-ghost use mathlib.Core.Bool.{_&&_};
-ghost use lib.Dec.{leb};
-ghost use Prim.Native.Nat.{_<_, max};
+ghost use Prim.Native.Nat.{_<_, _≤_, max};
 ghost use Rattle.floor.specs.Floor.{Sized, floorOf, vertices};
 ghost use Rattle.floor.specs.Refusals.{floorShape, endShape, andThen};
 ghost use Rattle.sight.specs.Sight.{segmentOf, segment, sees};
 ghost use Rattle.sight.specs.Obstacle.{isClear, obstacle};
 ghost use Rattle.sight.specs.Question.{sightAnswer, sightNumber};
-ghost use Rattle.sight.specs.Travel.{Ends, Unit, Lies};
+ghost use Rattle.sight.specs.Travel.{Ends, Apart};
 use floor::Cell;
 use floor::Refusal;
 use floor::Shape;
@@ -66,8 +64,8 @@ fn higher(a: usize, b: usize) -> usize
     a
 }
 
-// Whether two vertices at most one column and one row apart see each other; `upright` and `level` say whether they share
-// a column and whether a row. It reads at most two cells, and one across a diagonal.
+// Whether two vertices at most one column and one row apart see each other. It reads at most two cells, and one across a
+// diagonal.
 fn unit_in_sight(
     w: usize,
     h: usize,
@@ -76,21 +74,22 @@ fn unit_in_sight(
     y0: usize,
     x1: usize,
     y1: usize,
-    upright: bool,
-    level: bool,
+    columns: usize,
+    rows: usize,
 ) -> bool
-    requires { ⌜ Sized w h (now map) × Ends w h x0 y0 x1 y1 × Unit x0 y0 x1 y1 upright level ⌝ }
+    requires { ⌜ Sized w h (now map) × Ends w h x0 y0 x1 y1 × Apart x0 y0 x1 y1 columns rows
+        × (columns ≤ 1) × (rows ≤ 1) ⌝ }
     ensures { λ r. ⌜ r ≡ sees (floorOf w h (now (map .entry))) (segmentOf x0 y0 x1 y1) ⌝ }
 {
     let x = higher(x0, x1);
     let y = higher(y0, y1);
-    if upright {
-        if level {
+    if columns == 0 {
+        if rows == 0 {
             return true;
         }
         return scan::upright_open(w, h, map, x0, y);
     }
-    if level {
+    if rows == 0 {
         return scan::level_open(w, h, map, x, y0);
     }
     !floor::blocked_at(w, h, map, x, y)
@@ -105,27 +104,27 @@ fn unit_obstacle(
     y0: usize,
     x1: usize,
     y1: usize,
-    upright: bool,
-    level: bool,
+    columns: usize,
+    rows: usize,
 ) -> Obstacle
-    requires { ⌜ Sized w h (now map) × Ends w h x0 y0 x1 y1 × Unit x0 y0 x1 y1 upright level ⌝ }
+    requires { ⌜ Sized w h (now map) × Ends w h x0 y0 x1 y1 × Apart x0 y0 x1 y1 columns rows
+        × (columns ≤ 1) × (rows ≤ 1) ⌝ }
     ensures { λ r. ⌜ r ≡ obstacle (floorOf w h (now (map .entry))) (segmentOf x0 y0 x1 y1) ⌝ }
 {
-    if unit_in_sight(w, h, map, x0, y0, x1, y1, upright, level) {
+    if unit_in_sight(w, h, map, x0, y0, x1, y1, columns, rows) {
         return Obstacle::Clear;
     }
-    if upright {
+    if columns == 0 {
         return Obstacle::Step(floor::vertex_at(w, h, x0, y0));
     }
-    if level {
+    if rows == 0 {
         return Obstacle::Step(floor::vertex_at(w, h, x0, y0));
     }
     Obstacle::Cell(floor::cell_before(w, h, map, higher(x0, x1), higher(y0, y1)))
 }
 
-// What is in the way from the vertex (x0, y0) to the vertex (x1, y1): of a unit segment by its cells alone, of others by
-// a scan. `unit`, `upright` and `level` say how the segment lies: a caller that knows this beforehand, as for the moves
-// of a table, spares the tests.
+// What is in the way from the vertex (x0, y0) to the vertex (x1, y1), `columns` and `rows` apart: of a unit segment by
+// its cells alone, of others by a scan.
 fn look_along(
     w: usize,
     h: usize,
@@ -134,20 +133,22 @@ fn look_along(
     y0: usize,
     x1: usize,
     y1: usize,
-    unit: bool,
-    upright: bool,
-    level: bool,
+    columns: usize,
+    rows: usize,
 ) -> Obstacle
-    requires { ⌜ Sized w h (now map) × Ends w h x0 y0 x1 y1 × Lies x0 y0 x1 y1 unit upright level ⌝ }
+    requires { ⌜ Sized w h (now map) × Ends w h x0 y0 x1 y1 × Apart x0 y0 x1 y1 columns rows ⌝ }
     ensures { λ r. ⌜ r ≡ obstacle (floorOf w h (now (map .entry))) (segmentOf x0 y0 x1 y1) ⌝ }
 {
-    if unit {
-        return unit_obstacle(w, h, map, x0, y0, x1, y1, upright, level);
+    if columns <= 1 {
+        if rows <= 1 {
+            return unit_obstacle(w, h, map, x0, y0, x1, y1, columns, rows);
+        }
     }
     scan::far_obstacle(w, h, map, x0, y0, x1, y1)
 }
 
-// Whether two vertices see each other, where it is known how the segment between them lies.
+// Whether two vertices see each other, where it is known how many columns and rows apart they are: a caller with constant
+// lengths, as for the moves of a table, spares the tests of them.
 pub fn in_sight_along(
     w: usize,
     h: usize,
@@ -156,24 +157,13 @@ pub fn in_sight_along(
     y0: usize,
     x1: usize,
     y1: usize,
-    unit: bool,
-    upright: bool,
-    level: bool,
+    columns: usize,
+    rows: usize,
 ) -> bool
-    requires { ⌜ Sized w h (now map) × Ends w h x0 y0 x1 y1 × Lies x0 y0 x1 y1 unit upright level ⌝ }
+    requires { ⌜ Sized w h (now map) × Ends w h x0 y0 x1 y1 × Apart x0 y0 x1 y1 columns rows ⌝ }
     ensures { λ r. ⌜ r ≡ sees (floorOf w h (now (map .entry))) (segmentOf x0 y0 x1 y1) ⌝ }
 {
-    is_clear(look_along(w, h, map, x0, y0, x1, y1, unit, upright, level))
-}
-
-// Whether two lengths are at most 1.
-pub fn is_unit(columns: usize, rows: usize) -> bool
-    ensures { λ r. ⌜ r ≡ (leb columns 1 && leb rows 1) ⌝ }
-{
-    if columns <= 1 {
-        return rows <= 1;
-    }
-    false
+    is_clear(look_along(w, h, map, x0, y0, x1, y1, columns, rows))
 }
 
 // What is in the way from one vertex to another.
@@ -185,8 +175,9 @@ pub fn look(w: usize, h: usize, map: &[u8], a: Vertex, b: Vertex) -> Obstacle
     let y0 = floor::row_of(w, h, a);
     let x1 = floor::column_of(w, b);
     let y1 = floor::row_of(w, h, b);
-    let unit = is_unit(scan::span_of(x0, x1), scan::span_of(y0, y1));
-    look_along(w, h, map, x0, y0, x1, y1, unit, x0 == x1, y0 == y1)
+    let columns = scan::span_of(x0, x1);
+    let rows = scan::span_of(y0, y1);
+    look_along(w, h, map, x0, y0, x1, y1, columns, rows)
 }
 
 // Whether two vertices see each other.

@@ -31,7 +31,7 @@ look-requires : tie.Need-look-requires
 look-requires c κs =
     let a = start c .args in
     let q = asked (a .w) (a .h) (a .map .now) (a .a) (a .b) (good c) in
-    (q .sized, q .first, q .last)
+    search needs
 
 returns : tie.Need-returns
 returns c =

@@ -1,8 +1,5 @@
 -- `sight::look` meets its contract: the columns and rows are those of the two vertices. Assumes nothing.
-use mathlib.Core.Path.{refl, sym, _∙_}
-use native.Mathlib.Omega.{arith}
 use Rattle.sight.specs.Sight.{segment}
-use Rattle.sight.proofs.Unit.{near-both}
 use borrow.Author.Needs.{needs}
 use Rattle.sight.proofs.look.Statement.{statement}
 use Rattle.sight.proofs.look.Tie as tie
@@ -25,30 +22,13 @@ span-of-requires c κs = search needs
 span-of-requires-2 : tie.Need-span-of-requires-2
 span-of-requires-2 c κs = search needs
 
-is-unit-requires : tie.Need-is-unit-requires
-is-unit-requires c κs = search needs
-
 look-along-requires : tie.Need-look-along-requires
-look-along-requires c κs =
-    let b = c .before in
-    let a = b .before in
-    let y1 = a .before in
-    let s = y1 .before .before .before .before .before in (
-      s .pre .0,
-      search needs,
-      record {
-        near = λ t.
-            let n = near-both (a .span-of .result) (b .span-of2 .result) (sym (c .is-unit .ensures) ∙ t) in
-            (omega (arith, a .span-of .ensures), omega (arith, b .span-of2 .ensures));
-        upright-is = refl;
-        level-is = refl;
-      },
-    )
+look-along-requires c κs = search needs
 
 returns : tie.Need-returns
 unfolding segment
 returns c =
-    let y1 = c .before .before .before .before in
+    let y1 = c .before .before .before in
     let x1 = y1 .before in
     let y0 = x1 .before in
     let x0 = y0 .before in
@@ -65,6 +45,5 @@ look-spec =
     row-of-requires-2
     span-of-requires
     span-of-requires-2
-    is-unit-requires
     look-along-requires
     returns)

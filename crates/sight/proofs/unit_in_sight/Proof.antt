@@ -1,7 +1,7 @@
 -- `sight::unit_in_sight` meets its contract: each return is one case of the law of unit segments. Assumes nothing.
 use mathlib.Core.Path.{sym, ap, ap₂, _∙_}
 use mathlib.Core.Bool.{not}
-use borrow.Author.Tests.{eqb-true, eqb-false}
+use native.Mathlib.Omega.{arith}
 use Rattle.floor.specs.Floor.{Floor, floorOf, blocked}
 use Rattle.sight.specs.Travel.{uprightTo, levelTo}
 use Rattle.sight.proofs.Unit.{unit-still, unit-upright, unit-level, unit-slanted}
@@ -22,10 +22,7 @@ returns : tie.Need-returns
 returns c =
     let s = c .before .before .before .before .before in
     let a = s .args in
-    let u = s .pre .2 in
-    sym
-    (unit-still (plan s) (a .x0) (a .y0) (a .x1) (a .y1) (s .pre .1) (u .columns) (u .rows)
-    (eqb-true _ _ (sym (u .upright-is) ∙ c .before .if1 .taken)) (eqb-true _ _ (sym (u .level-is) ∙ c .if2 .taken)))
+    sym (unit-still (plan s) (a .x0) (a .y0) (a .x1) (a .y1) (s .pre .1) (omega arith) (omega arith))
 
 upright-open-requires : tie.Need-upright-open-requires
 upright-open-requires c κs = search needs
@@ -34,12 +31,8 @@ returns-2 : tie.Need-returns-2
 returns-2 c =
     let s = c .before .before .before .before .before .before in
     let a = s .args in
-    let u = s .pre .2 in
     c .upright-open .ensures ∙ ap (uprightTo (plan s) (a .x0)) (c .before .before .before .higher2 .ensures)
-    ∙ sym
-    (unit-upright (plan s) (a .x0) (a .y0) (a .x1) (a .y1) (s .pre .1) (u .columns) (u .rows)
-    (eqb-true _ _ (sym (u .upright-is) ∙ c .before .before .if1 .taken))
-    (eqb-false _ _ (sym (u .level-is) ∙ c .before .if2 .left)))
+    ∙ sym (unit-upright (plan s) (a .x0) (a .y0) (a .x1) (a .y1) (s .pre .1) (omega arith) (omega arith))
 
 level-open-requires : tie.Need-level-open-requires
 level-open-requires c κs = search needs
@@ -48,12 +41,8 @@ returns-3 : tie.Need-returns-3
 returns-3 c =
     let s = c .before .before .before .before .before .before in
     let a = s .args in
-    let u = s .pre .2 in
     c .level-open .ensures ∙ ap (λ x. levelTo (plan s) x (a .y0)) (c .before .before .before .before .higher .ensures)
-    ∙ sym
-    (unit-level (plan s) (a .x0) (a .y0) (a .x1) (a .y1) (s .pre .1) (u .columns) (u .rows)
-    (eqb-false _ _ (sym (u .upright-is) ∙ c .before .before .if1 .left))
-    (eqb-true _ _ (sym (u .level-is) ∙ c .before .if3 .taken)))
+    ∙ sym (unit-level (plan s) (a .x0) (a .y0) (a .x1) (a .y1) (s .pre .1) (omega arith) (omega arith))
 
 blocked-at-requires : tie.Need-blocked-at-requires
 blocked-at-requires c κs = search needs
@@ -62,15 +51,11 @@ returns-4 : tie.Need-returns-4
 returns-4 c =
     let s = c .before .before .before .before .before .before in
     let a = s .args in
-    let u = s .pre .2 in
     ap not
     (c .blocked-at .ensures
     ∙ ap₂ (blocked (plan s)) (c .before .before .before .before .higher .ensures)
     (c .before .before .before .higher2 .ensures))
-    ∙ sym
-    (unit-slanted (plan s) (a .x0) (a .y0) (a .x1) (a .y1) (s .pre .1) (u .columns) (u .rows)
-    (eqb-false _ _ (sym (u .upright-is) ∙ c .before .before .if1 .left))
-    (eqb-false _ _ (sym (u .level-is) ∙ c .before .if3 .left)))
+    ∙ sym (unit-slanted (plan s) (a .x0) (a .y0) (a .x1) (a .y1) (s .pre .1) (omega arith) (omega arith))
 
 pub unit-in-sight-spec : {M : Type 1} → statement M
 unit-in-sight-spec =

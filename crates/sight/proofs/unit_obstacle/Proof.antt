@@ -3,9 +3,8 @@
 use Prim.Native.Nat.{_-_}
 use mathlib.Core.Path.{sym, ap, ap₂, _∙_}
 use native.Mathlib.Omega.{arith}
-use borrow.Author.Tests.{eqb-true, eqb-false}
 use Rattle.floor.specs.Floor.{Floor, floorOf}
-use Rattle.sight.specs.Obstacle.{cellAt}
+use Rattle.sight.specs.Obstacle.{cellAt, span}
 use Rattle.sight.specs.declared.Obstacle.the-variants.{Cell, Step}
 use Rattle.sight.proofs.Unit.{unit-clear, upright-step, level-step, slanted-cell}
 use borrow.Author.Needs.{needs}
@@ -22,8 +21,7 @@ returns : tie.Need-returns
 returns c =
     let s = c .before .before .before in
     let a = s .args in
-    let p = s .pre in
-    unit-clear (plan s) (a .x0) (a .y0) (a .x1) (a .y1) (p .1) (p .2 .columns) (p .2 .rows)
+    unit-clear (plan s) (a .x0) (a .y0) (a .x1) (a .y1) (s .pre .1)
     (sym (c .before .unit-in-sight .ensures) ∙ c .if1 .taken)
 
 vertex-at-requires : tie.Need-vertex-at-requires
@@ -34,10 +32,9 @@ returns-2 c =
     let t = c .before .before in
     let s = t .before .before .before in
     let a = s .args in
-    let p = s .pre in
     ap (λ v. Step (record { 0 = v })) (c .vertex-at .ensures .0)
-    ∙ upright-step (plan s) (a .x0) (a .y0) (a .x1) (a .y1) (p .1) (p .2 .columns) (p .2 .rows)
-    (sym (t .before .unit-in-sight .ensures) ∙ t .if1 .left) (eqb-true _ _ (sym (p .2 .upright-is) ∙ c .before .if2 .taken))
+    ∙ upright-step (plan s) (a .x0) (a .y0) (a .x1) (a .y1) (s .pre .1)
+    (sym (t .before .unit-in-sight .ensures) ∙ t .if1 .left) (omega arith) (omega arith)
 
 vertex-at-requires-2 : tie.Need-vertex-at-requires-2
 vertex-at-requires-2 c κs = search needs
@@ -47,11 +44,9 @@ returns-3 c =
     let t = c .before .before .before in
     let s = t .before .before .before in
     let a = s .args in
-    let p = s .pre in
     ap (λ v. Step (record { 0 = v })) (c .vertex-at2 .ensures .0)
-    ∙ level-step (plan s) (a .x0) (a .y0) (a .x1) (a .y1) (p .1) (p .2 .columns) (p .2 .rows)
-    (sym (t .before .unit-in-sight .ensures) ∙ t .if1 .left) (eqb-false _ _ (sym (p .2 .upright-is) ∙ c .before .before .if2 .left))
-    (eqb-true _ _ (sym (p .2 .level-is) ∙ c .before .if3 .taken))
+    ∙ level-step (plan s) (a .x0) (a .y0) (a .x1) (a .y1) (s .pre .1)
+    (sym (t .before .unit-in-sight .ensures) ∙ t .if1 .left) (omega arith) (omega arith)
 
 higher-requires : tie.Need-higher-requires
 higher-requires c κs = search needs
@@ -60,17 +55,8 @@ higher-requires-2 : tie.Need-higher-requires-2
 higher-requires-2 c κs = search needs
 
 cell-before-requires : tie.Need-cell-before-requires
-cell-before-requires c κs =
-    let t = c .before .before in
-    let s = t .before .before .before .before .before in
-    let a = s .args in
-    let u = s .pre .2 in
-    let e = s .pre .1 in
-    let p = eqb-false (a .x0) (a .x1) (sym (u .upright-is) ∙ t .before .if2 .left) in
-    let q = eqb-false (a .y0) (a .y1) (sym (u .level-is) ∙ t .if3 .left) in
-    let x = c .before .higher .ensures in
-    let y = c .higher2 .ensures in
-    (s .pre .0, omega (arith, p), omega (arith, p), omega (arith, q), omega (arith, q))
+unfolding span
+cell-before-requires c κs = search needs
 
 returns-4 : tie.Need-returns-4
 returns-4 c =
@@ -79,12 +65,10 @@ returns-4 c =
     let t = c .before .before .before .before .before in
     let s = t .before .before .before in
     let a = s .args in
-    let p = s .pre in
     ap (λ v. Cell (record { 0 = v })) (c .cell-before .ensures .0)
     ∙ ap₂ (λ x y. cellAt (plan s) (x - 1) (y - 1)) x y
-    ∙ slanted-cell (plan s) (a .x0) (a .y0) (a .x1) (a .y1) (p .1) (p .2 .columns) (p .2 .rows)
-    (sym (t .before .unit-in-sight .ensures) ∙ t .if1 .left) (eqb-false _ _ (sym (p .2 .upright-is) ∙ c .before .before .before .before .if2 .left))
-    (eqb-false _ _ (sym (p .2 .level-is) ∙ c .before .before .before .if3 .left))
+    ∙ slanted-cell (plan s) (a .x0) (a .y0) (a .x1) (a .y1) (s .pre .1)
+    (sym (t .before .unit-in-sight .ensures) ∙ t .if1 .left) (omega arith) (omega arith)
 
 pub unit-obstacle-spec : {M : Type 1} → statement M
 unit-obstacle-spec =
