@@ -27,7 +27,7 @@ use Rattle.sight.specs.Travel.{
 }
 use Rattle.sight.specs.declared.Obstacle.{Obstacle}
 use Rattle.sight.specs.declared.Obstacle.the-variants.{Clear}
-use Rattle.sight.proofs.Travel.{span-up, span-down, cellOn-up, cellOn-down, start-first}
+use Rattle.sight.proofs.Travel.{cellOn-up, cellOn-down, start-first}
 use Rattle.sight.proofs.Sees.{upright-sees, level-sees, slanted-sees}
 use Rattle.sight.proofs.Symmetry.{sees-self}
 use Rattle.sight.proofs.First.{clear-is}
@@ -50,13 +50,17 @@ module _ (a b : ℕ) (n : span a b ≡ 1) where
 
   -- The one cell between them is the one before the higher.
   cell-one : suc (cellOn a b 0) ≡ max a b
+  unfolding span
   cell-one =
-      ⊎-elim (λ h. omega (arith, cellOn-up a b 0 h, span-up a b h))
-      (λ h. omega (arith, cellOn-down a b 0 h, span-down a b (omega arith))) (le-or-lt a b)
+      ⊎-elim (λ h. omega (arith, cellOn-up a b 0 h)) (λ h. omega (arith, cellOn-down a b 0 h)) (le-or-lt a b)
 
 every-one : (n : ℕ) (p : ℕ → Bool) → n ≡ 1 → every n p ≡ p 0
 unfolding every
 every-one n p e = rw e
+
+first-one : (n : ℕ) (F : ℕ → Obstacle) → n ≡ 1 → first n F ≡ F 0
+unfolding first
+first-one n F e = rw e
 
 module _ (f : Floor) (x0 y0 x1 y1 : ℕ) (e : Ends (f .wide) (f .high) x0 y0 x1 y1) where
   abbrev s : Segment
@@ -89,47 +93,39 @@ module _ (f : Floor) (x0 y0 x1 y1 : ℕ) (e : Ends (f .wide) (f .high) x0 y0 x1 
       slanted-sees f x0 y0 x1 y1 e (apart x0 x1 p) (apart y0 y1 q) ∙ every-one (span y0 y1) (rowFree f s) q
       ∙ every-one (span x0 x1) (cellFree f s 0) p ∙ free-one p q
 
--- ---- what is in the way
+  -- ---- what is in the way
 
-first-one : (n : ℕ) (F : ℕ → Obstacle) → n ≡ 1 → first n F ≡ F 0
-unfolding first
-first-one n F e = rw e
+  pub unit-clear : sees f s ≡ true → Clear ≡ obstacle f s
+  unit-clear t = sym (clear-is (obstacle f s) (obstacle-sees f x0 y0 x1 y1 e ∙ t))
 
-module _ (f : Floor) (x0 y0 x1 y1 : ℕ) (e : Ends (f .wide) (f .high) x0 y0 x1 y1) where
-  abbrev line : Segment
-  line = segmentOf x0 y0 x1 y1
-
-  pub unit-clear : sees f line ≡ true → Clear ≡ obstacle f line
-  unit-clear t = sym (clear-is (obstacle f line) (obstacle-sees f x0 y0 x1 y1 e ∙ t))
-
-  module _ (shut : sees f line ≡ false) where
+  module _ (shut : sees f s ≡ false) where
     -- The ends do not see each other, so they are two.
     two : span x0 x1 ≡ 0 → span y0 y1 ≢ 0
     two p q =
-        let t : true ≡ false = sym (unit-still f x0 y0 x1 y1 e p q) ∙ shut in
+        let t : true ≡ false = sym (unit-still p q) ∙ shut in
         let z : _≡_ {A = ℕ} 0 1 = cc in
         omega arith
 
-    pub upright-step : span x0 x1 ≡ 0 → span y0 y1 ≤ 1 → stepAt f x0 y0 ≡ obstacle f line
+    pub upright-step : span x0 x1 ≡ 0 → span y0 y1 ≤ 1 → stepAt f x0 y0 ≡ obstacle f s
     unfolding uprightStep uprightOpen
     upright-step p n =
         let q : span y0 y1 ≡ 1 = omega (arith, two p) in
-        let free : uprightTo f x0 (max y0 y1) ≡ false = sym (unit-upright f x0 y0 x1 y1 e p q) ∙ shut in
+        let free : uprightTo f x0 (max y0 y1) ≡ false = sym (unit-upright p q) ∙ shut in
         sym
         (upright-obstacle f x0 y0 x1 y1 (span-none x0 x1 p) ∙ first-one (span y0 y1) (uprightStep f x0 y0 y1) q
         ∙ rw (cell-one y0 y1 q, start-first y0 y1, free))
 
-    pub level-step : span x0 x1 ≡ 1 → span y0 y1 ≡ 0 → stepAt f x0 y0 ≡ obstacle f line
+    pub level-step : span x0 x1 ≡ 1 → span y0 y1 ≡ 0 → stepAt f x0 y0 ≡ obstacle f s
     unfolding levelStep levelOpen
     level-step p q =
-        let free : levelTo f (max x0 x1) y0 ≡ false = sym (unit-level f x0 y0 x1 y1 e p q) ∙ shut in
+        let free : levelTo f (max x0 x1) y0 ≡ false = sym (unit-level p q) ∙ shut in
         sym
         (level-obstacle f x0 y0 x1 y1 (apart x0 x1 p) (span-none y0 y1 q)
         ∙ first-one (span x0 x1) (levelStep f y0 x0 x1) p
         ∙ rw (cell-one x0 x1 p, start-first x0 x1, free))
 
     pub slanted-cell : span x0 x1 ≡ 1 → span y0 y1 ≡ 1
-        → cellAt f (max x0 x1 - 1) (max y0 y1 - 1) ≡ obstacle f line
+        → cellAt f (max x0 x1 - 1) (max y0 y1 - 1) ≡ obstacle f s
     unfolding rowObstacle
     slanted-cell p q =
         let i : max x0 x1 - 1 ≡ cellOn x0 x1 0 = omega (arith, cell-one x0 x1 p) in
@@ -137,7 +133,6 @@ module _ (f : Floor) (x0 y0 x1 y1 : ℕ) (e : Ends (f .wide) (f .high) x0 y0 x1 
         ap₂ (cellAt f) i j
         ∙ sym
         (slanted-obstacle f x0 y0 x1 y1 (apart x0 x1 p) (apart y0 y1 q)
-        ∙ first-one (span y0 y1) (rowObstacle f line) q
-        ∙ first-one (span x0 x1) (rowCell f line 0) p
-        ∙ cell-met f line 0 0
-        (free-one f x0 y0 x1 y1 e p q ∙ sym (unit-slanted f x0 y0 x1 y1 e p q) ∙ shut))
+        ∙ first-one (span y0 y1) (rowObstacle f s) q
+        ∙ first-one (span x0 x1) (rowCell f s 0) p
+        ∙ cell-met f s 0 0 (free-one p q ∙ sym (unit-slanted p q) ∙ shut))
