@@ -1,3 +1,4 @@
+pub mod Keeping
 pub mod Sequence
 pub mod Passing
 pub mod Filling

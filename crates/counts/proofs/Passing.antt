@@ -4,13 +4,12 @@
 --   Counted g s x i P f   == the vertices of the first i turns have their counts from s, and off the way stands 0
 --   counted-none          == so it is at the start
 --   count-right           == the count that the code works out for the next vertex is its count
---   counted-more, counted-past == so it is one turn on, on the way and off it
+--   counted-more          == so it is one turn on
 --   count-over            == a count above 64 bits: so is the total
 --   counted-all           == after the last turn f holds the counts
---   Turning ..            == what holds at turn i of a pass, on whatever graph its data are of
---   turn-start, turn-more, turn-past, turn-over, turn-end == so it is at the start and one turn on; what it says where
---                            a count does not fit, and at the end
---   turn-none             == a goal that is not reached has no counts
+--   Turning ..            == what holds at turn i of a pass, on whatever graph and way its data are of
+--   turn-start, turn-more, turn-over, turn-end == so it is at the start and one turn on; what it says where a count
+--                            does not fit, and at the end
 --   turn-len              == the slice keeps its length
 use Prim.Native.Nat.{ℕ, suc, _+_, _^_, _≤_, _<_}
 use mathlib.Core.Path.{_≡_, refl, sym, ap, _∙_, subst}
@@ -26,19 +25,12 @@ use Rattle.basics.proofs.Bools.{true-or-false}
 use Rattle.basics.proofs.Bounded.{pick-yes}
 use Rattle.basics.proofs.Lists.{tabulate-of, getD-zeros}
 use Rattle.paths.specs.Graph.{Graph}
-use Rattle.paths.specs.Distance.{unreachable, distance, pathCount}
-use Rattle.paths.specs.Route.{onShortest, onWay, countFrom}
+use Rattle.paths.specs.Distance.{distance, pathCount}
+use Rattle.paths.specs.Route.{onWay, countFrom}
 use Rattle.paths.specs.Local.{inflow, countAt, entry}
 use Rattle.paths.proofs.Counts.{pathCount-self}
 use Rattle.paths.proofs.Way.{countFrom-way, countFrom-off, countFrom-fits}
-use Rattle.paths.proofs.CountTest.{
-  Closed,
-  closed-same,
-  way-closed,
-  countAt-start,
-  countAt-other,
-  count-next,
-}
+use Rattle.paths.proofs.CountTest.{way-closed, countAt-start, countAt-other, count-next}
 use Rattle.neighbours.specs.declared.Reach.{Reach}
 use Rattle.neighbours.specs.declared.Sum.{Sum}
 use Rattle.neighbours.specs.declared.Sum.the-variants.{Is, Over}
@@ -46,8 +38,8 @@ use Rattle.neighbours.specs.Reach.{star, sumOf}
 use Rattle.neighbours.proofs.Agree.{countAt-agrees}
 use Rattle.neighbours.proofs.Sums.{sumOf-fits, sumOf-is, sumOf-passes}
 use Rattle.distances.specs.Order.{maskAt}
-use Rattle.counts.specs.Passes.{turnOf, countOf, Known, Passed}
-use Rattle.counts.proofs.Sequence.{d-at, d-len, on-at, agrees, turn-inside, turn-found, turn-before}
+use Rattle.counts.specs.Passes.{turnOf, countOf, Passable, Passed}
+use Rattle.counts.proofs.Sequence.{d-len, d-at, agrees, turn-before}
 
 -- ---- the count of one vertex
 
@@ -88,60 +80,46 @@ counted-none g s x P f e = record {
   off = λ u i o. ap (λ l. entry l u) e ∙ getD-zeros (g .size) u;
 }
 
-module _ {g : Graph} {t : Reach} {s x n : ℕ} {rev : Bool} {d e work : List ℕ} (K : Known g t s x n rev d e work) where
+module _ {g : Graph} {t : Reach} {s x n : ℕ} {rev : Bool} {d work : List ℕ} (K : Passable g t s x n rev d work) where
   abbrev P : ℕ → ℕ
   P = turnOf work n rev
 
   abbrev on : ℕ → Bool
-  on = onShortest (entry d) (entry e) x
-
-  closed : Closed g s on
-  closed =
-      closed-same g (K .lawful) s on (onWay g s x) (K .start-in) (on-at K) (way-closed g (K .lawful) s x (K .reached))
+  on = onWay g s x
 
   module _ {i : ℕ} {f : List ℕ} (l : i < n) (C : Counted g s x i P f) where
     abbrev u : ℕ
     u = P i
 
     in-u : u < g .size
-    in-u = turn-inside K i l
+    in-u = K .way .inside i l
+
+    on-u : on u ≡ true
+    on-u = K .way .on i l
 
     -- What is on the way and cheaper has its count.
-    before : onWay g s x u ≡ true → (w : ℕ) → w < g .size → on w ≡ true → distance g s w < distance g s u
-        → entry f w ≡ pathCount g s w
-    before o w k p lt =
-        let q = sym (on-at K w k) ∙ p in
-        let r = turn-before K i w l o k q lt in
-        subst (λ z. entry f z ≡ countFrom g s x z) (r .2) (C .done (r .0) (r .1)) ∙ countFrom-way g s x w q
+    before : (w : ℕ) → w < g .size → on w ≡ true → distance g s w < distance g s u → entry f w ≡ pathCount g s w
+    before w k o lt =
+        let r = turn-before (K .way) i w l k o lt in
+        subst (λ z. entry f z ≡ countFrom g s x z) (r .2) (C .done (r .0) (r .1)) ∙ countFrom-way g s x w o
 
-    count-on : onWay g s x u ≡ true → countAt g s on (entry d) (entry f) u ≡ pathCount g s u
-    count-on o = ⊎-elim
+    count-on : countAt g s on (entry d) (entry f) u ≡ pathCount g s u
+    count-on =
+        let closed = way-closed g (K .lawful) s x (K .reached) in
+        ⊎-elim
         (λ q. subst (λ z. countAt g s on (entry d) (entry f) z ≡ pathCount g s z) (sym q)
         (countAt-start g s on (entry d) (entry f) (closed .start) ∙ sym (pathCount-self g (K .lawful) s)))
-        (λ ne. countAt-other g s on (entry d) (entry f) u (on-at K u in-u ∙ o) ne
-        ∙ count-next g (K .lawful) s (K .start-in) on closed (entry d) (d-at K) (entry f) u in-u (on-at K u in-u ∙ o) ne
-        (before o))
+        (λ ne. countAt-other g s on (entry d) (entry f) u on-u ne
+        ∙ count-next g (K .lawful) s (K .start-in) on closed (entry d) (d-at K) (entry f) u in-u on-u ne before)
         (eq-or-ne u s)
 
-    pub count-right : on u ≡ true → countOf t (maskAt (length d) work u) s d f u ≡ countFrom g s x u
-    count-right o =
-        let w = sym (on-at K u in-u) ∙ o in
-        rw (d-len K) (countAt-agrees (agrees K u in-u) (entry d) s all (entry f) ∙ count-all g s on (entry d) (entry f) u o
-        ∙ count-on w ∙ sym (countFrom-way g s x u w))
+    pub count-right : countOf t (maskAt (length d) work u) s d f u ≡ countFrom g s x u
+    count-right =
+        rw (d-len K) (countAt-agrees (agrees K u in-u) (entry d) s all (entry f)
+        ∙ count-all g s on (entry d) (entry f) u on-u ∙ count-on ∙ sym (countFrom-way g s x u on-u))
 
     below : (j : ℕ) → j < i + 1 → (u ≡ P j → ⊥) → j < i
     below j k ne = ⊎-elim (λ h. h) (λ h. absurd (ne (ap P (omega arith)))) (le-or-lt (suc j) i)
-
-    pub counted-past : on u ≡ false → Counted g s x (i + 1) P f
-    counted-past o =
-        let w = sym (on-at K u in-u) ∙ o in
-        record {
-          len = C .len;
-          done = λ j k. ⊎-elim
-              (λ p. subst (λ z. entry f z ≡ countFrom g s x z) p (C .off u in-u w ∙ sym (countFrom-off g s x u w)))
-              (λ ne. C .done j (below j k ne)) (eq-or-ne u (P j));
-          off = C .off;
-        }
 
     pub counted-more : (y : ℕ) → y ≡ countFrom g s x u → Counted g s x (i + 1) P (set f u y)
     counted-more y q = record {
@@ -161,71 +139,56 @@ module _ {g : Graph} {t : Reach} {s x n : ℕ} {rev : Bool} {d e work : List ℕ
 
   pub counted-all : {f : List ℕ} → Counted g s x n P f → f ≡ tabulate (g .size) (countFrom g s x)
   counted-all {f} C = tabulate-of (g .size) f (countFrom g s x) (C .len) (λ v k. ⊎-elim
-      (λ o. let r = turn-found K v k o in subst (λ z. entry f z ≡ countFrom g s x z) (r .2) (C .done (r .0) (r .1)))
+      (λ o. let r = K .way .found v k o in subst (λ z. entry f z ≡ countFrom g s x z) (r .2) (C .done (r .0) (r .1)))
       (λ o. C .off v k o ∙ sym (countFrom-off g s x v o)) (true-or-false (onWay g s x v)))
 
 -- ---- the loop of a pass
 
-pub record Turning (t : Reach) (s x n : ℕ) (rev : Bool) (d e work : List ℕ) (i : ℕ) (f : List ℕ) : Type 0 where
+pub record Turning (t : Reach) (s n : ℕ) (rev : Bool) (d work : List ℕ) (i : ℕ) (f : List ℕ) : Type 0 where
   pub within : i ≤ n
   pub len : length f ≡ length d
-  pub counted : (g : Graph) → Known g t s x n rev d e work → Counted g s x i (turnOf work n rev) f
+  pub counted : (g : Graph) (x : ℕ) → Passable g t s x n rev d work → Counted g s x i (turnOf work n rev) f
 
-module _ {t : Reach} {s x n : ℕ} {rev : Bool} {d e work : List ℕ} where
-  pub turn-start : {f : List ℕ} → f ≡ zeros (length d) → Turning t s x n rev d e work 0 f
+module _ {t : Reach} {s n : ℕ} {rev : Bool} {d work : List ℕ} where
+  pub turn-start : {f : List ℕ} → f ≡ zeros (length d) → Turning t s n rev d work 0 f
   turn-start {f} q = record {
     within = omega arith;
     len = ap length q ∙ length-replicate (length d) 0;
-    counted = λ g K. counted-none g s x (turnOf work n rev) f (rw (sym (d-len K)) q);
+    counted = λ g x K. counted-none g s x (turnOf work n rev) f (rw (sym (d-len K)) q);
   }
 
-  pub turn-len : {i : ℕ} {f f₀ : List ℕ} → Turning t s x n rev d e work i f → f₀ ≡ zeros (length d)
-      → length f ≡ length f₀
+  pub turn-len : {i : ℕ} {f f₀ : List ℕ} → Turning t s n rev d work i f → f₀ ≡ zeros (length d) → length f ≡ length f₀
   turn-len h q = h .len ∙ sym (ap length q ∙ length-replicate (length d) 0)
 
-  -- A vertex off the way keeps its 0.
-  pub turn-past : {i : ℕ} {f : List ℕ} → Turning t s x n rev d e work i f → i < n → (u : ℕ) → u ≡ turnOf work n rev i
-      → onShortest (entry d) (entry e) x u ≡ false → Turning t s x n rev d e work (i + 1) f
-  turn-past h l u at o = record {
-    within = omega arith;
-    len = h .len;
-    counted = λ g K. counted-past K l (h .counted g K) (ap (onShortest (entry d) (entry e) x) (sym at) ∙ o);
-  }
-
-  module _ {i : ℕ} {f : List ℕ} (h : Turning t s x n rev d e work i f) (l : i < n) (u : ℕ)
-      (at : u ≡ turnOf work n rev i) (o : onShortest (entry d) (entry e) x u ≡ true) (r : Sum)
-      (sum : r ≡ sumOf (countOf t (maskAt (length d) work u) s d f u)) where
+  module _ {i : ℕ} {f : List ℕ} (h : Turning t s n rev d work i f) (l : i < n) (u : ℕ)
+      (at : u ≡ turnOf work n rev i) (r : Sum) (sum : r ≡ sumOf (countOf t (maskAt (length d) work u) s d f u)) where
     -- What was worked out is the count of the vertex.
-    worked : (g : Graph) (K : Known g t s x n rev d e work)
+    worked : (g : Graph) (x : ℕ) (K : Passable g t s x n rev d work)
         → countOf t (maskAt (length d) work u) s d f u ≡ countFrom g s x (turnOf work n rev i)
-    worked g K =
+    worked g x K =
         subst (λ v. countOf t (maskAt (length d) work v) s d f v ≡ countFrom g s x (turnOf work n rev i)) (sym at)
-        (count-right K l (h .counted g K) (ap (onShortest (entry d) (entry e) x) (sym at) ∙ o))
+        (count-right K l (h .counted g x K))
 
-    pub turn-more : (y : ℕ) → r ≡ Is y → Turning t s x n rev d e work (i + 1) (set f u y)
+    pub turn-more : (y : ℕ) → r ≡ Is y → Turning t s n rev d work (i + 1) (set f u y)
     turn-more y q = record {
       within = omega arith;
       len = length-set f u y ∙ h .len;
-      counted = λ g K.
+      counted = λ g x K.
           subst (λ v. Counted g s x (i + 1) (turnOf work n rev) (set f v y)) (sym at)
-          (counted-more K l (h .counted g K) y (sym (sumOf-is _ y (sym sum ∙ q)) ∙ worked g K));
+          (counted-more K l (h .counted g x K) y (sym (sumOf-is _ y (sym sum ∙ q)) ∙ worked g x K));
     }
 
-    pub turn-over : r ≡ Over → (g : Graph) → Known g t s x n rev d e work → Passed g s x f false
-    turn-over q g K = record {
+    pub turn-over : r ≡ Over → (g : Graph) (x : ℕ) → Passable g t s x n rev d work → Passed g s x f false
+    turn-over q g x K = record {
       counted = λ z. absurd (true≢false (sym z));
-      over = λ z. count-over K l (h .counted g K) (omega (arith, sumOf-passes _ (sym sum ∙ q), worked g K));
+      over = λ z. count-over K l (h .counted g x K) (omega (arith, sumOf-passes _ (sym sum ∙ q), worked g x K));
     }
 
-  -- The goal is reached.
-  pub turn-none : entry d x ≡ unreachable → (g : Graph) → Known g t s x n rev d e work → (f : List ℕ) → Passed g s x f true
-  turn-none q g K f = absurd (omega (arith, K .reached, d-at K x (K .goal-in)))
-
-  pub turn-end : {i : ℕ} {f : List ℕ} → Turning t s x n rev d e work i f → n ≤ i → (g : Graph)
-      → Known g t s x n rev d e work → Passed g s x f true
-  turn-end {i} {f} h l g K =
+  pub turn-end : {i : ℕ} {f : List ℕ} → Turning t s n rev d work i f → n ≤ i → (g : Graph) (x : ℕ)
+      → Passable g t s x n rev d work → Passed g s x f true
+  turn-end {i} {f} h l g x K =
       let q : i ≡ n = omega (arith, h .within) in
       record {
-        counted = λ z. counted-all K (subst (λ j. Counted g s x j (turnOf work n rev) f) q (h .counted g K));
+        counted = λ z. counted-all K (subst (λ j. Counted g s x j (turnOf work n rev) f) q (h .counted g x K));
         over = λ z. absurd (true≢false z);
       }

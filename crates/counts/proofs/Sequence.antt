@@ -1,78 +1,42 @@
--- The vertices in the order in which a pass comes to them: each vertex on the way is among them, and there the costs
--- from the start rise. From the back of an order by cost to the goal that is so because on the way the one cost falls
--- as the other rises.
+-- The vertices on the way in the order in which a pass comes to them.
 --
---   d-at, e-at     == the lists d and e hold the distances
---   on-at          == so the test of the code is the test `onWay`
---   turn-inside    == each turn comes to a vertex
---   turn-found     == a vertex on the way has its turn
---   turn-before    == before any that costs more
+--   place-lt       == each turn comes to one of the places
+--   d-len, d-at    == the list d holds the distances
 --   agrees         == the moves that the code reads are those of the graph
+--   turn-before    == a vertex on the way that costs less than another has its turn before it
+--   order-turned   == the order of the way from b, gone through from the back, is an order of the way from a: on the way
+--                     the one cost falls as the other rises
 use Prim.Native.Nat.{ℕ, _+_, _-_, _≤_, _<_}
-use mathlib.Core.Path.{_≡_, refl, sym, ap, _∙_}
+use mathlib.Core.Path.{_≡_, ap, _∙_}
 use mathlib.Core.Logic.{⊎-elim}
 use mathlib.Core.Bool.{Bool, true, false}
 use mathlib.Core.List.{List}
 use native.Mathlib.Omega.{arith}
 use lib.ListN.{length}
-use Rattle.basics.specs.Bounded.{pick}
 use Rattle.basics.proofs.Order.{le-or-lt}
 use Rattle.basics.proofs.Lists.{length-tabulate, getD-tabulate}
-use Rattle.paths.specs.Graph.{Graph}
-use Rattle.paths.specs.Distance.{unreachable, distance}
-use Rattle.paths.specs.Route.{onShortest, onWay}
+use Rattle.paths.specs.Graph.{Graph, Lawful}
+use Rattle.paths.specs.Distance.{distance}
+use Rattle.paths.specs.Route.{onWay}
 use Rattle.paths.specs.Local.{entry}
-use Rattle.paths.proofs.Way.{shortest-same, way-cases}
+use Rattle.paths.proofs.Reverse.{distance-sym}
+use Rattle.paths.proofs.Way.{way-cases, way-turn}
 use Rattle.neighbours.specs.declared.Reach.{Reach}
 use Rattle.neighbours.specs.Reach.{star}
 use Rattle.neighbours.proofs.Agree.{Agrees}
-use Rattle.distances.specs.Order.{maskAt, Ordered}
-use Rattle.counts.specs.Passes.{placeOf, turnOf, Known}
-
--- ---- places from the front or from the back
+use Rattle.distances.specs.Order.{maskAt}
+use Rattle.counts.specs.Passes.{placeOf, WayOrder, Passable}
 
 pub place-lt : (n i : ℕ) (rev : Bool) → i < n → placeOf n i rev < n
 place-lt n i true l = omega arith
 place-lt n i false l = l
 
--- The turn that comes to place j.
-place-turn : (n j : ℕ) (rev : Bool) → j < n → placeOf n (placeOf n j rev) rev ≡ j
-place-turn n j true l = omega arith
-place-turn n j false l = refl
-
-module _ {v n : ℕ} (d e work : List ℕ) where
-  -- Where d and e make the same sum at both vertices, d rises with the turns.
-  turns-rise : (rev : Bool) → Ordered v n (entry (pick rev e d)) (entry work) → (i j : ℕ) → i ≤ j → j < n
-      → entry d (turnOf work n rev i) + entry e (turnOf work n rev i)
-      ≡ entry d (turnOf work n rev j) + entry e (turnOf work n rev j)
-      → entry d (turnOf work n rev i) ≤ entry d (turnOf work n rev j)
-  turns-rise true O i j le l same = omega (arith, O .rising (n - 1 - j) (n - 1 - i) (omega arith) (omega arith))
-  turns-rise false O i j le l same = O .rising i j le l
-
-  turns-find : (rev : Bool) → Ordered v n (entry (pick rev e d)) (entry work) → (u : ℕ) → u < v
-      → entry d u < unreachable → entry e u < unreachable → (i : ℕ) × (i < n) × (turnOf work n rev i ≡ u)
-  turns-find true O u i p q =
-      let r = O .found u i q in
-      (n - 1 - r .0, omega (arith, r .1), ap (entry work) (place-turn n (r .0) true (r .1)) ∙ r .2)
-  turns-find false O u i p q = O .found u i p
-
-module _ {g : Graph} {t : Reach} {s x n : ℕ} {rev : Bool} {d e work : List ℕ} (K : Known g t s x n rev d e work) where
-  -- ---- what the lists hold
-
+module _ {g : Graph} {t : Reach} {s x n : ℕ} {rev : Bool} {d work : List ℕ} (K : Passable g t s x n rev d work) where
   pub d-len : length d ≡ g .size
-  d-len = ap length (K .costs-from) ∙ length-tabulate (g .size) (distance g s)
+  d-len = ap length (K .costs) ∙ length-tabulate (g .size) (distance g s)
 
   pub d-at : (u : ℕ) → u < g .size → entry d u ≡ distance g s u
-  d-at u i = ap (λ l. entry l u) (K .costs-from) ∙ getD-tabulate (g .size) u (distance g s) i
-
-  pub e-at : (u : ℕ) → u < g .size → entry e u ≡ distance g u x
-  e-at u i = ap (λ l. entry l u) (K .costs-to) ∙ getD-tabulate (g .size) u (λ v. distance g v x) i
-
-  pub on-at : (u : ℕ) → u < g .size → onShortest (entry d) (entry e) x u ≡ onWay g s x u
-  unfolding onWay
-  on-at u i =
-      shortest-same (entry d) (distance g s) (entry e) (λ v. distance g v x) x u (d-at u i) (e-at u i)
-      (d-at x (K .goal-in))
+  d-at u i = ap (λ l. entry l u) (K .costs) ∙ getD-tabulate (g .size) u (distance g s) i
 
   pub agrees : (u : ℕ) → u < g .size → Agrees (star (g .size) t (maskAt (g .size) work u)) g u
   agrees u i = record {
@@ -81,33 +45,35 @@ module _ {g : Graph} {t : Reach} {s x n : ℕ} {rev : Bool} {d e work : List ℕ
     step = λ m l. K .masked .step u m i (omega (arith, K .masked .count));
   }
 
-  -- ---- the turns
+pub turn-before : {g : Graph} {s x n : ℕ} {P : ℕ → ℕ} → WayOrder g s x n P → (i u : ℕ) → i < n → u < g .size
+    → onWay g s x u ≡ true → distance g s u < distance g s (P i) → (j : ℕ) × (j < i) × (P j ≡ u)
+turn-before {g} {s} {x} {n} {P} W i u l k o lt =
+    let r = W .found u k o in
+    let c = ap (distance g s) (r .2) in
+    (r .0, ⊎-elim (λ ge. absurd (omega (arith, W .rising i (r .0) ge (r .1)))) (λ h. h) (le-or-lt i (r .0)), r .2)
 
-  pub turn-inside : (i : ℕ) → i < n → turnOf work n rev i < g .size
-  turn-inside i l = K .ordered .inside (placeOf n i rev) (place-lt n i rev l)
+pub order-turned : {g : Graph} {a b n : ℕ} {P : ℕ → ℕ} → Lawful g → a < g .size → b < g .size → WayOrder g b a n P
+    → WayOrder g a b n (λ i. P (n - 1 - i))
+order-turned {g} {a} {b} {n} {P} L in-a in-b W = record {
+  inside = inside;
+  on = on;
+  found = λ u i o.
+      let r = W .found u i (way-turn g L b a u in-b in-a i ∙ o) in
+      (n - 1 - r .0, omega (arith, r .1), ap P (omega (arith, r .1)) ∙ r .2);
+  rising = λ i j le l.
+      let falls = W .rising (n - 1 - j) (n - 1 - i) (omega arith) (omega arith) in
+      omega (arith, falls, even i (omega arith), even j l, back i (omega arith), back j l);
+}
+  where
+    inside : (i : ℕ) → i < n → P (n - 1 - i) < g .size
+    inside i l = W .inside (n - 1 - i) (omega arith)
 
-  pub turn-found : (u : ℕ) → u < g .size → onWay g s x u ≡ true → (i : ℕ) × (i < n) × (turnOf work n rev i ≡ u)
-  turn-found u i o =
-      let w = way-cases g s x u o in
-      let p = d-at u i in
-      let q = e-at u i in
-      turns-find d e work rev (K .ordered) u i (omega (arith, w .reached)) (omega (arith, w .reached))
+    on : (i : ℕ) → i < n → onWay g a b (P (n - 1 - i)) ≡ true
+    on i l = way-turn g L a b (P (n - 1 - i)) in-a in-b (inside i l) ∙ W .on (n - 1 - i) (omega arith)
 
-  turn-sum : (u : ℕ) → u < g .size → onWay g s x u ≡ true → entry d u + entry e u ≡ distance g s x
-  turn-sum u i o = omega (arith, d-at u i, e-at u i, way-cases g s x u o .even)
+    even : (i : ℕ) → i < n
+        → distance g a (P (n - 1 - i)) + distance g (P (n - 1 - i)) b ≡ distance g a b
+    even i l = way-cases g a b (P (n - 1 - i)) (on i l) .even
 
-  -- A vertex on the way has its turn before any on the way that costs more.
-  pub turn-before : (i u : ℕ) → i < n → onWay g s x (turnOf work n rev i) ≡ true → u < g .size → onWay g s x u ≡ true
-      → distance g s u < distance g s (turnOf work n rev i) → (j : ℕ) × (j < i) × (turnOf work n rev j ≡ u)
-  turn-before i u l o k p lt =
-      let r = turn-found u k p in
-      let v = turnOf work n rev i in
-      let in-v = turn-inside i l in
-      let same : entry d v + entry e v ≡ entry d (turnOf work n rev (r .0)) + entry e (turnOf work n rev (r .0))
-      = turn-sum v in-v o ∙ sym (turn-sum u k p) ∙ ap (λ z. entry d z + entry e z) (sym (r .2)) in
-      let c : entry d (turnOf work n rev (r .0)) ≡ distance g s u = ap (entry d) (r .2) ∙ d-at u k in (
-        r .0,
-        ⊎-elim (λ ge. absurd (omega (arith, turns-rise d e work rev (K .ordered) i (r .0) ge (r .1) same, d-at v in-v)))
-            (λ h. h) (le-or-lt i (r .0)),
-        r .2,
-      )
+    back : (i : ℕ) → i < n → distance g (P (n - 1 - i)) b ≡ distance g b (P (n - 1 - i))
+    back i l = distance-sym g L (P (n - 1 - i)) b (inside i l) in-b

@@ -1,26 +1,34 @@
--- The counting passes over the order of the vertices by their cost to b: what they are handed, and what they leave.
+-- The counting passes over the vertices on the way, by their cost to b: what they are handed, and what they leave.
 -- Nobody has to believe these: the planner's contract is stated by the definitions of paths.
 --
 --   placeOf n i rev        == the place in an order of n that a pass comes to at turn i: from the front, or, reversed,
 --                             from the back
 --   turnOf work n rev i    == the vertex at that place
 --   countOf ..             == the count of vertex u on the way, by the counts f of the vertices before
---   Readied t n d e work   == a pass can read the order and the moves of every vertex
+--   evenAt d e whole u     == the costs d and e of vertex u make up `whole`
+--   Kept p n k l l′        == the first k places of l′ have those of the first n of l that pass the test p, in their
+--                             order; from place n on l′ is l
+--   Readied t n d work     == a pass can read the order and the moves of every vertex
 --   Priced g t             == the table t has the costs of the moves of graph g
---   Known g t s x n rev d e work == d are the costs from s, e those to x, which a walk from s reaches; the masks are
---                             those of graph g; the order is by rising cost from s, or, for a pass from the back, to x
+--   WayOrder g s x n P     == P 0, .. P (n - 1) are the vertices on the way from s to x, by rising cost from s
+--   Passable g t s x n rev d work == d are the costs from s, from where a walk reaches x; the masks are those of graph
+--                             g; the n turns come to the vertices on the way in a WayOrder
+--   Known g t a b n d e work == d are the costs from a, e those to b, which a walk from a reaches; the masks are those
+--                             of graph g; the order is by rising cost to b
 --   Passed g s x f r       == f are the counts from s on the way to x, or r is false and the total is above 64 bits
---   Filled g a b r f back  == r says whether the total fits 64 bits; f and back are the counts where it does, else 0
-use Prim.Native.Nat.{ℕ, _-_, _*_, _^_, _≤_, _<_}
+--   Filled g t a b r work f back == r says whether the total fits 64 bits; f and back are the counts where it does,
+--                             else 0; the working slice has the masks
+use Prim.Native.Nat.{ℕ, _+_, _-_, _*_, _^_, _≤_, _<_}
 use mathlib.Core.Path.{_≡_}
 use mathlib.Core.Bool.{Bool, true, false}
 use mathlib.Core.List.{List}
+use lib.Dec.{eqb}
 use lib.ListN.{length}
 use Rattle.basics.specs.Bounded.{pick}
 use Rattle.basics.specs.Lists.{tabulate, zeros}
 use Rattle.paths.specs.Graph.{Graph, Lawful}
 use Rattle.paths.specs.Distance.{unreachable, distance, pathCount}
-use Rattle.paths.specs.Route.{countFrom, countTo}
+use Rattle.paths.specs.Route.{onWay, countFrom, countTo}
 use Rattle.paths.specs.Sheet.{fits}
 use Rattle.paths.specs.Local.{countAt, entry}
 use Rattle.neighbours.specs.declared.Reach.{Reach}
@@ -36,9 +44,21 @@ turnOf work n rev i = entry work (placeOf n i rev)
 abbrev pub countOf : Reach → ℕ → ℕ → List ℕ → List ℕ → ℕ → ℕ
 countOf t mask s d f = countAt (star (length d) t mask) s (λ _. true) (entry d) (entry f)
 
-pub record Readied (t : Reach) (n : ℕ) (d e work : List ℕ) : Type 0 where
+abbrev pub evenAt : List ℕ → List ℕ → ℕ → ℕ → Bool
+evenAt d e whole u = eqb (entry d u + entry e u) whole
+
+pub record Kept (p : ℕ → Bool) (n k : ℕ) (l l′ : List ℕ) : Type 0 where
+  pub few : k ≤ n
+  pub len : length l′ ≡ length l
+  pub rest : (i : ℕ) → n ≤ i → entry l′ i ≡ entry l i
+  pub from : (i : ℕ) → i < k → (j : ℕ) × (j < n) × (entry l j ≡ entry l′ i)
+  pub passing : (i : ℕ) → i < k → p (entry l′ i) ≡ true
+  pub found : (j : ℕ) → j < n → p (entry l j) ≡ true → (i : ℕ) × (i < k) × (entry l′ i ≡ entry l j)
+  pub rising : (D : ℕ → ℕ) → ((i j : ℕ) → i ≤ j → j < n → D (entry l i) ≤ D (entry l j))
+      → (i j : ℕ) → i ≤ j → j < k → D (entry l′ i) ≤ D (entry l′ j)
+
+pub record Readied (t : Reach) (n : ℕ) (d work : List ℕ) : Type 0 where
   pub few : length d ≤ 16384
-  pub e-len : length e ≡ length d
   pub work-len : length work ≡ 4 * length d
   pub short : n ≤ length d
   pub lent : Lent t
@@ -48,22 +68,39 @@ pub record Readied (t : Reach) (n : ℕ) (d e work : List ℕ) : Type 0 where
 pub record Priced (g : Graph) (t : Reach) : Type 0 where
   pub cost : (m : ℕ) → m < g .moves → entry (t .cost) m ≡ g .cost m
 
-pub record Known (g : Graph) (t : Reach) (s x n : ℕ) (rev : Bool) (d e work : List ℕ) : Type 0 where
+pub record WayOrder (g : Graph) (s x n : ℕ) (P : ℕ → ℕ) : Type 0 where
+  pub inside : (i : ℕ) → i < n → P i < g .size
+  pub on : (i : ℕ) → i < n → onWay g s x (P i) ≡ true
+  pub found : (u : ℕ) → u < g .size → onWay g s x u ≡ true → (i : ℕ) × (i < n) × (P i ≡ u)
+  pub rising : (i j : ℕ) → i ≤ j → j < n → distance g s (P i) ≤ distance g s (P j)
+
+pub record Passable (g : Graph) (t : Reach) (s x n : ℕ) (rev : Bool) (d work : List ℕ) : Type 0 where
   pub lawful : Lawful g
   pub start-in : s < g .size
-  pub goal-in : x < g .size
   pub reached : distance g s x < unreachable
-  pub costs-from : d ≡ tabulate (g .size) (distance g s)
-  pub costs-to : e ≡ tabulate (g .size) (λ v. distance g v x)
+  pub costs : d ≡ tabulate (g .size) (distance g s)
   pub masked : Masked g t work
   pub priced : Priced g t
-  pub ordered : Ordered (g .size) n (entry (pick rev e d)) (entry work)
+  pub way : WayOrder g s x n (turnOf work n rev)
+
+pub record Known (g : Graph) (t : Reach) (a b n : ℕ) (d e work : List ℕ) : Type 0 where
+  pub lawful : Lawful g
+  pub start-in : a < g .size
+  pub goal-in : b < g .size
+  pub reached : distance g a b < unreachable
+  pub costs-from : d ≡ tabulate (g .size) (distance g a)
+  pub costs-to : e ≡ tabulate (g .size) (λ v. distance g v b)
+  pub masked : Masked g t work
+  pub priced : Priced g t
+  pub ordered : Ordered (g .size) n (entry e) (entry work)
 
 pub record Passed (g : Graph) (s x : ℕ) (f : List ℕ) (r : Bool) : Type 0 where
   pub counted : r ≡ true → f ≡ tabulate (g .size) (countFrom g s x)
   pub over : r ≡ false → 2 ^ 64 ≤ pathCount g s x
 
-pub record Filled (g : Graph) (a b : ℕ) (r : Bool) (f back : List ℕ) : Type 0 where
+pub record Filled (g : Graph) (t : Reach) (a b : ℕ) (r : Bool) (work f back : List ℕ) : Type 0 where
   pub answer : r ≡ fits g a b
   pub f-left : f ≡ pick r (tabulate (g .size) (countFrom g a b)) (zeros (g .size))
   pub back-left : back ≡ pick r (tabulate (g .size) (countTo g a b)) (zeros (g .size))
+  pub work-len : length work ≡ 4 * g .size
+  pub masked : Masked g t work

@@ -1,22 +1,30 @@
 // The counts of cheapest walks on the way from a to b, for every vertex: document 01's f and b.
 //
-// Both are filled along the order of the vertices by their cost to b, which is in the working slice: the counts to b
-// from the front, the counts from a from the back, since on the way the cost from a rises as the cost to b falls. A
-// vertex gets its count when all that its count is the sum of have theirs. A sum on the way never passes the total, so
-// a sum that does not fit says that the total does not.
+// The working slice has the vertices that reach b by rising cost to b. Those on the way are kept, at its beginning, and
+// both counts are filled along them: the counts to b from the front, the counts from a from the back, since on the way
+// the cost from a rises as the cost to b falls. A vertex gets its count when all that its count is the sum of have
+// theirs. A sum on the way never passes the total, so a sum that does not fit says that the total does not.
 //
 // `count`, `row`, `up`, `down` and `cost` are a Reach of crate neighbours: the moves of the floor, lent list by list.
 ghost use mathlib.Core.Path.{_≡_};
-ghost use mathlib.Core.Bool.{true, false};
 ghost use Prim.Native.Nat.{ℕ, _<_, _≤_};
 ghost use lib.ListN.{length};
+ghost use Rattle.basics.specs.Bounded.{pick};
 ghost use Rattle.basics.specs.Lists.{zeros};
 ghost use Rattle.paths.specs.Graph.{Graph};
-ghost use Rattle.paths.specs.Distance.{unreachable};
-ghost use Rattle.paths.specs.Route.{onShortest};
 ghost use Rattle.paths.specs.Local.{entry};
 ghost use Rattle.neighbours.specs.Reach.{tableOf, Lent, Here, sumOf};
-ghost use Rattle.counts.specs.Passes.{turnOf, countOf, Readied, Known, Passed, Filled};
+ghost use Rattle.counts.specs.Passes.{
+  turnOf,
+  countOf,
+  evenAt,
+  Kept,
+  Readied,
+  Passable,
+  Known,
+  Passed,
+  Filled,
+};
 use neighbours::Sum;
 
 // A cost in 64 bits, where a sum of two fits.
@@ -33,6 +41,41 @@ fn index(x: u32) -> usize
     x as usize
 }
 
+// A test as a number that can be added.
+fn one_if(b: bool) -> usize
+    ensures { λ r. ⌜ (r ≡ pick b 1 0) × (r ≤ 1) ⌝ }
+{
+    if b {
+        return 1;
+    }
+    0
+}
+
+// Whether vertex u is on the way to a vertex that costs `whole`.
+fn on_way(d: &[u32], e: &[u32], whole: u32, u: usize) -> bool
+    requires { ⌜ (u < length (now d)) × (u < length (now e)) ⌝ }
+    ensures { λ r. ⌜ r ≡ evenAt (now (d .entry)) (now (e .entry)) whole u ⌝ }
+{
+    wide(d[u]) + wide(e[u]) == wide(whole)
+}
+
+// Of the vertices at the first n places keeps those on the way to a vertex that costs `whole`, in their order, at the
+// beginning, and answers how many. Every vertex is stored and the test is added up, so that nothing branches on it.
+fn keep_on_way(whole: u32, n: usize, d: &[u32], e: &[u32], work: &mut [u32]) -> usize
+    requires { ⌜ (n ≤ length (now work)) × (length (now e) ≡ length (now d))
+        × ((i : ℕ) → i < n → entry (now work) i < length (now d)) ⌝ }
+    ensures { λ r. ⌜ Kept (evenAt (now (d .entry)) (now (e .entry)) whole) n r
+        (now (work .entry)) (now (work .exit)) ⌝ }
+{
+    let mut kept: usize = 0;
+    for i in 0..n {
+        let u = work[i];
+        work[kept] = u;
+        kept += one_if(on_way(d, e, whole, index(u)));
+    }
+    kept
+}
+
 // The vertex that a pass over the n places of the order comes to at turn i: from the front, or down from the back.
 fn vertex_of_turn(work: &[u32], n: usize, rev: bool, i: usize) -> usize
     requires { ⌜ (n ≤ length (now work)) × (i < n) ⌝ }
@@ -42,15 +85,6 @@ fn vertex_of_turn(work: &[u32], n: usize, rev: bool, i: usize) -> usize
         return index(work[n - 1 - i]);
     }
     index(work[i])
-}
-
-// Whether vertex u is on the way to a vertex that costs `whole`.
-fn on_way(d: &[u32], e: &[u32], whole: u32, u: usize) -> bool
-    requires { ⌜ (u < length (now d)) × (u < length (now e)) ⌝ }
-    ensures { λ r. ⌜ ((x : ℕ) → whole ≡ entry (now (d .entry)) x → (whole ≡ unreachable → ⊥)
-        → r ≡ onShortest (entry (now (d .entry))) (entry (now (e .entry))) x u) ⌝ }
-{
-    wide(d[u]) + wide(e[u]) == wide(whole)
 }
 
 // The count from the start of vertex u, which is on the way, by the counts f of the vertices nearer to it: 1 at the start,
@@ -80,7 +114,7 @@ fn count_of(
     neighbours::inflow_at(count, row, up, down, cost, mask, d, f, u)
 }
 
-// Fills f with the counts from the start on the way to the goal, and leaves the 0 that stands elsewhere; false where one
+// Fills f with the counts from the start of the vertices at the n places, those on the way to the goal; false where one
 // does not fit 64 bits.
 fn count_along(
     count: usize,
@@ -89,41 +123,34 @@ fn count_along(
     down: &[usize],
     cost: &[u32],
     start: usize,
-    goal: usize,
     d: &[u32],
-    e: &[u32],
     n: usize,
     rev: bool,
     work: &[u32],
     f: &mut [u64],
 ) -> bool
-    requires { ⌜ Readied (tableOf count (now row) (now up) (now down) (now cost)) n (now d) (now e) (now work)
-        × (goal < length (now d)) × (now f ≡ zeros (length (now d))) ⌝ }
-    ensures { λ r. ⌜ ((g : Graph)
-        → Known g (tableOf count (now (row .entry)) (now (up .entry)) (now (down .entry)) (now (cost .entry)))
-        start goal n rev (now (d .entry)) (now (e .entry)) (now (work .entry))
+    requires { ⌜ Readied (tableOf count (now row) (now up) (now down) (now cost)) n (now d) (now work)
+        × (now f ≡ zeros (length (now d))) ⌝ }
+    ensures { λ r. ⌜ ((g : Graph) (goal : ℕ)
+        → Passable g (tableOf count (now (row .entry)) (now (up .entry)) (now (down .entry)) (now (cost .entry)))
+        start goal n rev (now (d .entry)) (now (work .entry))
         → Passed g start goal (now (f .exit)) r) ⌝ }
 {
     let masks = 2 * d.len();
-    let whole = d[goal];
-    if whole == paths::UNREACHABLE {
-        return true;
-    }
     for i in 0..n {
         let u = vertex_of_turn(work, n, rev, i);
-        if on_way(d, e, whole, u) {
-            let mask = work[masks + u];
-            let Sum::Is(x) = count_of(count, row, up, down, cost, mask, start, d, f, u) else {
-                return false;
-            };
-            f[u] = x;
-        }
+        let mask = work[masks + u];
+        let Sum::Is(x) = count_of(count, row, up, down, cost, mask, start, d, f, u) else {
+            return false;
+        };
+        f[u] = x;
     }
     true
 }
 
 // Fills f with the counts from a and back with the counts to b. Where the total does not fit 64 bits, answers false and
 // leaves both all 0. The pass that fills f cannot fail: its sums are at most the total, which then stands in `back`.
+// Leaves the vertices on the way in the order's place, and the masks as they are.
 pub fn fill_counts(
     count: usize,
     row: &[usize],
@@ -135,20 +162,22 @@ pub fn fill_counts(
     n: usize,
     d: &[u32],
     e: &[u32],
-    work: &[u32],
+    work: &mut [u32],
     f: &mut [u64],
     back: &mut [u64],
 ) -> bool
-    requires { ⌜ Readied (tableOf count (now row) (now up) (now down) (now cost)) n (now d) (now e) (now work)
-        × (a < length (now d)) × (b < length (now d))
+    requires { ⌜ Readied (tableOf count (now row) (now up) (now down) (now cost)) n (now d) (now work)
+        × (length (now e) ≡ length (now d)) × (a < length (now d)) × (b < length (now d))
         × (now f ≡ zeros (length (now d))) × (now back ≡ zeros (length (now d))) ⌝ }
     ensures { λ r. ⌜ ((g : Graph)
         → Known g (tableOf count (now (row .entry)) (now (up .entry)) (now (down .entry)) (now (cost .entry)))
-        a b n true (now (d .entry)) (now (e .entry)) (now (work .entry))
-        → Filled g a b r (now (f .exit)) (now (back .exit))) ⌝ }
+        a b n (now (d .entry)) (now (e .entry)) (now (work .entry))
+        → Filled g (tableOf count (now (row .entry)) (now (up .entry)) (now (down .entry)) (now (cost .entry)))
+        a b r (now (work .exit)) (now (f .exit)) (now (back .exit))) ⌝ }
 {
-    if count_along(count, row, up, down, cost, b, a, e, d, n, false, work, back) {
-        return count_along(count, row, up, down, cost, a, b, d, e, n, true, work, f);
+    let kept = keep_on_way(d[b], n, d, e, work);
+    if count_along(count, row, up, down, cost, b, e, kept, false, work, back) {
+        return count_along(count, row, up, down, cost, a, d, kept, true, work, f);
     }
     basics::clear_u64(back);
     false

@@ -2,7 +2,7 @@
 --
 --   found-costing               == what the costs to b take, which are costs from b
 --   found-costs                 == the costs from b are those to b
---   found-few, found-sized, found-readied, found-known == what the counting passes take
+--   found-few, found-sized, found-same, found-readied, found-known == what the counting passes take
 --   found-walkable              == what the walk of the route takes, where the total fits
 --   found-many, found-route     == the two ways to end
 --   finish-none                 == the whole, where no walk joins the ends
@@ -81,19 +81,18 @@ module _ {w h : ℕ} {map : List ℕ} {rows : Rows} {a b : ℕ} {d e f back rout
 
   module _ {x n : ℕ} {t : Reach} {e′ work′ : List ℕ} (C : OrderedCosts (floorOf w h map) rows x n e′ work′)
       (B : Built w rows t) where
-    e-len : length e′ ≡ g .size
-    e-len = ap length (C .costs) ∙ length-tabulate (g .size) _
-
     masked : Masked g t work′
     masked = C .masked t B
 
     priced : Priced g t
     priced = record { cost = λ m l. B .move m (omega (arith, B .count)) .cost }
 
-    pub found-readied : Readied t n d e′ work′
+    pub found-same : length e′ ≡ length d
+    found-same = ap length (C .costs) ∙ length-tabulate (g .size) _ ∙ sym d-len
+
+    pub found-readied : Readied t n d work′
     found-readied = record {
       few = omega (arith, few, d-len);
-      e-len = e-len ∙ sym d-len;
       work-len = omega (arith, C .work-len, d-len);
       short = omega (arith, C .few, d-len);
       lent = B .lent;
@@ -102,7 +101,7 @@ module _ {w h : ℕ} {map : List ℕ} {rows : Rows} {a b : ℕ} {d e f back rout
     }
 
     module _ (e-true : e′ ≡ tabulate (g .size) (λ v. distance g v b)) where
-      pub found-known : Known g t a b n true d e′ work′
+      pub found-known : Known g t a b n d e′ work′
       found-known = record {
         lawful = lawful;
         start-in = F .finishable .job .start-in;
@@ -115,19 +114,19 @@ module _ {w h : ℕ} {map : List ℕ} {rows : Rows} {a b : ℕ} {d e f back rout
         ordered = C .ordered;
       }
 
-      module _ {r : Bool} {f′ back′ : List ℕ} (filled : Filled g a b r f′ back′) where
+      module _ {r : Bool} {work″ f′ back′ : List ℕ} (filled : Filled g t a b r work″ f′ back′) where
         pub found-many : r ≡ false
             → Finished g a b (Refused TooMany) (slicesOf d e′ f′ back′ route (zeros (4 * vertices w h)))
         found-many over =
-            let K = subst (λ z. Filled g a b z f′ back′) over filled in
+            let K = subst (λ z. Filled g t a b z work″ f′ back′) over filled in
             finished-many (F .finishable .costs) refl (F .reached) e-true (sym (K .answer)) (K .f-left) (K .back-left)
             (F .route-blank)
 
         module _ (fit : r ≡ true) where
-          K : Filled g a b true f′ back′
-          K = subst (λ z. Filled g a b z f′ back′) fit filled
+          K : Filled g t a b true work″ f′ back′
+          K = subst (λ z. Filled g t a b z work″ f′ back′) fit filled
 
-          pub found-walkable : Walkable g t a b d e′ f′ back′ work′ route
+          pub found-walkable : Walkable g t a b d e′ f′ back′ work″ route
           found-walkable = record {
             few = few;
             lawful = lawful;
@@ -139,10 +138,10 @@ module _ {w h : ℕ} {map : List ℕ} {rows : Rows} {a b : ℕ} {d e f back rout
             e-true = e-true;
             f-true = K .f-left;
             back-true = K .back-left;
-            masked = masked;
+            masked = K .masked;
             lent = B .lent;
             priced = priced;
-            work-len = C .work-len;
+            work-len = K .work-len;
             blank = F .route-blank;
           }
 

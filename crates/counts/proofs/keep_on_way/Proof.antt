@@ -1,0 +1,96 @@
+-- `counts::keep_on_way` meets its contract: after i turns those of the first i vertices that are on the way are kept, and
+-- from place i on the slice is as it was. Assumes nothing.
+use Prim.Native.Nat.{_+_, _-_, _≤_}
+use mathlib.Core.Path.{ap, _∙_}
+use native.Mathlib.Omega.{arith}
+use borrow.Author.Needs.{needs}
+use Rattle.basics.specs.Bounded.{pick}
+use Rattle.counts.specs.Passes.{evenAt, Kept}
+use Rattle.counts.proofs.Keeping.{kept-none, kept-more, kept-all}
+use Rattle.counts.proofs.keep_on_way.Statement.{statement}
+use Rattle.counts.proofs.keep_on_way.Tie as tie
+
+abbrev Inv-loop : tie.InvT-loop
+Inv-loop whole n d e work₀ kept₀ i₀ work kept i = (i ≤ n) × Kept (evenAt d e whole) i kept work₀ work
+
+abbrev μ-loop : tie.MeasureT-loop
+μ-loop whole n d e work₀ kept₀ i₀ work kept i = n - i
+
+-- The place where the function begins.
+abbrev start : tie.At-loop Inv-loop μ-loop → tie.Start Inv-loop μ-loop
+start l = l .before .before .before .before
+
+loop-holds : tie.Need-loop-holds Inv-loop μ-loop
+loop-holds c = (omega arith, kept-none)
+
+mul-u : tie.Need-mul-u Inv-loop μ-loop
+mul-u c = search needs
+
+slice-read-u : tie.Need-slice-read-u Inv-loop μ-loop
+slice-read-u c = search needs
+
+mul-work : tie.Need-mul-work Inv-loop μ-loop
+mul-work c = search needs
+
+slice-write-work : tie.Need-slice-write-work Inv-loop μ-loop
+slice-write-work c = search needs
+
+index-requires : tie.Need-index-requires Inv-loop μ-loop
+index-requires c κs = search needs
+
+on-way-requires : tie.Need-on-way-requires Inv-loop μ-loop
+on-way-requires c κs =
+    let l = c .before .before .before in
+    let p = start l .pre in
+    let same = l .loop .inv .1 .rest (l .loop .i) (omega arith) in
+    let in-d = p .2 (l .loop .i) (omega arith) in
+    (omega (arith, c .index .ensures), omega (arith, c .index .ensures, p .1))
+
+one-if-requires : tie.Need-one-if-requires Inv-loop μ-loop
+one-if-requires c κs = search needs
+
+add-kept : tie.Need-add-kept Inv-loop μ-loop
+add-kept c = search needs
+
+add-i : tie.Need-add-i Inv-loop μ-loop
+add-i c = search needs
+
+loop-less : tie.Need-loop-less Inv-loop μ-loop
+loop-less c = search needs
+
+loop-again : tie.Need-loop-again Inv-loop μ-loop
+loop-again c =
+    let l = c .before .before .before .before .before in
+    let a = start l .args in
+    let tested = ap (evenAt (a .d .now) (a .e .now) (a .whole)) (c .before .before .index .ensures) in (
+      omega arith,
+      kept-more (l .loop .inv .1) (omega (arith, start l .pre .0))
+          (ap (λ x. l .loop .kept + x) (c .one-if .ensures .0 ∙ ap (λ b. pick b 1 0) (c .before .on-way .ensures ∙ tested))),
+    )
+
+same-length : tie.Need-same-length Inv-loop μ-loop
+same-length c = c .before .loop .inv .1 .len
+
+returns : tie.Need-returns Inv-loop μ-loop
+returns c = kept-all (c .before .loop .inv .1) (omega arith) (omega arith)
+
+pub keep-on-way-spec : {M : Type 1} → statement M
+keep-on-way-spec =
+    tie.close
+    (tie.spec
+    Inv-loop
+    μ-loop
+    loop-holds
+    mul-u
+    slice-read-u
+    mul-work
+    slice-write-work
+    index-requires
+    on-way-requires
+    one-if-requires
+    add-kept
+    add-i
+    loop-less
+    loop-again
+    same-length
+    returns)
