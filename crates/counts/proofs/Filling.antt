@@ -1,7 +1,8 @@
 -- Both passes together. The vertices on the way are kept in the order of their cost to b, along which the pass from b
 -- goes; the pass from a goes along the same from the back.
 --
---   readied-kept      == what a pass reads, where the vertices on the way are kept
+--   readied-kept      == where some of the order are kept, a pass can read those
+--   readied-other     == and with another slice of the same length
 --   masked-kept       == the masks are as they were
 --   even-way          == the test of the code is the test `onWay`
 --   order-kept        == so what is kept is an order of the way from b
@@ -18,9 +19,9 @@ use native.Mathlib.Omega.{arith}
 use borrow.Author.Tests.{lt-ltb, le-ltb}
 use lib.ListN.{length}
 use Rattle.basics.specs.Lists.{tabulate, zeros}
-use Rattle.basics.proofs.Lists.{tabulate-cong, length-tabulate, getD-tabulate}
+use Rattle.basics.proofs.Lists.{tabulate-cong, getD-tabulate}
 use Rattle.paths.specs.Graph.{Graph}
-use Rattle.paths.specs.Distance.{unreachable, distance, pathCount}
+use Rattle.paths.specs.Distance.{distance, pathCount}
 use Rattle.paths.specs.Route.{onWay, countFrom, countTo}
 use Rattle.paths.specs.Sheet.{fits}
 use Rattle.paths.specs.Local.{entry}
@@ -30,7 +31,7 @@ use Rattle.neighbours.specs.declared.Reach.{Reach}
 use Rattle.neighbours.proofs.Choice.{onShortest-sum}
 use Rattle.distances.specs.Order.{maskAt, Masked}
 use Rattle.counts.specs.Passes.{evenAt, Kept, Readied, WayOrder, Passable, Known, Passed, Filled}
-use Rattle.counts.proofs.Sequence.{d-len, d-at, order-turned}
+use Rattle.counts.proofs.Sequence.{costs-len, costs-at, order-turned}
 
 -- ---- where some of the order are kept
 
@@ -55,7 +56,6 @@ module _ {p : ℕ → Bool} {n k : ℕ} {work work′ : List ℕ} (R : Kept p n 
     step = λ u m i l. rw (mask-kept short u) (M .step u m i l);
   }
 
--- A slice of the same length serves as well.
 pub readied-other : {t : Reach} {n : ℕ} {d e work : List ℕ} → length e ≡ length d → Readied t n d work
     → Readied t n e work
 readied-other same A = record {
@@ -72,23 +72,20 @@ module _ {g : Graph} {t : Reach} {a b n k : ℕ} {d e work work′ : List ℕ} (
   -- ---- what is kept are the vertices on the way
 
   sized : length d ≡ g .size
-  sized = ap length (K .costs-from) ∙ length-tabulate (g .size) (distance g a)
+  sized = costs-len g a (K .costs-from)
 
   from-at : (u : ℕ) → u < g .size → entry d u ≡ distance g a u
-  from-at u i = ap (λ l. entry l u) (K .costs-from) ∙ getD-tabulate (g .size) u (distance g a) i
-
-  to-at : (u : ℕ) → u < g .size → entry e u ≡ distance g u b
-  to-at u i = ap (λ l. entry l u) (K .costs-to) ∙ getD-tabulate (g .size) u (λ v. distance g v b) i
+  from-at = costs-at g a (K .costs-from)
 
   back-at : (u : ℕ) → u < g .size → entry e u ≡ distance g b u
-  back-at u i = to-at u i ∙ distance-sym g (K .lawful) u b i (K .goal-in)
+  back-at = costs-at g b (K .costs-back)
 
   even-way : (u : ℕ) → u < g .size → evenAt d e (entry d b) u ≡ onWay g b a u
   unfolding onWay
   even-way u i =
       onShortest-sum (entry d) (entry e) b u (omega (arith, from-at b (K .goal-in), K .reached))
-      ∙ shortest-same (entry d) (distance g a) (entry e) (λ v. distance g v b) b u (from-at u i) (to-at u i)
-      (from-at b (K .goal-in)) ∙ way-turn g (K .lawful) a b u (K .start-in) (K .goal-in) i
+      ∙ shortest-same (entry d) (distance g a) (entry e) (λ v. distance g v b) b u (from-at u i)
+      (back-at u i ∙ distance-sym g (K .lawful) b u (K .goal-in) i) (from-at b (K .goal-in)) ∙ way-turn g (K .lawful) a b u (K .start-in) (K .goal-in) i
 
   order-kept : WayOrder g b a k (entry work′)
   order-kept = record {
@@ -123,8 +120,7 @@ module _ {g : Graph} {t : Reach} {a b n k : ℕ} {d e work work′ : List ℕ} (
     lawful = K .lawful;
     start-in = K .goal-in;
     reached = rw (distance-sym g (K .lawful) b a (K .goal-in) (K .start-in)) (K .reached);
-    costs = K .costs-to
-        ∙ tabulate-cong (g .size) _ (distance g b) (λ v i. distance-sym g (K .lawful) v b i (K .goal-in));
+    costs = K .costs-back;
     masked = masks;
     priced = K .priced;
     way = order-kept;

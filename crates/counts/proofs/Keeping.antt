@@ -1,12 +1,12 @@
 -- Those of a list's first places that pass a test are kept at its beginning, one after the other.
 --
 --   kept-none   == before the first turn none is kept
---   kept-more   == at a turn the next is stored after those that are kept, and one more is kept where it passes the test
+--   kept-more   == at a turn the next is stored after those that are kept, and is kept too where it passes the test
 --   kept-all    == after the last turn
 use Prim.Native.Nat.{ℕ, _+_, _≤_, _<_}
 use mathlib.Core.Path.{_≡_, refl, sym, ap, _∙_, subst}
 use mathlib.Core.Logic.{_⊎_, inl, inr, ⊎-elim}
-use mathlib.Core.Bool.{Bool, true, false}
+use mathlib.Core.Bool.{Bool, true}
 use mathlib.Core.List.{List}
 use native.Mathlib.Omega.{arith}
 use lib.ListN.{length, set, length-set}

@@ -39,7 +39,7 @@ use Rattle.neighbours.proofs.Agree.{countAt-agrees}
 use Rattle.neighbours.proofs.Sums.{sumOf-fits, sumOf-is, sumOf-passes}
 use Rattle.distances.specs.Order.{maskAt}
 use Rattle.counts.specs.Passes.{turnOf, countOf, Passable, Passed}
-use Rattle.counts.proofs.Sequence.{d-len, d-at, agrees, turn-before}
+use Rattle.counts.proofs.Sequence.{costs-len, costs-at, agrees, turn-before}
 
 -- ---- the count of one vertex
 
@@ -110,12 +110,12 @@ module _ {g : Graph} {t : Reach} {s x n : ℕ} {rev : Bool} {d work : List ℕ} 
         (λ q. subst (λ z. countAt g s on (entry d) (entry f) z ≡ pathCount g s z) (sym q)
         (countAt-start g s on (entry d) (entry f) (closed .start) ∙ sym (pathCount-self g (K .lawful) s)))
         (λ ne. countAt-other g s on (entry d) (entry f) u on-u ne
-        ∙ count-next g (K .lawful) s (K .start-in) on closed (entry d) (d-at K) (entry f) u in-u on-u ne before)
+        ∙ count-next g (K .lawful) s (K .start-in) on closed (entry d) (costs-at g s (K .costs)) (entry f) u in-u on-u ne before)
         (eq-or-ne u s)
 
     pub count-right : countOf t (maskAt (length d) work u) s d f u ≡ countFrom g s x u
     count-right =
-        rw (d-len K) (countAt-agrees (agrees K u in-u) (entry d) s all (entry f)
+        rw (costs-len g s (K .costs)) (countAt-agrees (agrees K u in-u) (entry d) s all (entry f)
         ∙ count-all g s on (entry d) (entry f) u on-u ∙ count-on ∙ sym (countFrom-way g s x u on-u))
 
     below : (j : ℕ) → j < i + 1 → (u ≡ P j → ⊥) → j < i
@@ -154,7 +154,7 @@ module _ {t : Reach} {s n : ℕ} {rev : Bool} {d work : List ℕ} where
   turn-start {f} q = record {
     within = omega arith;
     len = ap length q ∙ length-replicate (length d) 0;
-    counted = λ g x K. counted-none g s x (turnOf work n rev) f (rw (sym (d-len K)) q);
+    counted = λ g x K. counted-none g s x (turnOf work n rev) f (rw (sym (costs-len g s (K .costs))) q);
   }
 
   pub turn-len : {i : ℕ} {f f₀ : List ℕ} → Turning t s n rev d work i f → f₀ ≡ zeros (length d) → length f ≡ length f₀

@@ -1,18 +1,19 @@
 -- The vertices on the way in the order in which a pass comes to them.
 --
 --   place-lt       == each turn comes to one of the places
---   d-len, d-at    == the list d holds the distances
+--   costs-len, costs-at == a list of the costs from one vertex has a place for each, and there its cost
 --   agrees         == the moves that the code reads are those of the graph
 --   turn-before    == a vertex on the way that costs less than another has its turn before it
---   order-turned   == the order of the way from b, gone through from the back, is an order of the way from a: on the way
---                     the one cost falls as the other rises
-use Prim.Native.Nat.{ℕ, _+_, _-_, _≤_, _<_}
+--   order-turned   == the order of the way from b, gone through from the back, is an order of the way from a: on the
+--                     way the one cost falls as the other rises
+use Prim.Native.Nat.{ℕ, _+_, _-_, _<_}
 use mathlib.Core.Path.{_≡_, ap, _∙_}
 use mathlib.Core.Logic.{⊎-elim}
 use mathlib.Core.Bool.{Bool, true, false}
 use mathlib.Core.List.{List}
 use native.Mathlib.Omega.{arith}
 use lib.ListN.{length}
+use Rattle.basics.specs.Lists.{tabulate}
 use Rattle.basics.proofs.Order.{le-or-lt}
 use Rattle.basics.proofs.Lists.{length-tabulate, getD-tabulate}
 use Rattle.paths.specs.Graph.{Graph, Lawful}
@@ -31,13 +32,14 @@ pub place-lt : (n i : ℕ) (rev : Bool) → i < n → placeOf n i rev < n
 place-lt n i true l = omega arith
 place-lt n i false l = l
 
+module _ (g : Graph) (s : ℕ) {d : List ℕ} (costs : d ≡ tabulate (g .size) (distance g s)) where
+  pub costs-len : length d ≡ g .size
+  costs-len = ap length costs ∙ length-tabulate (g .size) (distance g s)
+
+  pub costs-at : (u : ℕ) → u < g .size → entry d u ≡ distance g s u
+  costs-at u i = ap (λ l. entry l u) costs ∙ getD-tabulate (g .size) u (distance g s) i
+
 module _ {g : Graph} {t : Reach} {s x n : ℕ} {rev : Bool} {d work : List ℕ} (K : Passable g t s x n rev d work) where
-  pub d-len : length d ≡ g .size
-  d-len = ap length (K .costs) ∙ length-tabulate (g .size) (distance g s)
-
-  pub d-at : (u : ℕ) → u < g .size → entry d u ≡ distance g s u
-  d-at u i = ap (λ l. entry l u) (K .costs) ∙ getD-tabulate (g .size) u (distance g s) i
-
   pub agrees : (u : ℕ) → u < g .size → Agrees (star (g .size) t (maskAt (g .size) work u)) g u
   agrees u i = record {
     moves = K .masked .count;

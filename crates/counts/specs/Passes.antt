@@ -13,8 +13,8 @@
 --   WayOrder g s x n P     == P 0, .. P (n - 1) are the vertices on the way from s to x, by rising cost from s
 --   Passable g t s x n rev d work == d are the costs from s, from where a walk reaches x; the masks are those of graph
 --                             g; the n turns come to the vertices on the way in a WayOrder
---   Known g t a b n d e work == d are the costs from a, e those to b, which a walk from a reaches; the masks are those
---                             of graph g; the order is by rising cost to b
+--   Known g t a b n d e work == d are the costs from a, e those from b, which a walk joins; the masks are those of
+--                             graph g; the order is by rising cost from b
 --   Passed g s x f r       == f are the counts from s on the way to x, or r is false and the total is above 64 bits
 --   Filled g t a b r work f back == r says whether the total fits 64 bits; f and back are the counts where it does,
 --                             else 0; the working slice has the masks
@@ -89,7 +89,7 @@ pub record Known (g : Graph) (t : Reach) (a b n : ℕ) (d e work : List ℕ) : T
   pub goal-in : b < g .size
   pub reached : distance g a b < unreachable
   pub costs-from : d ≡ tabulate (g .size) (distance g a)
-  pub costs-to : e ≡ tabulate (g .size) (λ v. distance g v b)
+  pub costs-back : e ≡ tabulate (g .size) (distance g b)
   pub masked : Masked g t work
   pub priced : Priced g t
   pub ordered : Ordered (g .size) n (entry e) (entry work)

@@ -87,8 +87,8 @@ fn vertex_of_turn(work: &[u32], n: usize, rev: bool, i: usize) -> usize
     index(work[i])
 }
 
-// The count from the start of vertex u, which is on the way, by the counts f of the vertices nearer to it: 1 at the start,
-// else a sum over the moves by which a cheapest walk comes to u.
+// The count from the start of vertex u, which is on the way, by the counts f of the vertices nearer to it: 1 at the
+// start, else a sum over the moves by which a cheapest walk comes to u.
 fn count_of(
     count: usize,
     row: &[usize],

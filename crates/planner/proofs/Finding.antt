@@ -1,7 +1,6 @@
 -- The parts put together: from the costs from a, those to b with their order, and the masks, to counts and route.
 --
 --   found-costing               == what the costs to b take, which are costs from b
---   found-costs                 == the costs from b are those to b
 --   found-few, found-sized, found-same, found-readied, found-known == what the counting passes take
 --   found-walkable              == what the walk of the route takes, where the total fits
 --   found-many, found-route     == the two ways to end
@@ -74,11 +73,6 @@ module _ {w h : ℕ} {map : List ℕ} {rows : Rows} {a b : ℕ} {d e f back rout
     work-len = F .finishable .lent .work-len;
   }
 
-  pub found-costs : {e′ : List ℕ} → e′ ≡ tabulate (g .size) (distance g b)
-      → e′ ≡ tabulate (g .size) (λ v. distance g v b)
-  found-costs q =
-      q ∙ tabulate-cong (g .size) (distance g b) _ (λ v i. distance-sym g lawful b v (F .finishable .job .goal-in) i)
-
   module _ {x n : ℕ} {t : Reach} {e′ work′ : List ℕ} (C : OrderedCosts (floorOf w h map) rows x n e′ work′)
       (B : Built w rows t) where
     masked : Masked g t work′
@@ -100,7 +94,13 @@ module _ {w h : ℕ} {map : List ℕ} {rows : Rows} {a b : ℕ} {d e f back rout
       here = rw d-len (masked .here);
     }
 
-    module _ (e-true : e′ ≡ tabulate (g .size) (λ v. distance g v b)) where
+    module _ (from-b : e′ ≡ tabulate (g .size) (distance g b)) where
+      -- The costs from b are those to b.
+      e-true : e′ ≡ tabulate (g .size) (λ v. distance g v b)
+      e-true =
+          from-b
+          ∙ tabulate-cong (g .size) (distance g b) _ (λ v i. distance-sym g lawful b v (F .finishable .job .goal-in) i)
+
       pub found-known : Known g t a b n d e′ work′
       found-known = record {
         lawful = lawful;
@@ -108,7 +108,7 @@ module _ {w h : ℕ} {map : List ℕ} {rows : Rows} {a b : ℕ} {d e f back rout
         goal-in = F .finishable .job .goal-in;
         reached = F .reached;
         costs-from = F .finishable .costs;
-        costs-to = e-true;
+        costs-back = from-b;
         masked = masked;
         priced = priced;
         ordered = C .ordered;

@@ -1,7 +1,7 @@
--- `counts::keep_on_way` meets its contract: after i turns those of the first i vertices that are on the way are kept, and
--- from place i on the slice is as it was. Assumes nothing.
+-- `counts::keep_on_way` meets its contract: after i turns those of the first i vertices that are on the way are kept,
+-- and from place i on the slice is as it was. Assumes nothing.
 use Prim.Native.Nat.{_+_, _-_, _≤_}
-use mathlib.Core.Path.{ap, _∙_}
+use mathlib.Core.Path.{_≡_, ap, _∙_, subst}
 use native.Mathlib.Omega.{arith}
 use borrow.Author.Needs.{needs}
 use Rattle.basics.specs.Bounded.{pick}
@@ -62,11 +62,11 @@ loop-again : tie.Need-loop-again Inv-loop μ-loop
 loop-again c =
     let l = c .before .before .before .before .before in
     let a = start l .args in
-    let tested = ap (evenAt (a .d .now) (a .e .now) (a .whole)) (c .before .before .index .ensures) in (
-      omega arith,
-      kept-more (l .loop .inv .1) (omega (arith, start l .pre .0))
-          (ap (λ x. l .loop .kept + x) (c .one-if .ensures .0 ∙ ap (λ b. pick b 1 0) (c .before .on-way .ensures ∙ tested))),
-    )
+    let way = c .before .on-way in
+    let test = subst (λ u. way .result ≡ evenAt (a .d .now) (a .e .now) (a .whole) u)
+    (c .before .before .index .ensures) (way .ensures) in
+    let one = c .one-if .ensures .0 ∙ ap (λ b. pick b 1 0) test in
+    (omega arith, kept-more (l .loop .inv .1) (omega (arith, start l .pre .0)) (ap (λ x. l .loop .kept + x) one))
 
 same-length : tie.Need-same-length Inv-loop μ-loop
 same-length c = c .before .loop .inv .1 .len

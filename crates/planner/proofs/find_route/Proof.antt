@@ -12,7 +12,6 @@ use Rattle.paths.specs.Distance.{distance}
 use Rattle.grid.specs.Grid.{floorGraph}
 use Rattle.planner.proofs.Finding.{
   found-costing,
-  found-costs,
   found-few,
   found-sized,
   found-same,
@@ -120,7 +119,7 @@ returns c =
     let F = start r .pre in
     let C = ordered r .costs-over-masks .ensures in
     let B = r .reach-of .ensures in
-    let E = found-costs F (costs-from-b r) in
+    let E = costs-from-b r in
     found-many F C B E (at .fill-counts .ensures _ (found-known F C B E)) (not-true _ (c .if1 .taken))
 
 slice-aggregate-write-route : tie.Need-slice-aggregate-write-route
@@ -142,7 +141,7 @@ write-route-requires c κs =
     let F = start r .pre in
     let C = ordered r .costs-over-masks .ensures in
     let B = r .reach-of .ensures in
-    let E = found-costs F (costs-from-b r) in
+    let E = costs-from-b r in
     (_, found-walkable F C B E (counted at .fill-counts .ensures _ (found-known F C B E)) (not-false _ (at .if1 .left)))
 
 mul-t64 : tie.Need-mul-t64
@@ -184,7 +183,7 @@ returns-2 c =
     let F = start r .pre in
     let C = ordered r .costs-over-masks .ensures in
     let B = r .reach-of .ensures in
-    let E = found-costs F (costs-from-b r) in
+    let E = costs-from-b r in
     let filled = counted at .fill-counts .ensures _ (found-known F C B E) in
     let fit = not-false _ (at .if1 .left) in
     let written = c .before .before .before .before .write-route in
