@@ -40,13 +40,13 @@ module _ (g : Graph) (a b : ℕ) (s : Sheet) where
       let d = rightCost g a (entry (s .d)) v in
       let e = rightCost g b (entry (s .e)) v in
       let f = eqb (entry (s .f) v) (countAt g a (localOn b s) (entry (s .d)) (entry (s .f)) v) in
-      let t1 = and-right d _ t in
-      let t2 = and-right e _ t1 in
-      record { d = and-left d _ t; e = and-left e _ t1; f = and-left f _ t2; b-is = and-right f _ t2 }
+      let costs = and-left (d && e) _ t in
+      let counts = and-right (d && e) _ t in
+      record { d = and-left d e costs; e = and-right d e costs; f = and-left f _ counts; b-is = and-right f _ counts }
 
   at-right : (v : ℕ) → RightAt g a b s v → vertexTest true g a b s v ≡ true
   unfolding vertexTest countsTest
-  at-right v r = and-intro _ _ (r .d) (and-intro _ _ (r .e) (and-intro _ _ (r .f) (r .b-is)))
+  at-right v r = and-intro _ _ (and-intro _ _ (r .d) (r .e)) (and-intro _ _ (r .f) (r .b-is))
 
   -- ---- the costs and counts of a route sheet
 

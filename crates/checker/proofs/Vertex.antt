@@ -1,8 +1,13 @@
 -- The tests of one vertex, by what the code finds in turn. The graph of a mask is the same whichever slice counts its
 -- vertices.
+--
+--   counts-from, -to           == what the test of one count says of `countsTest`, and of both
+--   vertex-costs, -counts      == on a sheet with a route: what the tests of both costs and of both counts say of
+--                                 `vertexTest`
+--   vertex-cost, -blank        == on a sheet without one: what the tests of the cost and of the numbers that are 0 say
 use Prim.Native.Nat.{ℕ}
 use mathlib.Core.Path.{_≡_, refl, ap, _∙_}
-use mathlib.Core.Bool.{Bool, true, false, not}
+use mathlib.Core.Bool.{Bool, true, false, not, and-self}
 use mathlib.Core.List.{List}
 use lib.Dec.{eqb}
 use lib.ListN.{length}
@@ -11,27 +16,19 @@ use Rattle.paths.specs.Route.{onShortest}
 use Rattle.paths.specs.Sheet.{Sheet, sheetOf}
 use Rattle.paths.specs.Local.{rightCost, countAt, entry, localOn, blankAt}
 use Rattle.neighbours.specs.declared.Reach.{Reach}
-use Rattle.neighbours.specs.Reach.{star}
-use Rattle.neighbours.proofs.Agree.{Agrees, rightCost-agrees, countAt-agrees}
+use Rattle.neighbours.specs.Reach.{star, rightBoth}
+use Rattle.neighbours.proofs.Agree.{Agrees, countAt-agrees}
 use Rattle.checker.specs.Tests.{numbersOf, blankOf, countsTest, vertexTest}
 use Rattle.checker.proofs.Chains.{fails, holds}
 
 star-agrees : (n m : ℕ) (t : Reach) (mask v : ℕ) → Agrees (star n t mask) (star m t mask) v
 star-agrees n m t mask v = record { moves = refl; cost = λ k l. refl; step = λ k l. refl }
 
-module _ (t : Reach) (mask a b : ℕ) (d e f back : List ℕ) (v : ℕ) {k : Bool}
-    (cost : k ≡ rightCost (star (length e) t mask) b (entry e) v) where
+module _ (t : Reach) (mask a b : ℕ) (d e f back : List ℕ) (v : ℕ) where
   abbrev g : Graph
   g = star (length d) t mask
 
-  cost-is : k ≡ rightCost g b (entry e) v
-  cost-is = cost ∙ rightCost-agrees (star-agrees (length e) (length d) t mask v) (entry e) b
-
-  pub counts-cost : not k ≡ true → false ≡ countsTest g a b (numbersOf d e f back) v
-  unfolding countsTest
-  counts-cost t = fails cost-is _ t
-
-  module _ (right : not k ≡ false) {o p : Bool} (on : o ≡ onShortest (entry d) (entry e) b v)
+  module _ {o p : Bool} (on : o ≡ onShortest (entry d) (entry e) b v)
       (from : p ≡ eqb (entry f v) (countAt g a (λ u. o) (entry d) (entry f) v)) where
     -- A count looks at one vertex alone to know whether it is on the way.
     count-on : (h : Graph) (c : ℕ) (D F : ℕ → ℕ)
@@ -44,31 +41,41 @@ module _ (t : Reach) (mask a b : ℕ) (d e f back : List ℕ) (v : ℕ) {k : Boo
 
     pub counts-from : not p ≡ true → false ≡ countsTest g a b (numbersOf d e f back) v
     unfolding countsTest
-    counts-from t = holds cost-is right (fails from-is _ t)
+    counts-from t = fails from-is _ t
 
     pub counts-to : not p ≡ false → {q : Bool}
         → q ≡ eqb (entry back v) (countAt (star (length e) t mask) b (λ u. o) (entry e) (entry back) v)
         → q ≡ countsTest g a b (numbersOf d e f back) v
     unfolding countsTest
     counts-to u to =
-        holds cost-is right (holds from-is u (to ∙ ap (eqb (entry back v))
+        holds from-is u (to ∙ ap (eqb (entry back v))
         (countAt-agrees (star-agrees (length e) (length d) t mask v) (entry e) b (λ u. o) (entry back)
-        ∙ count-on g b (entry e) (entry back))))
+        ∙ count-on g b (entry e) (entry back)))
 
-module _ (g : Graph) (j : Bool) (a b : ℕ) (d e f back route : List ℕ) (v : ℕ) {k : Bool}
-    (cost : k ≡ rightCost g a (entry d) v) where
+module _ (g : Graph) (j : Bool) (a b : ℕ) (d e f back route : List ℕ) (v : ℕ) where
   abbrev s : Sheet
   s = sheetOf d e f back route 0
 
-  pub vertex-cost : not k ≡ true → false ≡ vertexTest j g a b s v
-  unfolding vertexTest
-  vertex-cost t = fails cost _ t
+  -- A sheet with a route.
+  module _ (with : j ≡ true) {k : Bool} (costs : k ≡ rightBoth g a b (entry d) (entry e) v) where
+    pub vertex-costs : not k ≡ true → false ≡ vertexTest j g a b s v
+    unfolding vertexTest
+    vertex-costs t = rw with (fails costs _ t)
 
-  module _ (right : not k ≡ false) {p : Bool} where
-    pub vertex-counts : j ≡ true → p ≡ countsTest g a b (numbersOf d e f back) v → p ≡ vertexTest j g a b s v
+    pub vertex-counts : not k ≡ false → {p : Bool} → p ≡ countsTest g a b (numbersOf d e f back) v
+        → p ≡ vertexTest j g a b s v
     unfolding vertexTest countsTest localOn
-    vertex-counts e q = holds cost right (rw e q)
+    vertex-counts t q = rw with (holds costs t q)
 
-    pub vertex-blank : j ≡ false → p ≡ blankAt (blankOf e f back route) v → p ≡ vertexTest j g a b s v
+  -- A sheet without one: its cost is tested twice.
+  module _ (without : j ≡ false) {k : Bool} (twice : k ≡ rightBoth g a a (entry d) (entry d) v) where
+    cost : k ≡ rightCost g a (entry d) v
+    cost = twice ∙ and-self (rightCost g a (entry d) v)
+
+    pub vertex-cost : not k ≡ true → false ≡ vertexTest j g a b s v
+    unfolding vertexTest
+    vertex-cost t = rw without (fails cost _ t)
+
+    pub vertex-blank : not k ≡ false → {p : Bool} → p ≡ blankAt (blankOf e f back route) v → p ≡ vertexTest j g a b s v
     unfolding vertexTest blankAt
-    vertex-blank e q = holds cost right (rw e q)
+    vertex-blank t q = rw without (holds cost t q)

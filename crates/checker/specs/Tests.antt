@@ -3,10 +3,11 @@
 --
 --   numbersOf d e f b        == a sheet of these costs and counts, for what does not look at its route
 --   blankOf e f b r          == a sheet of these slices, for what does not look at its costs from a
---   countsTest g a b s v     == the cost to b and both counts of vertex v are right, by v and its neighbours
---   vertexTest j g a b s v   == the cost from a of vertex v is right, and so are its other numbers: those of a route
---                               sheet where j holds, and 0 otherwise
+--   countsTest g a b s v     == both counts of vertex v are right, by v and its neighbours
+--   vertexTest j g a b s v   == the numbers of vertex v are right: where j holds both costs and both counts, those of a
+--                               route sheet; otherwise the cost from a, and the others are 0
 --   verticesTest j g a b s   == so it is at every vertex
+--   rowTest j g a b s w y n  == so it is at the first n vertices of row y, on a floor of width w
 --   pointTest g b s i        == place i of the route is right
 --   pointsTest g a b s       == the route is right, and its point count
 --   routeTest g a b s        == s is the true route sheet
@@ -14,6 +15,8 @@
 --   Fitting w h l r a b      == a job whose floor, neighbourhood and ends have a good shape
 --   Posed w h l r a b s      == the same with a sheet whose slices have a place for each vertex
 --   AtVertex t mask b s v    == the moves from v can be read, and the slices of s have a place for v
+--   AtRow w h l t a b s y    == row y of the floor of a posed sheet, with the table t of the job's moves
+--   RowTested .. t .. y n k  == k says whether `rowTest` holds, on the floor of any rows that t was built from
 --   FitCounts n f b          == the traversal counts of the vertices below n fit 64 bits
 --   Routing w h l r t b s    == the route of a posed sheet can be walked
 use Prim.Native.Nat.{ℕ, _^_, _≤_, _<_}
@@ -23,7 +26,7 @@ use mathlib.Core.List.{List, []}
 use lib.Dec.{ltb, eqb}
 use lib.ListN.{length}
 use Rattle.basics.specs.Bounded.{pick, every}
-use Rattle.floor.specs.Floor.{Sized, floorOf, vertices}
+use Rattle.floor.specs.Floor.{Sized, floorOf, vertices, number}
 use Rattle.moves.specs.declared.Rows.{Rows}
 use Rattle.moves.specs.Table.{Listed}
 use Rattle.paths.specs.Graph.{Graph}
@@ -32,7 +35,7 @@ use Rattle.paths.specs.Sheet.{Sheet, sheetOf}
 use Rattle.paths.specs.Local.{rightCost, countAt, rightPoint, rightRoute, entry, Shaped, localOn, localNext, blankAt}
 use Rattle.grid.specs.Grid.{floorGraph}
 use Rattle.neighbours.specs.declared.Reach.{Reach}
-use Rattle.neighbours.specs.Reach.{Lent, Here, Built}
+use Rattle.neighbours.specs.Reach.{Lent, Here, Built, rightBoth}
 use Rattle.neighbours.specs.Choice.{traversalOf}
 
 abbrev pub numbersOf : List ℕ → List ℕ → List ℕ → List ℕ → Sheet
@@ -43,15 +46,19 @@ blankOf e f b r = sheetOf [] e f b r 0
 
 unfoldable pub countsTest : Graph → ℕ → ℕ → Sheet → ℕ → Bool
 countsTest g a b s v =
-    rightCost g b (entry (s .e)) v
-    && (eqb (entry (s .f) v) (countAt g a (localOn b s) (entry (s .d)) (entry (s .f)) v)
-    && eqb (entry (s .b) v) (countAt g b (localOn b s) (entry (s .e)) (entry (s .b)) v))
+    eqb (entry (s .f) v) (countAt g a (localOn b s) (entry (s .d)) (entry (s .f)) v)
+    && eqb (entry (s .b) v) (countAt g b (localOn b s) (entry (s .e)) (entry (s .b)) v)
 
 unfoldable pub vertexTest : Bool → Graph → ℕ → ℕ → Sheet → ℕ → Bool
-vertexTest j g a b s v = rightCost g a (entry (s .d)) v && pick j (countsTest g a b s v) (blankAt s v)
+vertexTest j g a b s v =
+    pick j (rightBoth g a b (entry (s .d)) (entry (s .e)) v && countsTest g a b s v)
+    (rightCost g a (entry (s .d)) v && blankAt s v)
 
 unfoldable pub verticesTest : Bool → Graph → ℕ → ℕ → Sheet → Bool
 verticesTest j g a b s = every (g .size) (vertexTest j g a b s)
+
+abbrev pub rowTest : Bool → Graph → ℕ → ℕ → Sheet → ℕ → ℕ → ℕ → Bool
+rowTest j g a b s w y n = every n (λ x. vertexTest j g a b s (number w x y))
 
 unfoldable pub pointTest : Graph → ℕ → Sheet → ℕ → Bool
 pointTest g b s = rightPoint g (localNext g b s) b (s .n) (entry (s .route))
@@ -88,6 +95,16 @@ pub record AtVertex (t : Reach) (mask b : ℕ) (s : Sheet) (v : ℕ) : Type 0 wh
   pub e-len : length (s .e) ≡ length (s .d)
   pub f-len : length (s .f) ≡ length (s .d)
   pub b-len : length (s .b) ≡ length (s .d)
+
+pub record AtRow (w h : ℕ) (l : List ℕ) (t : Reach) (a b : ℕ) (s : Sheet) (y : ℕ) : Type 0 where
+  pub rows : Rows
+  pub posed : Posed w h l rows a b s
+  pub built : Built w rows t
+  pub row : y ≤ h
+
+pub record RowTested (w h : ℕ) (l : List ℕ) (t : Reach) (j : Bool) (a b : ℕ) (s : Sheet) (y n : ℕ)
+    (k : Bool) : Type 0 where
+  pub is : (r : Rows) → Listed r → Built w r t → k ≡ rowTest j (floorGraph (floorOf w h l) r) a b s w y n
 
 pub record FitCounts (n : ℕ) (f b : List ℕ) : Type 0 where
   pub fit : (v : ℕ) → v < n → traversalOf f b v < 2 ^ 64

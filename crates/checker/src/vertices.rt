@@ -1,6 +1,6 @@
 // The tests of the vertices: the costs and counts of each, by its neighbours, in one pass over the floor.
 ghost use mathlib.Core.Path.{_≡_};
-ghost use Prim.Native.Nat.{_<_};
+ghost use Prim.Native.Nat.{_+_, _<_};
 ghost use lib.Dec.{eqb};
 ghost use lib.ListN.{length};
 ghost use Rattle.floor.specs.Floor.{floorOf};
@@ -9,7 +9,7 @@ ghost use Rattle.paths.specs.Sheet.{sheetOf};
 ghost use Rattle.grid.specs.Grid.{floorGraph};
 ghost use Rattle.neighbours.specs.Reach.{tableOf, star, Lent, Here};
 ghost use Rattle.checker.specs.Tests.{numbersOf, blankOf, countsTest, vertexTest, verticesTest};
-ghost use Rattle.checker.specs.Tests.{Posed, AtVertex};
+ghost use Rattle.checker.specs.Tests.{Posed, AtVertex, AtRow, RowTested};
 use floor::Vertex;
 use moves::Rows;
 use neighbours::Sum;
@@ -50,7 +50,7 @@ fn count_right(
     x == s
 }
 
-// The numbers of v beside its cost from a are those of a route sheet.
+// Both counts of v are those of a route sheet.
 fn counts_right(
     count: usize,
     row: &[usize],
@@ -73,9 +73,6 @@ fn counts_right(
         (tableOf count (now (row .entry)) (now (up .entry)) (now (down .entry)) (now (cost .entry))) mask) a b
         (numbersOf (now (d .entry)) (now (e .entry)) (now (f .entry)) (now (back .entry))) v ⌝ }
 {
-    if !neighbours::cost_right(count, row, up, down, cost, mask, b, e, v) {
-        return false;
-    }
     let on = neighbours::on_way(d, e, b, v);
     if !count_right(count, row, up, down, cost, mask, a, on, d, f, v) {
         return false;
@@ -101,8 +98,8 @@ fn blank_at(e: &[u32], f: &[u64], back: &[u64], route: &[u16], v: usize) -> bool
     route[v] == 0
 }
 
-// The numbers of v are right: its cost from a, and the others by the kind of the sheet, with a route where `joined`
-// holds.
+// The numbers of v are right, by the kind of the sheet, with a route where `joined` holds. A sheet without one has the
+// cost from a alone, and the loop that tests two costs takes it for both.
 fn vertex_right(
     count: usize,
     row: &[usize],
@@ -127,16 +124,74 @@ fn vertex_right(
         (tableOf count (now (row .entry)) (now (up .entry)) (now (down .entry)) (now (cost .entry))) mask) a b
         (sheetOf (now (d .entry)) (now (e .entry)) (now (f .entry)) (now (back .entry)) (now (route .entry)) 0) v ⌝ }
 {
-    if !neighbours::cost_right(count, row, up, down, cost, mask, a, d, v) {
-        return false;
-    }
     if joined {
+        if !neighbours::costs_right(count, row, up, down, cost, mask, a, b, d, e, v) {
+            return false;
+        }
         return counts_right(count, row, up, down, cost, mask, a, b, d, e, f, back, v);
+    }
+    if !neighbours::costs_right(count, row, up, down, cost, mask, a, a, d, d, v) {
+        return false;
     }
     blank_at(e, f, back, route, v)
 }
 
-// The numbers of every vertex are right: one pass over the floor.
+// The numbers of the vertices of row y are right. Each is looked at, also after one that is false: a way out of the loop
+// makes every turn slower.
+fn row_right(
+    count: usize,
+    row: &[usize],
+    up: &[usize],
+    down: &[usize],
+    cost: &[u32],
+    w: usize,
+    h: usize,
+    map: &[u8],
+    joined: bool,
+    a: usize,
+    b: usize,
+    d: &[u32],
+    e: &[u32],
+    f: &[u64],
+    back: &[u64],
+    route: &[u16],
+    y: usize,
+) -> bool
+    requires { ⌜ AtRow w h (now map) (tableOf count (now row) (now up) (now down) (now cost)) a b
+        (sheetOf (now d) (now e) (now f) (now back) (now route) 0) y ⌝ }
+    ensures { λ r. ⌜ RowTested w h (now (map .entry))
+        (tableOf count (now (row .entry)) (now (up .entry)) (now (down .entry)) (now (cost .entry))) joined a b
+        (sheetOf (now (d .entry)) (now (e .entry)) (now (f .entry)) (now (back .entry)) (now (route .entry)) 0) y
+        (w + 1) r ⌝ }
+{
+    let first = y * (w + 1);
+    let mut right = true;
+    for x in 0..w + 1 {
+        let mask = masks::open_from(w, h, map, x, y);
+        if !vertex_right(
+            count,
+            row,
+            up,
+            down,
+            cost,
+            mask,
+            joined,
+            a,
+            b,
+            d,
+            e,
+            f,
+            back,
+            route,
+            first + x,
+        ) {
+            right = false;
+        }
+    }
+    right
+}
+
+// The numbers of every vertex are right: one pass over the floor, row by row, up to the first row with a false number.
 pub fn vertices_right(
     w: usize,
     h: usize,
@@ -164,16 +219,16 @@ pub fn vertices_right(
     let up = t.up;
     let down = t.down;
     let cost = t.cost;
-    let mut at = masks::sweep_start();
-    for v in 0..d.len() {
-        let here = masks::sweep_on(w, h, map, at);
-        if !vertex_right(
+    for y in 0..h + 1 {
+        if !row_right(
             count,
             &row,
             &up,
             &down,
             &cost,
-            here.mask,
+            w,
+            h,
+            map,
             joined,
             start,
             goal,
@@ -182,11 +237,10 @@ pub fn vertices_right(
             f,
             back,
             route,
-            v,
+            y,
         ) {
             return false;
         }
-        at = here.next;
     }
     true
 }

@@ -20,12 +20,13 @@ use Rattle.basics.specs.Lists.{tabulate}
 use Rattle.floor.specs.Floor.{Floor, floorOf, vertices}
 use Rattle.floor.proofs.Numbers.{vertices-le}
 use Rattle.moves.specs.declared.Rows.{Rows}
-use Rattle.masks.specs.declared.Class.{Class}
+use Rattle.offsets.specs.declared.Class.{Class}
 use Rattle.moves.specs.Moves.{rowAt}
 use Rattle.moves.specs.Table.{Listed, lawfulRows}
-use Rattle.masks.specs.Masks.{OpenAt, OpenMasks, Shifts}
-use Rattle.masks.specs.Classes.{Classes}
-use Rattle.masks.proofs.Masked.{shifts-masked, shifts-movable}
+use Rattle.masks.specs.Masks.{OpenAt, OpenMasks}
+use Rattle.offsets.specs.Offsets.{Shifts}
+use Rattle.offsets.specs.Classes.{Classes}
+use Rattle.offsets.proofs.Masked.{shifts-masked, shifts-movable}
 use Rattle.moves.proofs.Table.{listed-lawful, lawful-move}
 use Rattle.paths.specs.Distance.{distance}
 use Rattle.grid.specs.Grid.{floorGraph}

@@ -31,14 +31,15 @@ use Rattle.basics.proofs.Order.{eq-or-ne}
 use Rattle.basics.proofs.Bools.{true-or-false}
 use Rattle.basics.proofs.Bounded.{pick-no}
 use Rattle.moves.specs.declared.Rows.{Rows}
-use Rattle.masks.specs.declared.Class.{Class}
+use Rattle.offsets.specs.declared.Class.{Class}
 use Rattle.moves.specs.declared.Step.the-variants.{To, Off}
 use Rattle.moves.specs.Moves.{rowAt}
 use Rattle.moves.specs.Steps.{stepOf}
-use Rattle.masks.specs.Masks.{bit, shiftBase, RowMovable, lowestRow, lowestEnd}
-use Rattle.masks.specs.Classes.{Member}
+use Rattle.masks.specs.Masks.{bit}
+use Rattle.offsets.specs.Offsets.{shiftBase, RowMovable, lowestRow, lowestEnd}
+use Rattle.offsets.specs.Classes.{Member}
 use Rattle.masks.proofs.Bits.{set-both, set-left, set-right, set-pos, lowest-set, others-set}
-use Rattle.masks.proofs.Masked.{lowest-to, lowest-off}
+use Rattle.offsets.proofs.Masked.{lowest-to, lowest-off}
 use Rattle.paths.specs.Graph.{Graph}
 use Rattle.paths.specs.Distance.{unreachable}
 use Rattle.paths.specs.Local.{entry}
@@ -46,7 +47,7 @@ use Rattle.paths.proofs.Listing.{at-cost}
 use Rattle.paths.proofs.Distance.{snoc}
 use Rattle.neighbours.proofs.Steps.{stepOf-to, stepOf-off}
 use Rattle.distances.specs.Order.{maskAt}
-use Rattle.distances.specs.Merge.{Given, RowSteps, Ready, KeyWalk, Grown, Relaxing, Relaxed}
+use Rattle.distances.specs.Merge.{Given, RowSteps, Ready, KeyWalk, Grown, Relaxing, RelaxingRows, Relaxed}
 use Rattle.distances.proofs.Store.{settled-le, key-low, grown-refl, grown-trans, at-w, grown-more, ready-more}
 use Rattle.distances.proofs.Store.{ready-past, grown-past}
 
@@ -134,11 +135,11 @@ pub record RelaxedTo (g : Graph) (r : Rows) (a u mask : ℕ) (c : Class) (rest k
   pub relaxed : (m w : ℕ) → Member r c m → m < g .moves → g .step m u ≡ some w
       → (bit rest (rowAt r m) ≡ true) ⊎ (entry d′ w ≤ key)
 
--- The same of any graph, rows, class and source that the loop can run on, where it starts with the rows `all`.
-abbrev pub RelaxedOn : (shifts : List ℕ) (p u mask all rest key n s : ℕ) (d d′ work work′ : List ℕ) → Type 0
-RelaxedOn shifts p u mask all rest key n s d d′ work work′ =
-    (g : Graph) (r : Rows) (c : Class) (a : ℕ) → Relaxing g r shifts c a p key n d work → all ≡ bitAnd mask (c .rows)
-    → RelaxedTo g r a u mask c rest key n s d d′ work work′
+-- The same of any graph, rows, class, source and place that the loop can run on, where it starts with the rows `all`.
+abbrev pub RelaxedOn : (shifts : List ℕ) (u all rest key n s : ℕ) (d d′ work work′ : List ℕ) → Type 0
+RelaxedOn shifts u all rest key n s d d′ work work′ =
+    (g : Graph) (r : Rows) (c : Class) (a p : ℕ) → RelaxingRows g r shifts c a p u all key n d work
+    → RelaxedTo g r a u (maskAt (length d) work u) c rest key n s d d′ work work′
 
 -- Row k is that of a move of class c, which leads from u where its offset does.
 record OpenRow (g : Graph) (shifts : List ℕ) (c : Class) (u k : ℕ) : Type 0 where
@@ -152,18 +153,22 @@ pub row-left : (rest u : ℕ) (shifts : List ℕ) {x : ℕ} → stepOf (lowestEn
     → (0 < rest) × (farAt shifts u (lowestRow rest) ≡ x)
 row-left rest u shifts {x} to = lowest-to u shifts rest x (stepOf-to (lowestEnd rest u shifts) x to)
 
-module _ {g : Graph} {r : Rows} {shifts : List ℕ} {c : Class} {a p key n : ℕ} {d work : List ℕ}
-    (B : Relaxing g r shifts c a p key n d work) {u mask : ℕ} (vertex : u ≡ entry work p)
-    (read : mask ≡ maskAt (length d) work u) where
+module _ {g : Graph} {r : Rows} {shifts : List ℕ} {c : Class} {a p u all key n : ℕ} {d work : List ℕ}
+    (Q : RelaxingRows g r shifts c a p u all key n d work) where
+  abbrev B : Relaxing g r shifts c a p key n d work
+  B = Q .relaxing
+
+  abbrev mask : ℕ
+  mask = maskAt (length d) work u
+
   inside : u < g .size
-  inside = omega (arith, B .walk .inside)
+  inside = omega (arith, B .walk .inside, Q .vertex)
 
   is : mask ≡ maskAt (g .size) work u
-  is = read ∙ ap (λ v. maskAt v work u) (B .ready .settled .d-len)
+  is = ap (λ v. maskAt v work u) (B .ready .settled .d-len)
 
-  pub relaxed-none : {all : ℕ} → mask < 2 ^ 32 → all ≡ bitAnd mask (c .rows)
-      → RelaxedTo g r a u mask c all key n n d d work work
-  relaxed-none fits e = rw e (record {
+  pub relaxed-none : mask < 2 ^ 32 → RelaxedTo g r a u mask c all key n n d d work work
+  relaxed-none fits = rw (Q .open-rows) (record {
     ready = B .ready;
     grown = grown-refl (g .size) n key d work;
     small = omega (arith, and-le-l mask (c .rows));
@@ -221,7 +226,7 @@ module _ {g : Graph} {r : Rows} {shifts : List ℕ} {c : Class} {a p key n : ℕ
       pub relaxed-more : {o : ℕ} {d″ work″ : List ℕ} → Given x key s o d′ d″ work′ work″
           → RelaxedTo g r a u mask c (bitAnd rest (rest - 1)) key n o d d″ work work″
       relaxed-more {o} {d″} {work″} G =
-          let O = offered (P .ready) far-inside (row .listed) goes (walk-at vertex (row .cost) (B .walk)) G in
+          let O = offered (P .ready) far-inside (row .listed) goes (walk-at (Q .vertex) (row .cost) (B .walk)) G in
           let below = key-low (P .ready) in record {
             ready = O .ready;
             grown = grown-trans below (P .grown) (O .grown);
@@ -238,12 +243,12 @@ module _ {g : Graph} {r : Rows} {shifts : List ℕ} {c : Class} {a p key n : ℕ
                 (λ q. inr (omega (arith, O .grown .same-cost w (omega arith)))) (P .relaxed m w M lt st);
           }
 
-    pub relaxed-all : stepOf (lowestEnd rest u shifts) ≡ Off → Relaxed g r a (entry work p) c key n s d d′ work work′
+    pub relaxed-all : stepOf (lowestEnd rest u shifts) ≡ Off → Relaxed g r a u c key n s d d′ work work′
     relaxed-all off =
         let z = lowest-off u shifts rest (stepOf-off (lowestEnd rest u shifts) off) in
-        rw (← vertex) (record {
+        record {
           ready = P .ready;
           grown = P .grown;
           relaxed = λ m w M lt st. ⊎-elim (λ b. absurd (omega (arith, set-pos rest (rowAt r m) b))) (λ q. q)
               (P .relaxed m w M lt st);
-        })
+        }

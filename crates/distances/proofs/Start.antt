@@ -17,9 +17,9 @@ use lib.Seq.{getD-set-same, getD-set-other}
 use Rattle.basics.proofs.Order.{eq-or-ne}
 use Rattle.basics.proofs.Bounded.{pick-no}
 use Rattle.moves.specs.declared.Rows.{Rows}
-use Rattle.masks.specs.declared.Class.{Class}
+use Rattle.offsets.specs.declared.Class.{Class}
 use Rattle.moves.specs.Moves.{rowAt}
-use Rattle.masks.specs.Classes.{Member, classAt}
+use Rattle.offsets.specs.Classes.{Member, classAt}
 use Rattle.masks.proofs.Bits.{set-pos}
 use Rattle.paths.specs.Graph.{Graph}
 use Rattle.paths.specs.Distance.{unreachable}

@@ -25,10 +25,10 @@ use Rattle.basics.proofs.Order.{le-or-lt, eq-or-ne}
 use Rattle.basics.proofs.Lists.{tabulate-of}
 use Rattle.basics.proofs.Bounded.{pick-yes, pick-no}
 use Rattle.moves.specs.declared.Rows.{Rows}
-use Rattle.masks.specs.declared.Class.{Class}
+use Rattle.offsets.specs.declared.Class.{Class}
 use Rattle.moves.specs.Moves.{rowAt}
-use Rattle.masks.specs.Masks.{maskedEnd, Movable, shiftedBy}
-use Rattle.masks.specs.Classes.{Member, classAt}
+use Rattle.offsets.specs.Offsets.{maskedEnd, Movable, shiftedBy}
+use Rattle.offsets.specs.Classes.{Member, classAt}
 use Rattle.masks.proofs.Bits.{set-pos}
 use Rattle.paths.specs.Graph.{Graph}
 use Rattle.paths.specs.Distance.{unreachable, distance}

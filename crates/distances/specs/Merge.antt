@@ -17,6 +17,7 @@
 --   KeyWalk g a u c key      == a walk from a to u and a move of cost c from there cost key together
 --   Grown ..                 == from n settled vertices to r, those added at cost key; all else is as it was
 --   Relaxing ..              == what the relaxing of a class of moves takes
+--   RelaxingRows ..          == the same, with the vertex at place p and its open rows in the class at hand
 --   Relaxed ..               == the far ends of the moves of class c from u cost at most key
 --   Passed ..                == what holds of one class and its position p in the order
 --   Merging ..               == what holds at each turn of the merge, of the classes l and their positions pos
@@ -27,14 +28,16 @@ use mathlib.Core.Path.{_≡_}
 use mathlib.Core.Bool.{true}
 use mathlib.Core.Option.{some}
 use mathlib.Core.List.{List, [], _∷_}
+use lib.Bits.{bitAnd}
 use lib.Dec.{ltb, eqb}
 use lib.ListN.{length, getD, set}
 use Rattle.basics.specs.Bounded.{pick}
-use Rattle.masks.specs.declared.Class.{Class}
+use Rattle.offsets.specs.declared.Class.{Class}
 use Rattle.moves.specs.declared.Rows.{Rows}
 use Rattle.moves.specs.Moves.{rowAt}
-use Rattle.masks.specs.Masks.{bit, maskedEnd, Movable, shiftedBy}
-use Rattle.masks.specs.Classes.{Member, classAt}
+use Rattle.masks.specs.Masks.{bit}
+use Rattle.offsets.specs.Offsets.{maskedEnd, Movable, shiftedBy}
+use Rattle.offsets.specs.Classes.{Member, classAt}
 use Rattle.paths.specs.Graph.{Graph, Lawful}
 use Rattle.paths.specs.Distance.{unreachable}
 use Rattle.paths.specs.Local.{entry}
@@ -138,6 +141,12 @@ pub record Relaxing (g : Graph) (r : Rows) (shifts : List ℕ) (c : Class) (a p 
   pub ready : Ready g a n key d work
   pub place : p < n
   pub walk : KeyWalk g a (entry work p) (c .cost) key
+
+pub record RelaxingRows (g : Graph) (r : Rows) (shifts : List ℕ) (c : Class) (a p u rows key n : ℕ) (d work : List ℕ)
+    : Type 0 where
+  pub relaxing : Relaxing g r shifts c a p key n d work
+  pub vertex : u ≡ entry work p
+  pub open-rows : rows ≡ bitAnd (maskAt (length d) work u) (c .rows)
 
 pub record Relaxed (g : Graph) (r : Rows) (a u : ℕ) (c : Class) (key n s : ℕ) (d d′ work work′ : List ℕ) : Type 0 where
   pub ready : Ready g a s key d′ work′

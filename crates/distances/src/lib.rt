@@ -39,8 +39,8 @@ pub fn costs_over_masks(
     requires { ⌜ MasksIn (floorOf w h (now map)) (now work) ⌝ }
     ensures { λ n. ⌜ OrderedCosts (floorOf w h (now (map .entry))) rows (a .0) n (now (d .exit)) (now (work .exit)) ⌝ }
 {
-    let shifts = masks::shifts_of(w);
-    let classes = masks::classes_of(rows);
+    let shifts = offsets::shifts_of(w);
+    let classes = offsets::classes_of(rows);
     merge::settle(&shifts, classes, a.0, d, work)
 }
 

@@ -10,10 +10,11 @@ ghost use Rattle.paths.specs.Graph.{Graph};
 ghost use Rattle.paths.specs.Local.{entry};
 ghost use Rattle.distances.specs.Order.{SettledCosts};
 ghost use Rattle.distances.specs.Merge.{costGiven, countGiven, Given, keyOf, Keyed, Lowest};
-ghost use Rattle.distances.specs.Merge.{Relaxing, Relaxed, Mergeable};
+ghost use Rattle.offsets.specs.declared.Class.{Class};
+ghost use Rattle.distances.specs.Merge.{Relaxing, RelaxingRows, Relaxed, Mergeable};
 use floor::Vertex;
-use masks::Class;
 use moves::Step;
+use offsets::Class;
 
 // A number of 32 bits as a usize.
 fn wide(x: u32) -> usize
@@ -54,9 +55,37 @@ fn offer(x: usize, key: u32, n: usize, d: &mut [u32], work: &mut [u32]) -> usize
     n + count_given(c)
 }
 
+// Gives the key to the far ends of some open rows of vertex u, the lowest first. `shifts` has by how much the move of each
+// row changes a vertex number; it is lent, since a table passed by value would be copied at each turn.
+fn relax_rows(
+    shifts: &[usize],
+    u: Vertex,
+    rows: u32,
+    key: u32,
+    n: usize,
+    d: &mut [u32],
+    work: &mut [u32],
+) -> usize
+    requires { ⌜ ((g : Graph) × (r : Rows) × (c : Class) × (a : ℕ) × (p : ℕ)
+        × RelaxingRows g r (now shifts) c a p (u .0) rows key n (now d) (now work)) ⌝ }
+    ensures { λ s. ⌜ ((g : Graph) → (r : Rows) → (c : Class) → (a : ℕ) → (p : ℕ)
+        → RelaxingRows g r (now (shifts .entry)) c a p (u .0) rows key n (now (d .entry)) (now (work .entry))
+        → Relaxed g r a (u .0) c key n s (now (d .entry)) (now (d .exit)) (now (work .entry)) (now (work .exit))) ⌝ }
+{
+    let mut k = n;
+    let mut rest = rows;
+    loop {
+        let Step::To(x) = offsets::lowest_step(rest, u, shifts) else {
+            return k;
+        };
+        k = offer(x.0, key, k, d, work);
+        rest = rest & (rest - 1);
+    }
+}
+
 // Gives the key to the far ends of the open moves of a class from the vertex at place p of the order: of the rows whose
-// bit both the class and the vertex's mask have, the lowest first. `shifts` has by how much the move of each row
-// changes a vertex number; it is lent, since a table passed by value would be copied at each turn.
+// bit both the class and the vertex's mask have. Where the whole class is open, as on an open floor, its rows go to a call
+// of their own: that loop's number of turns is then always the same, which a processor foresees.
 fn relax_class(
     shifts: &[usize],
     class: Class,
@@ -74,16 +103,11 @@ fn relax_class(
         (now (work .entry)) (now (work .exit))) ⌝ }
 {
     let u = Vertex(wide(work[p]));
-    let mask = work[2 * d.len() + u.0];
-    let mut k = n;
-    let mut rest = mask & class.rows;
-    loop {
-        let Step::To(x) = masks::lowest_step(rest, u, shifts) else {
-            return k;
-        };
-        k = offer(x.0, key, k, d, work);
-        rest = rest & (rest - 1);
+    let open = work[2 * d.len() + u.0] & class.rows;
+    if open == class.rows {
+        return relax_rows(shifts, u, class.rows, key, n, d, work);
     }
+    relax_rows(shifts, u, open, key, n, d, work)
 }
 
 // The key of place p of the order for moves that cost c.

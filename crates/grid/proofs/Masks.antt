@@ -10,9 +10,10 @@ use Rattle.moves.specs.declared.Rows.{Rows}
 use Rattle.moves.specs.declared.Offset.{Offset}
 use Rattle.moves.specs.Moves.{rowAt, moveAt}
 use Rattle.moves.specs.Table.{lawfulRows}
-use Rattle.masks.specs.Masks.{OpenAt, offsetOf, maskedEnd, Movable}
+use Rattle.masks.specs.Masks.{OpenAt}
+use Rattle.offsets.specs.Offsets.{offsetOf, maskedEnd, Movable}
 use Rattle.moves.proofs.Table.{lawful-move}
-use Rattle.masks.proofs.Masked.{masked-open, masked-movable}
+use Rattle.offsets.proofs.Masked.{masked-open, masked-movable}
 use Rattle.grid.specs.Grid.{floorGraph}
 
 module _ (f : Floor) (r : Rows) (e : lawfulRows r ≡ true) (v n : ℕ)

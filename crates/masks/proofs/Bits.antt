@@ -1,9 +1,8 @@
 -- Bits of a number: those of two numbers, those of a test, and the lowest that is set.
 --
 --   bit-or                        == n | m has the bits that either has
---   bits-at, bits-lt              == the number made of a test's bits has those bits, and no others
+--   bits-at                       == the number made of a test's bits has those bits, and no others
 --   one-shifted                   == a one shifted up
---   bit-up, bit-low               == the bits of a number, four places up
 --   set-both, set-left, set-right == n & m has the bits that both have
 --   set-pos                       == a number with a bit set is not 0
 --   set-below                     == no bit is set past a number's length
@@ -17,7 +16,7 @@ use native.Mathlib.Omega.{arith}
 use native.Mathlib.Nat.{div-one, div-le-self, div-lt-iff-lt-mul, div-div-eq-div-mul, pow-suc, one-mul, zero-div, zero-lt-suc}
 use borrow.Author.Tests.{eqb-true, eq-eqb, ne-eqb, lt-ltb, le-ltb}
 use lib.Pow.{shl-exact}
-use lib.Bits.{bitAnd, and-shr, and-mod, and-comm, and-zero-l, bitOr, or-shr, or-mod, or-lt}
+use lib.Bits.{bitAnd, and-shr, and-mod, and-comm, and-zero-l, bitOr, or-shr, or-mod}
 use lib.Count.{trailingZeros, under}
 use lib.Dec.{eqb, ltb}
 use lib.Pow.{pow-pos, pow-mono}
@@ -126,7 +125,7 @@ or-small (suc (suc x)) y p q = absurd (omega arith)
 or-small zero (suc (suc y)) p q = absurd (omega arith)
 or-small (suc zero) (suc (suc y)) p q = absurd (omega arith)
 
-pub bit-or : (a b k : ℕ) → bit (bitOr a b) k ≡ (bit a k || bit b k)
+bit-or : (a b k : ℕ) → bit (bitOr a b) k ≡ (bit a k || bit b k)
 bit-or a b k =
     ap (λ x. eqb x 1) (ap (λ (x : ℕ). x % 2) (or-shr a b k) ∙ or-mod (a / 2 ^ k) (b / 2 ^ k) 1)
     ∙ or-small (digit a k) (digit b k) (omega arith) (omega arith)
@@ -181,36 +180,6 @@ module _ (p : ℕ → Bool) where
       (le-or-lt (suc n) k))
       (le-or-lt (suc k) n)
 
-  pub bits-lt : (n : ℕ) → bitsOf n p < 2 ^ n
-  unfolding bitsOf
-  bits-lt zero = omega arith
-  bits-lt (suc n) =
-      let d = pow-suc 2 n in
-      or-lt (suc n) (bitsOf n p) (pick (p n) (2 ^ n) 0) (omega (arith, bits-lt n)) (row-lt (p n))
-    where
-      row-lt : (t : Bool) → pick t (2 ^ n) 0 < 2 ^ suc n
-      row-lt true = omega (arith, pow-suc 2 n, pow-pos n)
-      row-lt false = pow-pos (suc n)
-
 -- A one shifted up, as the machine has it.
 pub one-shifted : (row k : ℕ) → row ≡ k → row < 8 → 1 * 2 ^ row % 4294967296 ≡ 2 ^ k
 one-shifted row k e l = shl-exact {a = 1} 1 row 32 (omega arith) (omega arith) ∙ one-mul (2 ^ row) ∙ ap (λ x. 2 ^ x) e
-
--- ---- four places up
-
-pub bit-up : (a k : ℕ) → bit (a * 16) (k + 4) ≡ bit a k
-bit-up a k =
-    let e : k + 4 ≡ suc (suc (suc (suc k))) = omega arith in
-    let h : a * 16 / 2 / 2 / 2 / 2 ≡ a = omega arith in
-    ap (bit (a * 16)) e ∙ half-bit (a * 16) (suc (suc (suc k))) ∙ half-bit (a * 16 / 2) (suc (suc k))
-    ∙ half-bit (a * 16 / 2 / 2) (suc k) ∙ half-bit (a * 16 / 2 / 2 / 2) k ∙ ap (λ x. bit x k) h
-
-pub bit-low : (a k : ℕ) → k < 4 → bit (a * 16) k ≡ false
-bit-low a zero l = low-bit (a * 16) (omega arith)
-bit-low a (suc zero) l = half-bit (a * 16) 0 ∙ low-bit (a * 16 / 2) (omega arith)
-bit-low a (suc (suc zero)) l =
-    half-bit (a * 16) 1 ∙ half-bit (a * 16 / 2) 0 ∙ low-bit (a * 16 / 2 / 2) (omega arith)
-bit-low a (suc (suc (suc zero))) l =
-    half-bit (a * 16) 2 ∙ half-bit (a * 16 / 2) 1 ∙ half-bit (a * 16 / 2 / 2) 0
-    ∙ low-bit (a * 16 / 2 / 2 / 2) (omega arith)
-bit-low a (suc (suc (suc (suc k)))) l = absurd (omega arith)

@@ -1,5 +1,2 @@
 pub mod Bits
 pub mod Masks
-pub mod Masked
-pub mod Turned
-pub mod Classes

@@ -1,37 +1,37 @@
--- The mask of a vertex's open moves, from the tests of its moves; and the vertices in turn.
+-- The mask of a vertex's open moves, from the tests of its moves; and the masks of all vertices.
 --
 --   same-offsets  == whether a move is open depends on its offsets alone
 --   bit-shut, bit-open == the bit of a move, from what its test answers
 --   row-short, row-tested == the test of a row, and its bit
+--   rows-tested   == the bits of all rows
 --   mask-all      == the bits of all rows, each tested, are the mask
---   mask-halves   == so are those of the first half, tested, with the first half turned round as the second
---   sweep-.., next-..  == the sweep over the vertices
-use Prim.Native.Nat.{ℕ, suc, _+_, _-_, _*_, _^_, _≤_, _<_}
+--   mask-number   == the mask of a vertex, by its number
+--   masks-none, -more, -fewer, -all == the masks of the vertices before one, stored one after the other
+use Prim.Native.Nat.{ℕ, suc, _^_, _≤_, _<_}
 use mathlib.Core.Path.{_≡_, refl, sym, ap, ap₂, _∙_}
 use mathlib.Core.Logic.{⊎-elim}
-use mathlib.Core.Bool.{Bool, false, _&&_, _||_, or-false}
+use mathlib.Core.Bool.{Bool}
+use mathlib.Core.List.{List}
 use native.Mathlib.Omega.{arith}
-use native.Mathlib.Numerals.{add-one}
-use borrow.Author.Tests.{lt-ltb, le-ltb}
+use borrow.Author.Tests.{lt-ltb}
 use mathlib.Core.Option.{Option, none, some}
 use Rattle.basics.specs.Bounded.{pick}
-use lib.Bits.{bitOr}
-use lib.Dec.{ltb}
+use lib.Bits.{bitOr, or-zero-l}
 use lib.IntN.{ℤ}
-use lib.ListN.{length}
+use lib.ListN.{length, set, length-set, getD}
+use lib.Seq.{getD-set-same, getD-set-other}
 use Rattle.basics.proofs.Order.{le-or-lt}
 use Rattle.floor.specs.declared.Vertex.{Vertex}
-use Rattle.floor.specs.Floor.{Floor, vertices, number, column, row}
-use Rattle.floor.proofs.Numbers.{column-number, row-number, row-le}
+use Rattle.floor.specs.Floor.{Floor, vertices, number}
+use Rattle.floor.proofs.Numbers.{column-number, row-number}
 use Rattle.moves.specs.declared.Move.{Move}
 use Rattle.moves.specs.Moves.{moves, moveOf, rowMove}
 use Rattle.moves.specs.declared.Step.the-variants.{To, Off}
 use Rattle.moves.specs.Table.{Short}
 use Rattle.moves.proofs.Table.{table-short}
 use Rattle.moves.specs.Steps.{farEndAt, openEndAt, stepOf}
-use Rattle.masks.specs.declared.Sweep.{Sweep}
-use Rattle.masks.specs.Masks.{bit, bitsOf, isSome, rowOpen, OpenMask, OpenAt, SweepAt, NextTo}
-use Rattle.masks.proofs.Bits.{bit-or, bits-at, bit-up, bit-low}
+use Rattle.masks.specs.Masks.{bit, bitsOf, isSome, rowOpen, OpenMask, OpenAt, MasksTo, OpenMasks}
+use Rattle.masks.proofs.Bits.{bits-at}
 
 pub same-offsets : (f : Floor) (m n : Move) (x y : ℕ) → m .dx ≡ n .dx → m .dy ≡ n .dy
     → openEndAt f m x y ≡ openEndAt f n x y
@@ -63,54 +63,46 @@ module _ (f : Floor) (x y : ℕ) where
   abbrev open? : ℕ → Bool
   open? = rowOpen f x y
 
+  -- The bit of row k.
+  abbrev row-bit : ℕ → ℕ
+  row-bit k = pick (open? k) (2 ^ k) 0
+
+  pub rows-tested : {a b c d e g h i : ℕ} → a ≡ row-bit 0 → b ≡ row-bit 1 → c ≡ row-bit 2 → d ≡ row-bit 3
+      → e ≡ row-bit 4 → g ≡ row-bit 5 → h ≡ row-bit 6 → i ≡ row-bit 7
+      → bitOr (bitOr (bitOr (bitOr (bitOr (bitOr (bitOr a b) c) d) e) g) h) i ≡ bitsOf (length moves) open?
+  unfolding bitsOf
+  rows-tested p0 p1 p2 p3 p4 p5 p6 p7 =
+      ap₂ bitOr
+      (ap₂ bitOr
+      (ap₂ bitOr (ap₂ bitOr (ap₂ bitOr (ap₂ bitOr (ap₂ bitOr (p0 ∙ sym (or-zero-l _)) p1) p2) p3) p4) p5) p6)
+      p7
+
   pub mask-all : (n : ℕ) → n ≡ bitsOf (length moves) open? → OpenMask f x y n
   mask-all n e = record {
     at = λ k l. ap (λ m. bit m k) e ∙ bits-at open? (length moves) k ∙ rw (lt-ltb k (length moves) l);
   }
 
-  module _ (q : ℕ → Bool) (turned : (j : ℕ) → j < 4 → q j ≡ open? (j + 4))
-      (a t : ℕ) (ahead : a ≡ bitsOf 4 open?) (back : t ≡ bitsOf 4 q) where
-    ahead-low : (k : ℕ) → k < 4 → bit a k ≡ open? k
-    ahead-low k l = ap (λ m. bit m k) ahead ∙ bits-at open? 4 k ∙ rw (lt-ltb k 4 l)
+-- ---- the masks of all vertices, stored one after the other
 
-    ahead-high : (k : ℕ) → 4 ≤ k → bit a k ≡ false
-    ahead-high k l = ap (λ m. bit m k) ahead ∙ bits-at open? 4 k ∙ rw (le-ltb k 4 l)
+-- The mask of the vertex (x, y), by its number.
+pub mask-number : (f : Floor) (x y : ℕ) {n : ℕ} → x ≤ f .wide → OpenMask f x y n → OpenAt f (number (f .wide) x y) n
+mask-number f x y l m = rw (column-number (f .wide) x y l, row-number (f .wide) x y l) m
 
-    back-high : (j : ℕ) → j < 4 → bit (t * 16) (j + 4) ≡ open? (j + 4)
-    back-high j l =
-        let e : bit t j ≡ q j = ap (λ m. bit m j) back ∙ bits-at q 4 j ∙ rw (lt-ltb j 4 l) in
-        bit-up t j ∙ e ∙ turned j l
+pub masks-none : {f : Floor} {l : List ℕ} → length l ≡ vertices (f .wide) (f .high) → MasksTo f 0 l
+masks-none e = record { len = e; at = λ v h. absurd (omega arith) }
 
-    low : (k : ℕ) → k < 4 → bit (bitOr a (t * 16)) k ≡ open? k
-    low k l = bit-or a (t * 16) k ∙ ap₂ _||_ (ahead-low k l) (bit-low t k l) ∙ or-false (open? k)
+pub masks-more : {f : Floor} {v p m : ℕ} {l : List ℕ} → p ≡ v → MasksTo f v l → v < vertices (f .wide) (f .high)
+    → OpenAt f v m → MasksTo f (suc v) (set l p m)
+masks-more {f} {v} {p} {m} {l} is M i o = rw is (record {
+  len = length-set l v m ∙ M .len;
+  at = λ u h. ⊎-elim (λ (lt : suc u ≤ v). rw (getD-set-other l v u m 0 (λ e. omega arith)) (M .at u lt))
+      (λ (ge : v < suc u).
+      let e : u ≡ v = omega arith in
+      rw (e, getD-set-same l v m 0 (omega (arith, M .len))) o) (le-or-lt (suc u) v);
+})
 
-    high : (j : ℕ) → j < 4 → bit (bitOr a (t * 16)) (j + 4) ≡ open? (j + 4)
-    high j l = bit-or a (t * 16) (j + 4) ∙ ap₂ _||_ (ahead-high (j + 4) (omega arith)) (back-high j l)
+pub masks-fewer : {f : Floor} {n m : ℕ} {l : List ℕ} → MasksTo f n l → m ≤ n → MasksTo f m l
+masks-fewer M h = record { len = M .len; at = λ v i. M .at v (omega arith) }
 
-    pub mask-halves : OpenMask f x y (bitOr a (t * 16))
-    mask-halves = record {
-      at = λ k l. ⊎-elim
-          (λ (ge : 4 ≤ k). let e : k - 4 + 4 ≡ k = omega arith in rw e at (high (k - 4) (omega arith)))
-          (λ (lt : k < 4). low k lt) (le-or-lt 4 k);
-    }
-
--- ---- the vertices in turn
-
-module _ {f : Floor} {v : ℕ} {s : Sweep} (S : SweepAt f v s) where
-  sweep-column : column (f .wide) v ≡ s .x
-  sweep-column = ap (column (f .wide)) (S .at) ∙ column-number (f .wide) (s .x) (s .y) (S .column-in)
-
-  sweep-row : row (f .wide) v ≡ s .y
-  sweep-row = ap (row (f .wide)) (S .at) ∙ row-number (f .wide) (s .x) (s .y) (S .column-in)
-
-  pub sweep-high : v < vertices (f .wide) (f .high) → s .y ≤ f .high
-  sweep-high i = omega (arith, sweep-row, row-le (f .wide) (f .high) v i)
-
-  pub sweep-mask : {n : ℕ} → OpenMask f (s .x) (s .y) n → OpenAt f v n
-  sweep-mask m = rw (sweep-column, sweep-row) m
-
-  pub sweep-open : (k : ℕ) → rowOpen f (column (f .wide) v) (row (f .wide) v) k ≡ rowOpen f (s .x) (s .y) k
-  sweep-open k = rw (sweep-column, sweep-row)
-
-  pub sweep-moves : {t : Sweep} → NextTo (f .wide) s t → SweepAt f (v + 1) t
-  sweep-moves n = record { column-in = n .column-in; at = ap (λ u. u + 1) (S .at) ∙ sym (n .at) }
+pub masks-all : {f : Floor} {v : ℕ} {l : List ℕ} → MasksTo f v l → vertices (f .wide) (f .high) ≤ v → OpenMasks f l
+masks-all M h = record { len = M .len; at = λ u i. M .at u (omega arith) }

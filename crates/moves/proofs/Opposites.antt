@@ -5,18 +5,16 @@
 --   goes-inside       == which is a vertex
 --   goes-dx, goes-dy  == the same two ends give the same offsets
 --   goes-back         == the opposite offsets lead back
---   goes-later        == the first half of the table leads to higher vertex numbers
-use Prim.Native.Nat.{ℕ, zero, suc, _*_, _≤_, _<_}
+use Prim.Native.Nat.{ℕ, _<_}
 use mathlib.Core.Path.{_≡_, sym, ap, _∙_}
 use mathlib.Core.Option.{some}
 use native.Mathlib.Omega.{arith}
-use Rattle.floor.specs.Floor.{Floor, vertices, number, column, row}
+use Rattle.floor.specs.Floor.{Floor, vertices, column, row}
 use Rattle.floor.proofs.Numbers.{number-lt, number-of, column-le, row-le, column-number, row-number}
 use Rattle.sight.specs.Sight.{segmentOf}
 use Rattle.sight.proofs.Symmetry.{sees-back}
 use Rattle.moves.specs.declared.Move.{Move}
-use Rattle.moves.specs.Moves.{rowMove}
-use Rattle.moves.specs.Steps.{up, down, openEnd}
+use Rattle.moves.specs.Steps.{openEnd}
 use Rattle.moves.proofs.Table.{Turned, offset-eq}
 use Rattle.moves.proofs.Steps.{Goes, open-goes}
 
@@ -69,11 +67,3 @@ module _ (f : Floor) where
     vertex = sym (number-of W u);
     seen = rw (goes-column m u w g, goes-row m u w g) (sees-back f (segmentOf (X u) (Y u) (g .i) (g .j)) ∙ g .seen);
   }
-
-pub goes-later : (f : Floor) (k x y w : ℕ) → k < 4 → x ≤ f .wide → Goes f (rowMove k) x y w → number (f .wide) x y < w
-unfolding up down
-goes-later f zero x y w l h g = omega (arith, g .vertex, g .columns .moved, ap (λ z. z * suc (f .wide)) (g .rows .moved))
-goes-later f (suc zero) x y w l h g = omega (arith, g .vertex, g .columns .moved, ap (λ z. z * suc (f .wide)) (g .rows .moved))
-goes-later f (suc (suc zero)) x y w l h g = omega (arith, g .vertex, g .columns .moved, ap (λ z. z * suc (f .wide)) (g .rows .moved))
-goes-later f (suc (suc (suc zero))) x y w l h g = omega (arith, g .vertex, g .columns .moved, ap (λ z. z * suc (f .wide)) (g .rows .moved))
-goes-later f (suc (suc (suc (suc k)))) x y w l h g = absurd (omega arith)

@@ -5,7 +5,6 @@
 --   listed-lawful        == the rows of a neighbourhood pass the test
 --   listed-few           == they are no more than the table has
 --   table-short          == every row of the table is short
---   table-turned         == the second half of the table is the first turned round, row by row
 --   offset-eq            == an offset is known by where it leads
 use Prim.Native.Nat.{ℕ, zero, suc, _+_, _*_, _≤_, _<_}
 use mathlib.Core.Path.{_≡_, refl, ap, ap₂}
@@ -150,22 +149,3 @@ pub table-short : (k : ℕ) → k < length moves → Short (rowMove k)
 table-short k l =
     let e : 0 + 1 * k ≡ k = omega arith in
     rw e at (lawful-move (rowsOf 0 1 8) k whole-lawful l .is-short)
-
--- The second half of the table is the first turned round.
-pub record RowsTurned (k : ℕ) : Type 0 where
-  pub dx : Turned (rowMove (k + 4) .dx) (rowMove k .dx)
-  pub dy : Turned (rowMove (k + 4) .dy) (rowMove k .dy)
-
-abbrev turnedTest : ℕ → Bool
-turnedTest k = turned (rowMove (k + 4) .dx) (rowMove k .dx) && turned (rowMove (k + 4) .dy) (rowMove k .dy)
-
-pub table-turned : (k : ℕ) → k < 4 → RowsTurned k
-unfolding bounded-opened turned up down
-table-turned k l =
-    let e : every 4 turnedTest ≡ true = refl in
-    let t = every-at 4 turnedTest e k l in
-    let a = rowMove (k + 4) in
-    let b = rowMove k in
-    let p = turned (a .dx) (b .dx) in
-    let q = turned (a .dy) (b .dy) in
-    record { dx = turned-true (a .dx) (b .dx) (and-left p q t); dy = turned-true (a .dy) (b .dy) (and-right p q t) }

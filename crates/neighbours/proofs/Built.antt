@@ -16,7 +16,8 @@ use Rattle.moves.specs.declared.Offset.{Offset}
 use Rattle.moves.specs.declared.Rows.{Rows}
 use Rattle.moves.specs.Moves.{rowAt, moveAt}
 use Rattle.moves.specs.Table.{Listed}
-use Rattle.masks.specs.Masks.{OpenAt, offsetOf, maskedEnd, Movable}
+use Rattle.masks.specs.Masks.{OpenAt}
+use Rattle.offsets.specs.Offsets.{offsetOf, maskedEnd, Movable}
 use Rattle.moves.proofs.Table.{listed-lawful}
 use Rattle.paths.specs.Graph.{Graph}
 use Rattle.paths.specs.Local.{entry}

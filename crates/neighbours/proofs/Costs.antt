@@ -1,13 +1,15 @@
 -- A loop over the moves of a vertex that tests its cost.
 --
 --   CostScan g D v k t   == of the moves from v the first k are relaxed, and t says whether one of them is tight
+--   scan-start, -off, -goes, -fails == the moves, tested one after the other: a shut one, an open one, one that fails
+--   scan-end             == the test of the cost, once every move is passed
 use Prim.Native.Nat.{ℕ, _+_, _≤_, _<_}
 use mathlib.Core.Path.{_≡_, refl, sym, ap, _∙_}
-use mathlib.Core.Bool.{Bool, true, false, _&&_, _||_}
+use mathlib.Core.Bool.{Bool, true, false, _||_, and-false}
 use mathlib.Core.Option.{none, some}
 use native.Mathlib.Omega.{arith}
 use native.Mathlib.Numerals.{add-one}
-use borrow.Author.Tests.{eq-eqb, ne-eqb, le-leb, lt-leb}
+use borrow.Author.Tests.{le-leb, lt-leb}
 use lib.Dec.{leb, eqb}
 use Rattle.basics.specs.Bounded.{every, any}
 use Rattle.basics.proofs.Bools.{and-intro}
@@ -25,10 +27,6 @@ pub record CostScan (g : Graph) (D : ℕ → ℕ) (v k : ℕ) (t : Bool) : Type 
 or-false : (t s : Bool) → s ≡ false → t ≡ (t || s)
 or-false true s e = refl
 or-false false s e = sym e
-
-or-true : (t s : Bool) → s ≡ true → true ≡ (t || s)
-or-true true s e = refl
-or-true false s e = sym e
 
 module _ {g : Graph} {D : ℕ → ℕ} {v : ℕ} where
   pub scan-start : CostScan g D v 0 false
@@ -51,49 +49,28 @@ module _ {g : Graph} {D : ℕ → ℕ} {v : ℕ} where
   scan-off {k} {t} h l e = more h l (rw (e, relaxedBy)) (or-false t (tightBy g D v k) (rw (e, tightBy)))
 
   module _ {k : ℕ} {t : Bool} (w : ℕ) (h : CostScan g D v k t) (l : k < g .moves) (goes : g .step k v ≡ some w) where
-    pub scan-slack : D w ≤ D v + g .cost k → (D w + g .cost k ≡ D v → ⊥) → CostScan g D v (k + 1) t
+    -- The move as the code reads it: the costs here and there, and its own.
+    pub scan-goes : {s : Bool} {here there c : ℕ} → here ≡ D v → there ≡ D w → c ≡ g .cost k → there ≤ here + c
+        → s ≡ (t || eqb (there + c) here) → CostScan g D v (k + 1) s
     unfolding relaxedBy tightBy if-there is-there
-    scan-slack r ne =
-        more h l (rw (goes, relaxedBy) (le-leb (D w) (D v + g .cost k) r))
-        (or-false t (tightBy g D v k) (rw (goes, tightBy) (ne-eqb (D w + g .cost k) (D v) ne)))
-
-    pub scan-tight : D w ≤ D v + g .cost k → D w + g .cost k ≡ D v → CostScan g D v (k + 1) true
-    unfolding relaxedBy tightBy if-there is-there
-    scan-tight r e =
-        more h l (rw (goes, relaxedBy) (le-leb (D w) (D v + g .cost k) r))
-        (or-true t (tightBy g D v k) (rw (goes, tightBy) (eq-eqb (D w + g .cost k) (D v) e)))
+    scan-goes {s} p q r le e =
+        let f : s ≡ (t || eqb (D w + g .cost k) (D v)) = rw (p, q, r) at e in
+        more h l (rw (goes, relaxedBy) (le-leb (D w) (D v + g .cost k) (omega arith))) (rw (goes, tightBy) f)
 
     not-relaxed : D v + g .cost k < D w → relaxed g D v ≡ false
     unfolding relaxed relaxedBy if-there
     not-relaxed lt = every-fails (g .moves) k (relaxedBy g D v) l
         (rw (goes, relaxedBy) (lt-leb (D w) (D v + g .cost k) lt))
 
-    pub scan-fails : (a : ℕ) → D v + g .cost k < D w → false ≡ rightCost g a D v
+    pub scan-fails : (a : ℕ) → D v + g .cost k < D w → rightCost g a D v ≡ false
     unfolding rightCost
-    scan-fails a lt = sym (rw (not-relaxed lt, rightCost) (and-false (leb (D v) unreachable)))
-      where
-        and-false : (b : Bool) → (b && false) ≡ false
-        and-false true = refl
-        and-false false = refl
+    scan-fails a lt = rw (not-relaxed lt, rightCost) (and-false (leb (D v) unreachable))
 
-  module _ {k : ℕ} {t : Bool} (a : ℕ) (h : CostScan g D v k t) (l : g .moves ≤ k) (fits : D v ≤ unreachable) where
-    at-end : rightCost g a D v ≡ (eqb (D v) unreachable || (eqb v a || t))
-    unfolding rightCost relaxed tight relaxedBy tightBy
-    at-end =
-        let e : k ≡ g .moves = omega (arith, h .within) in
-        let r : relaxed g D v ≡ true = rw e at (h .all) in
-        let q : tight g D v ≡ t = sym (rw e at (h .one)) in
-        rw (le-leb (D v) unreachable fits, r, q)
-
-    pub scan-unreached : D v ≡ unreachable → true ≡ rightCost g a D v
-    scan-unreached e = sym (rw (at-end, eq-eqb (D v) unreachable e))
-
-    pub scan-source : v ≡ a → true ≡ rightCost g a D v
-    scan-source e = sym (rw (at-end, eq-eqb v a e) (or-t (eqb (D v) unreachable)))
-      where
-        or-t : (b : Bool) → (b || true) ≡ true
-        or-t true = refl
-        or-t false = refl
-
-    pub scan-end : (D v ≡ unreachable → ⊥) → (v ≡ a → ⊥) → t ≡ rightCost g a D v
-    scan-end ne na = sym (rw (at-end, ne-eqb (D v) unreachable ne, ne-eqb v a na))
+  pub scan-end : {k : ℕ} {t : Bool} (a : ℕ) → CostScan g D v k t → g .moves ≤ k → D v ≤ unreachable
+      → rightCost g a D v ≡ (eqb (D v) unreachable || (eqb v a || t))
+  unfolding rightCost relaxed tight relaxedBy tightBy
+  scan-end {k} {t} a h l fits =
+      let e : k ≡ g .moves = omega (arith, h .within) in
+      let r : relaxed g D v ≡ true = rw e at (h .all) in
+      let q : tight g D v ≡ t = sym (rw e at (h .one)) in
+      rw (le-leb (D v) unreachable fits, r, q)

@@ -1,14 +1,17 @@
 // What the open moves of a vertex say of numbers that are kept for each vertex: costs, counts and the next vertex of
 // the central route.
 ghost use mathlib.Core.Path.{_≡_};
+ghost use mathlib.Core.Bool.{_||_};
 ghost use Prim.Native.Nat.{_<_, _≤_, _^_};
+ghost use lib.Dec.{eqb};
 ghost use lib.ListN.{length};
 ghost use Rattle.moves.specs.Steps.{stepOf};
-ghost use Rattle.masks.specs.Masks.{Movable, maskedEnd};
+ghost use Rattle.offsets.specs.Offsets.{Movable, maskedEnd};
 ghost use Rattle.moves.specs.Table.{Listed};
+ghost use Rattle.paths.specs.Distance.{unreachable};
 ghost use Rattle.paths.specs.Route.{onShortest};
-ghost use Rattle.paths.specs.Local.{entry, rightCost, inflow};
-ghost use Rattle.neighbours.specs.Reach.{by, tableOf, star, Lent, Here, Built, sumOf};
+ghost use Rattle.paths.specs.Local.{entry, inflow};
+ghost use Rattle.neighbours.specs.Reach.{by, tableOf, star, Lent, Here, Built, rightBoth, sumOf};
 ghost use Rattle.neighbours.specs.Choice.{Choosing, Counted, followsBy, traversalOf, nextOf};
 use floor::Vertex;
 use moves::Offset;
@@ -46,12 +49,32 @@ fn cost_at(d: &[u32], v: usize) -> u64
     wide(d[v])
 }
 
+// One of the two holds.
+fn either(p: bool, q: bool) -> bool
+    ensures { λ r. ⌜ r ≡ (p || q) ⌝ }
+{
+    if p {
+        return true;
+    }
+    q
+}
+
+// The cost of a vertex has a reason: the vertex is unreached, or the source, or a move to it is tight.
+fn settled(cost: u32, source: bool, tight: bool) -> bool
+    ensures { λ r. ⌜ r ≡ (eqb cost unreachable || (source || tight)) ⌝ }
+{
+    if cost == paths::UNREACHABLE {
+        return true;
+    }
+    either(source, tight)
+}
+
 // Where the move of a row leads from v, by the mask of v's open moves and how far it leads up and down.
 fn neighbour(mask: u32, v: usize, row: usize, up: usize, down: usize) -> Step
     requires { ⌜ Movable mask v row (by up down) ⌝ }
     ensures { λ r. ⌜ r ≡ stepOf (maskedEnd mask v row (by up down)) ⌝ }
 {
-    masks::masked_step(mask, Vertex(v), row, Offset { up: up, down: down })
+    offsets::masked_step(mask, Vertex(v), row, Offset { up: up, down: down })
 }
 
 // The moves of the rows of a neighbourhood on floors of width w.
@@ -67,7 +90,7 @@ pub fn reach_of(w: usize, rows: Rows) -> Reach
         cost: [0; 8],
     };
     for m in 0..rows.count {
-        let by = masks::offset_of(w, rows, m);
+        let by = offsets::offset_of(w, rows, m);
         t.row[m] = moves::row_at(rows, m);
         t.up[m] = by.up;
         t.down[m] = by.down;
@@ -79,48 +102,53 @@ pub fn reach_of(w: usize, rows: Rows) -> Reach
 // The loops below read the moves of a Reach from its lists, lent one by one: a Reach passed by value would be copied at
 // each call.
 
-// The cost d(v) is right from the source, as far as v and its neighbours can tell.
-pub fn cost_right(
+// The costs d(v) from a and e(v) from b are right, as far as v and its neighbours can tell. One loop over the moves
+// tests both, and answers at the first neighbour that is too dear.
+pub fn costs_right(
     count: usize,
     row: &[usize],
     up: &[usize],
     down: &[usize],
     cost: &[u32],
     mask: u32,
-    source: usize,
+    a: usize,
+    b: usize,
     d: &[u32],
+    e: &[u32],
     v: usize,
 ) -> bool
     requires { ⌜ Lent (tableOf count (now row) (now up) (now down) (now cost))
-        × Here (length (now d)) (tableOf count (now row) (now up) (now down) (now cost)) mask v ⌝ }
-    ensures { λ r. ⌜ r ≡ rightCost
+        × Here (length (now d)) (tableOf count (now row) (now up) (now down) (now cost)) mask v
+        × (length (now e) ≡ length (now d)) ⌝ }
+    ensures { λ r. ⌜ r ≡ rightBoth
         (star (length (now (d .entry)))
         (tableOf count (now (row .entry)) (now (up .entry)) (now (down .entry)) (now (cost .entry))) mask)
-        source (entry (now (d .entry))) v ⌝ }
+        a b (entry (now (d .entry))) (entry (now (e .entry))) v ⌝ }
 {
-    let here = cost_at(d, v);
-    let mut tight = false;
+    let d_here = cost_at(d, v);
+    let e_here = cost_at(e, v);
+    let mut d_tight = false;
+    let mut e_tight = false;
     for m in 0..count {
         let Step::To(w) = neighbour(mask, v, row[m], up[m], down[m]) else {
             continue;
         };
-        let there = cost_at(d, w.0);
+        let d_there = cost_at(d, w.0);
+        let e_there = cost_at(e, w.0);
         let c = wide(cost[m]);
-        if here + c < there {
+        if d_here + c < d_there {
             return false;
         }
-        if there + c != here {
-            continue;
+        if e_here + c < e_there {
+            return false;
         }
-        tight = true;
+        d_tight = either(d_tight, d_there + c == d_here);
+        e_tight = either(e_tight, e_there + c == e_here);
     }
-    if d[v] == paths::UNREACHABLE {
-        return true;
+    if !settled(d[v], v == a, d_tight) {
+        return false;
     }
-    if v == source {
-        return true;
-    }
-    tight
+    settled(e[v], v == b, e_tight)
 }
 
 // The sum of the counts f of the neighbours of v that lead to it cheapest, by the costs d.

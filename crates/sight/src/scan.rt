@@ -40,13 +40,16 @@ fn start_at(a: usize, b: usize, k: usize) -> usize
     a - k
 }
 
-// The step along column line x that ends on row line y is not shut: one of the cells beside it is open.
+// The step along column line x that ends on row line y is not shut: one of the cells beside it is open. Both are read in
+// any case, so that no branch hangs on a cell.
 pub fn upright_open(w: usize, h: usize, map: &[u8], x: usize, y: usize) -> bool
     requires { ⌜ Sized w h (now map) × (x ≤ w) ⌝ }
     ensures { λ r. ⌜ r ≡ uprightTo (floorOf w h (now (map .entry))) x y ⌝ }
 {
-    if floor::blocked_at(w, h, map, x, y) {
-        return !floor::blocked_at(w, h, map, x + 1, y);
+    let left = floor::blocked_at(w, h, map, x, y);
+    let right = floor::blocked_at(w, h, map, x + 1, y);
+    if left {
+        return !right;
     }
     true
 }
@@ -56,8 +59,10 @@ pub fn level_open(w: usize, h: usize, map: &[u8], x: usize, y: usize) -> bool
     requires { ⌜ Sized w h (now map) × (y ≤ h) ⌝ }
     ensures { λ r. ⌜ r ≡ levelTo (floorOf w h (now (map .entry))) x y ⌝ }
 {
-    if floor::blocked_at(w, h, map, x, y) {
-        return !floor::blocked_at(w, h, map, x, y + 1);
+    let above = floor::blocked_at(w, h, map, x, y);
+    let below = floor::blocked_at(w, h, map, x, y + 1);
+    if above {
+        return !below;
     }
     true
 }

@@ -4,7 +4,7 @@ use mathlib.Core.Path.{_≡_, sym, ap, _∙_}
 use native.Mathlib.Omega.{arith}
 use Rattle.floor.specs.Floor.{floorOf, vertices, number}
 use Rattle.masks.specs.Masks.{MasksTo}
-use Rattle.masks.proofs.Turned.{masks-none, masks-all}
+use Rattle.masks.proofs.Masks.{masks-none, masks-all}
 use Rattle.masks.proofs.fill_masks.Statement.{statement}
 use Rattle.masks.proofs.fill_masks.Tie as tie
 

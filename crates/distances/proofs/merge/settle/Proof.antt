@@ -6,9 +6,9 @@ use mathlib.Core.Path.{_≡_, refl, sym, ap, _∙_}
 use mathlib.Core.List.{List, [], _∷_}
 use Prim.Native.Nat.{ℕ, _<_}
 use lib.ListN.{length, set, length-replicate}
-use Rattle.masks.specs.declared.Class.{Class}
+use Rattle.offsets.specs.declared.Class.{Class}
 use Rattle.moves.specs.declared.Rows.{Rows}
-use Rattle.masks.specs.Classes.{classAt}
+use Rattle.offsets.specs.Classes.{classAt}
 use Rattle.paths.specs.Graph.{Graph}
 use Rattle.paths.specs.Distance.{unreachable}
 use Rattle.distances.specs.Merge.{Mergeable, remaining}
