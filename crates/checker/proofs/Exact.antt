@@ -1,5 +1,6 @@
 -- The tests that the checker runs say the same as `verdict`.
 --
+--   costs-all, -at               == the test of a cost at every vertex is that of paths
 --   tests-numbers, numbers-tests == the tests of the costs and counts are `localNumbers`
 --   routeTest-local, noRouteTest-local == the tests of a whole sheet are `localRoute` and `localNoRoute`
 --   counts-fit                   == where they pass, the traversal counts fit 64 bits
@@ -11,6 +12,7 @@ use mathlib.Core.List.{List}
 use native.Mathlib.Omega.{arith}
 use borrow.Author.Tests.{lt-ltb, le-ltb, eq-eqb, ne-eqb, not-false}
 use lib.Dec.{ltb, eqb}
+use Rattle.basics.specs.Bounded.{every}
 use Rattle.basics.proofs.Bools.{iff-eq, and-intro, and-left, and-right}
 use Rattle.basics.proofs.Bounded.{every-all, every-at}
 use Rattle.moves.specs.declared.Rows.{Rows}
@@ -20,16 +22,25 @@ use Rattle.paths.specs.Sheet.{Sheet, sheetOf}
 use Rattle.paths.specs.Local.{rightCost, rightCosts, countAt, rightCounts, entry, localOn, localNumbers}
 use Rattle.paths.specs.Local.{localRoute, blankAt, localNoRoute}
 use Rattle.paths.proofs.SheetTest.{numbers-true, numbers-fit}
+use Rattle.neighbours.specs.Least.{rightCostIn}
+use Rattle.neighbours.proofs.Incoming.{costs-in}
 use Rattle.checker.specs.Tests.{countsTest, vertexTest, verticesTest, pointsTest, routeTest, noRouteTest}
 use Rattle.checker.specs.Tests.{Posed, FitCounts}
 use Rattle.checker.proofs.Chains.{fails, holds, fact-fails, fact-holds}
 
 -- ---- one vertex, and every vertex
 
+module _ {g : Graph} (L : Lawful g) (a : ℕ) (D : ℕ → ℕ) where
+  costs-all : ((v : ℕ) → v < g .size → rightCostIn g a D v ≡ true) → every (g .size) (rightCost g a D) ≡ true
+  costs-all h = sym (costs-in g L D a) ∙ every-all (g .size) (rightCostIn g a D) h
+
+  costs-at : every (g .size) (rightCost g a D) ≡ true → (v : ℕ) → v < g .size → rightCostIn g a D v ≡ true
+  costs-at t = every-at (g .size) (rightCostIn g a D) (costs-in g L D a ∙ t)
+
 -- What `vertexTest` has of a vertex of a route sheet.
 record RightAt (g : Graph) (a b : ℕ) (s : Sheet) (v : ℕ) : Type 0 where
-  d : rightCost g a (entry (s .d)) v ≡ true
-  e : rightCost g b (entry (s .e)) v ≡ true
+  d : rightCostIn g a (entry (s .d)) v ≡ true
+  e : rightCostIn g b (entry (s .e)) v ≡ true
   f : eqb (entry (s .f) v) (countAt g a (localOn b s) (entry (s .d)) (entry (s .f)) v) ≡ true
   b-is : eqb (entry (s .b) v) (countAt g b (localOn b s) (entry (s .e)) (entry (s .b)) v) ≡ true
 
@@ -37,8 +48,8 @@ module _ (g : Graph) (a b : ℕ) (s : Sheet) where
   right-at : (v : ℕ) → vertexTest true g a b s v ≡ true → RightAt g a b s v
   unfolding vertexTest countsTest
   right-at v t =
-      let d = rightCost g a (entry (s .d)) v in
-      let e = rightCost g b (entry (s .e)) v in
+      let d = rightCostIn g a (entry (s .d)) v in
+      let e = rightCostIn g b (entry (s .e)) v in
       let f = eqb (entry (s .f) v) (countAt g a (localOn b s) (entry (s .d)) (entry (s .f)) v) in
       let costs = and-left (d && e) _ t in
       let counts = and-right (d && e) _ t in
@@ -50,16 +61,15 @@ module _ (g : Graph) (a b : ℕ) (s : Sheet) where
 
   -- ---- the costs and counts of a route sheet
 
-  pub tests-numbers : ltb (entry (s .d) b) unreachable ≡ true → eqb (entry (s .d) a) 0 ≡ true → eqb
-      (entry (s .e) b) 0 ≡ true
-      → verticesTest true g a b s ≡ true → localNumbers g a b s ≡ true
+  pub tests-numbers : Lawful g → ltb (entry (s .d) b) unreachable ≡ true → eqb (entry (s .d) a) 0 ≡ true
+      → eqb (entry (s .e) b) 0 ≡ true → verticesTest true g a b s ≡ true → localNumbers g a b s ≡ true
   unfolding verticesTest localNumbers rightCosts rightCounts
-  tests-numbers reached start end all =
+  tests-numbers L reached start end all =
       let at : (v : ℕ) → v < g .size → RightAt g a b s v
       = λ v i. right-at v (every-at (g .size) (vertexTest true g a b s) all v i) in
-      and-intro _ _ (and-intro _ _ start (every-all (g .size) _ (λ v i. at v i .d)))
+      and-intro _ _ (and-intro _ _ start (costs-all L a (entry (s .d)) (λ v i. at v i .d)))
       (and-intro _ _ reached
-      (and-intro _ _ (and-intro _ _ end (every-all (g .size) _ (λ v i. at v i .e)))
+      (and-intro _ _ (and-intro _ _ end (costs-all L b (entry (s .e)) (λ v i. at v i .e)))
       (and-intro _ _ (every-all (g .size) _ (λ v i. at v i .f)) (every-all (g .size) _ (λ v i. at v i .b-is)))))
 
   -- The parts of `localNumbers`.
@@ -69,9 +79,9 @@ module _ (g : Graph) (a b : ℕ) (s : Sheet) where
     end : eqb (entry (s .e) b) 0 ≡ true
     all : verticesTest true g a b s ≡ true
 
-  numbers-tests : localNumbers g a b s ≡ true → Numbers
+  numbers-tests : Lawful g → localNumbers g a b s ≡ true → Numbers
   unfolding verticesTest localNumbers rightCosts rightCounts
-  numbers-tests t =
+  numbers-tests L t =
       let D = rightCosts g a (entry (s .d)) in
       let E = rightCosts g b (entry (s .e)) in
       let F = rightCounts g a (localOn b s) (entry (s .d)) (entry (s .f)) in
@@ -87,8 +97,8 @@ module _ (g : Graph) (a b : ℕ) (s : Sheet) where
         start = and-left (eqb (entry (s .d) a) 0) _ dd;
         end = and-left (eqb (entry (s .e) b) 0) _ ee;
         all = every-all (g .size) (vertexTest true g a b s) (λ v i. at-right v (record {
-          d = every-at (g .size) _ (and-right (eqb (entry (s .d) a) 0) _ dd) v i;
-          e = every-at (g .size) _ (and-right (eqb (entry (s .e) b) 0) _ ee) v i;
+          d = costs-at L a (entry (s .d)) (and-right (eqb (entry (s .d) a) 0) _ dd) v i;
+          e = costs-at L b (entry (s .e)) (and-right (eqb (entry (s .e) b) 0) _ ee) v i;
           f = every-at (g .size) _ (and-left F B t3) v i;
           b-is = every-at (g .size) _ (and-right F B t3) v i;
         }));
@@ -96,9 +106,9 @@ module _ (g : Graph) (a b : ℕ) (s : Sheet) where
 
   -- ---- whole sheets
 
-  pub routeTest-local : routeTest g a b s ≡ localRoute g a b s
+  pub routeTest-local : Lawful g → routeTest g a b s ≡ localRoute g a b s
   unfolding routeTest localRoute pointsTest
-  routeTest-local = iff-eq (routeTest g a b s) (localRoute g a b s) there back
+  routeTest-local L = iff-eq (routeTest g a b s) (localRoute g a b s) there back
     where
       there : routeTest g a b s ≡ true → localRoute g a b s ≡ true
       there t =
@@ -107,23 +117,23 @@ module _ (g : Graph) (a b : ℕ) (s : Sheet) where
           let t2 = and-right (eqb (entry (s .d) a) 0) _ t1 in
           let t3 = and-right (eqb (entry (s .e) b) 0) _ t2 in
           and-intro _ _
-          (tests-numbers (and-left near _ t) (and-left (eqb (entry (s .d) a) 0) _ t1)
+          (tests-numbers L (and-left near _ t) (and-left (eqb (entry (s .d) a) 0) _ t1)
           (and-left (eqb (entry (s .e) b) 0) _ t2)
           (and-left (verticesTest true g a b s) _ t3))
           (and-right (verticesTest true g a b s) _ t3)
 
       back : localRoute g a b s ≡ true → routeTest g a b s ≡ true
       back t =
-          let n = numbers-tests (and-left (localNumbers g a b s) _ t) in
+          let n = numbers-tests L (and-left (localNumbers g a b s) _ t) in
           and-intro _ _ (n .reached) (and-intro _ _ (n .start) (and-intro _ _ (n .end)
           (and-intro _ _ (n .all) (and-right (localNumbers g a b s) _ t))))
 
-  pub noRouteTest-local : noRouteTest g a b s ≡ localNoRoute g a b s
+  pub noRouteTest-local : Lawful g → noRouteTest g a b s ≡ localNoRoute g a b s
   unfolding noRouteTest localNoRoute rightCosts verticesTest vertexTest
-  noRouteTest-local = iff-eq (noRouteTest g a b s) (localNoRoute g a b s) there back
+  noRouteTest-local L = iff-eq (noRouteTest g a b s) (localNoRoute g a b s) there back
     where
       d : ℕ → Bool
-      d v = rightCost g a (entry (s .d)) v
+      d v = rightCostIn g a (entry (s .d)) v
 
       end : Bool
       end = eqb (entry (s .d) b) unreachable
@@ -140,7 +150,7 @@ module _ (g : Graph) (a b : ℕ) (s : Sheet) where
           let t2 = and-right none _ t1 in
           let all = every-at (g .size) (vertexTest false g a b s) (and-right start _ t2) in
           and-intro _ _ (and-intro _ _ (and-left start _ t2)
-          (every-all (g .size) d (λ v i. and-left (d v) _ (all v i))))
+          (costs-all L a (entry (s .d)) (λ v i. and-left (d v) _ (all v i))))
           (and-intro _ _ (and-left end _ t) (and-intro _ _ (and-left none _ t1)
           (every-all (g .size) (blankAt s) (λ v i. and-right (d v) _ (all v i)))))
 
@@ -151,7 +161,7 @@ module _ (g : Graph) (a b : ℕ) (s : Sheet) where
           let c = and-left (rightCosts g a (entry (s .d))) _ t in
           and-intro _ _ (and-left end _ t1) (and-intro _ _ (and-left none _ t2) (and-intro _ _ (and-left start _ c)
           (every-all (g .size) (vertexTest false g a b s) (λ v i.
-          and-intro _ _ (every-at (g .size) d (and-right start _ c) v i)
+          and-intro _ _ (costs-at L a (entry (s .d)) (and-right start _ c) v i)
           (every-at (g .size) (blankAt s) (and-right none _ t2) v i)))))
 
   -- ---- what the code finds in turn
@@ -186,7 +196,8 @@ module _ (g : Graph) (a b : ℕ) (s : Sheet) where
           pub counts-fit : Lawful g → a < g .size → b < g .size → entry (s .f) b < 2 ^ 64 → FitCounts (g .size) (s .f)
               (s .b)
           counts-fit L in-a in-b total =
-              let t = tests-numbers (lt-ltb _ _ near) (eq-eqb _ _ start) (eq-eqb _ _ end) (sym all ∙ not-false k f) in
+              let v = sym all ∙ not-false k f in
+              let t = tests-numbers L (lt-ltb _ _ near) (eq-eqb _ _ start) (eq-eqb _ _ end) v in
               let N = numbers-true g L a b in-a in-b s t in
               record { fit = λ v i. omega (arith, numbers-fit g L a b in-a in-b s N v i) }
 

@@ -11,7 +11,7 @@
 --   row-none, -more      == the vertices of a row before column x, tested one after the other
 --   RowsScan .. y        == the rows before y pass the test, on the floor of any rows that the table was built from
 --   rows-none, -stop, -more, -all == the rows, tested one after the other
---   posed-here, -vertex  == what the code knows at a vertex of a posed sheet
+--   posed-here, -vertex, -near == what the code knows at a vertex of a posed sheet
 use Prim.Native.Nat.{ℕ, zero, suc, _+_, _*_, _≤_, _<_}
 use mathlib.Core.Path.{_≡_, refl, sym, ap, ap₂, _∙_, subst}
 use mathlib.Core.Bool.{Bool, true, false, _&&_, not, and-true, and-false, and-assoc}
@@ -24,19 +24,24 @@ use lib.ListN.{length}
 use Rattle.basics.specs.Bounded.{every}
 use Rattle.basics.proofs.Scan.{Passed, passed-none, passed-stop, passed-more, passed-all}
 use Rattle.floor.specs.Floor.{Sized, floorOf, vertices, number}
-use Rattle.floor.proofs.Numbers.{number-lt}
+use Rattle.floor.proofs.Numbers.{vertices-le, number-lt}
 use Rattle.moves.specs.declared.Rows.{Rows}
 use Rattle.moves.specs.Table.{Listed, OnFloor}
 use Rattle.masks.specs.Masks.{OpenMask, OpenAt}
 use Rattle.masks.proofs.Masks.{mask-number}
+use Rattle.offsets.specs.declared.Class.{Class}
+use Rattle.offsets.specs.Offsets.{Shifts}
+use Rattle.offsets.specs.Classes.{Classes}
 use Rattle.paths.specs.Graph.{Graph}
 use Rattle.paths.specs.Sheet.{Sheet}
 use Rattle.paths.specs.Local.{entry, localOn}
 use Rattle.grid.specs.Grid.{floorGraph}
 use Rattle.neighbours.specs.declared.Reach.{Reach}
 use Rattle.neighbours.specs.Reach.{star, Lent, Here, Built}
-use Rattle.neighbours.proofs.Agree.{Agrees, rightCost-agrees, countAt-agrees}
+use Rattle.neighbours.specs.Least.{Near}
+use Rattle.neighbours.proofs.Agree.{Agrees, rightCostIn-agrees, countAt-agrees}
 use Rattle.neighbours.proofs.Built.{Faces, reach-faces}
+use Rattle.neighbours.proofs.Classed.{table-near}
 use Rattle.checker.specs.Tests.{numbersOf, countsTest, vertexTest, verticesTest, rowTest}
 use Rattle.checker.specs.Tests.{Posed, AtVertex, RowTested}
 
@@ -45,8 +50,8 @@ pub vertexTest-agrees : {g h : Graph} {v : ℕ} → Agrees g h v → (j : Bool) 
 unfolding vertexTest countsTest
 vertexTest-agrees q j a b s =
     rw (
-      rightCost-agrees q (entry (s .d)) a,
-      rightCost-agrees q (entry (s .e)) b,
+      rightCostIn-agrees q (entry (s .d)) a,
+      rightCostIn-agrees q (entry (s .e)) b,
       countAt-agrees q (entry (s .d)) a (localOn b s) (entry (s .f)),
       countAt-agrees q (entry (s .e)) b (localOn b s) (entry (s .b)),
     )
@@ -162,3 +167,10 @@ module _ {w h : ℕ} {l : List ℕ} {r : Rows} {a b : ℕ} {s : Sheet} (p : Pose
     f-len = p .shape .f ∙ sym (p .shape .d);
     b-len = p .shape .b ∙ sym (p .shape .d);
   }
+
+  pub posed-near : {t : Reach} {m : List ℕ} {c : List Class} {mask v : ℕ} → Built w r t → Shifts w m → Classes r c
+      → Faces (floorGraph (floorOf w h l) r) t mask v → Near (length (s .d)) m c mask v
+  posed-near {mask = mask} {v = v} built shifts classes k =
+      let z = p .job .floor in
+      table-near (p .job .listed) built shifts classes mask v (z .wide)
+      (omega (arith, k .here .vertex, vertices-le (z .wide) (z .high))) (posed-here k)

@@ -82,11 +82,11 @@ module _ (g : Graph) (a b : ℕ) (s : Sheet) where
         let p : routeGood ≡ routeTest g a b s
         = iff-eq routeGood (localRoute g a b s) (λ t. route .1 (accepts-route .0 t))
         (λ t. accepts-route .1 (route .0 t))
-        ∙ sym (routeTest-local g a b s) in
+        ∙ sym (routeTest-local g a b s L) in
         let q : noRouteGood ≡ noRouteTest g a b s
         = iff-eq noRouteGood (localNoRoute g a b s) (λ t. none .1 (accepts-noRoute .0 t))
         (λ t. accepts-noRoute .1 (none .0 t))
-        ∙ sym (noRouteTest-local g a b s) in
+        ∙ sym (noRouteTest-local g a b s L) in
         ap₂ answer p q
 
   -- ---- the three answers, exactly

@@ -5,19 +5,23 @@
 --   vertex-costs, -counts      == on a sheet with a route: what the tests of both costs and of both counts say of
 --                                 `vertexTest`
 --   vertex-cost, -blank        == on a sheet without one: what the tests of the cost and of the numbers that are 0 say
-use Prim.Native.Nat.{ℕ}
-use mathlib.Core.Path.{_≡_, refl, ap, _∙_}
-use mathlib.Core.Bool.{Bool, true, false, not, and-self}
+use Prim.Native.Nat.{ℕ, _≤_}
+use mathlib.Core.Path.{_≡_, refl, sym, ap, ap₂, _∙_}
+use mathlib.Core.Bool.{Bool, true, false, _&&_, not}
 use mathlib.Core.List.{List}
 use lib.Dec.{eqb}
 use lib.ListN.{length}
+use Rattle.offsets.specs.declared.Class.{Class}
 use Rattle.paths.specs.Graph.{Graph}
+use Rattle.paths.specs.Distance.{unreachable}
 use Rattle.paths.specs.Route.{onShortest}
 use Rattle.paths.specs.Sheet.{Sheet, sheetOf}
-use Rattle.paths.specs.Local.{rightCost, countAt, entry, localOn, blankAt}
+use Rattle.paths.specs.Local.{countAt, entry, localOn, blankAt}
 use Rattle.neighbours.specs.declared.Reach.{Reach}
-use Rattle.neighbours.specs.Reach.{star, rightBoth}
+use Rattle.neighbours.specs.Reach.{star}
+use Rattle.neighbours.specs.Least.{rightCostIn, rightNear, ClassMoves}
 use Rattle.neighbours.proofs.Agree.{Agrees, countAt-agrees}
+use Rattle.neighbours.proofs.Least.{least-right}
 use Rattle.checker.specs.Tests.{numbersOf, blankOf, countsTest, vertexTest}
 use Rattle.checker.proofs.Chains.{fails, holds}
 
@@ -52,12 +56,20 @@ module _ (t : Reach) (mask a b : ℕ) (d e f back : List ℕ) (v : ℕ) where
         (countAt-agrees (star-agrees (length e) (length d) t mask v) (entry e) b (λ u. o) (entry back)
         ∙ count-on g b (entry e) (entry back)))
 
-module _ (g : Graph) (j : Bool) (a b : ℕ) (d e f back route : List ℕ) (v : ℕ) where
+-- A sheet whose numbers at v are tested in turn, where the moves of the graph from v are those of the classes.
+module _ (g : Graph) (j : Bool) (a b : ℕ) (d e f back route : List ℕ) (v : ℕ) {shifts : List ℕ} {classes : List Class}
+    {mask : ℕ} (C : ClassMoves g shifts classes mask v) (small : entry d v ≤ unreachable) where
   abbrev s : Sheet
   s = sheetOf d e f back route 0
 
+  abbrev near : ℕ → List ℕ → Bool
+  near c l = rightNear shifts classes mask c (entry l) v
+
   -- A sheet with a route.
-  module _ (with : j ≡ true) {k : Bool} (costs : k ≡ rightBoth g a b (entry d) (entry e) v) where
+  module _ (with : j ≡ true) (small-e : entry e v ≤ unreachable) {k : Bool} (found : k ≡ (near a d && near b e)) where
+    costs : k ≡ (rightCostIn g a (entry d) v && rightCostIn g b (entry e) v)
+    costs = found ∙ sym (ap₂ _&&_ (least-right C (entry d) small a) (least-right C (entry e) small-e b))
+
     pub vertex-costs : not k ≡ true → false ≡ vertexTest j g a b s v
     unfolding vertexTest
     vertex-costs t = rw with (fails costs _ t)
@@ -67,10 +79,10 @@ module _ (g : Graph) (j : Bool) (a b : ℕ) (d e f back route : List ℕ) (v : �
     unfolding vertexTest countsTest localOn
     vertex-counts t q = rw with (holds costs t q)
 
-  -- A sheet without one: its cost is tested twice.
-  module _ (without : j ≡ false) {k : Bool} (twice : k ≡ rightBoth g a a (entry d) (entry d) v) where
-    cost : k ≡ rightCost g a (entry d) v
-    cost = twice ∙ and-self (rightCost g a (entry d) v)
+  -- A sheet without one.
+  module _ (without : j ≡ false) {k : Bool} (found : k ≡ near a d) where
+    cost : k ≡ rightCostIn g a (entry d) v
+    cost = found ∙ sym (least-right C (entry d) small a)
 
     pub vertex-cost : not k ≡ true → false ≡ vertexTest j g a b s v
     unfolding vertexTest

@@ -15,7 +15,8 @@
 --   Fitting w h l r a b      == a job whose floor, neighbourhood and ends have a good shape
 --   Posed w h l r a b s      == the same with a sheet whose slices have a place for each vertex
 --   AtVertex t mask b s v    == the moves from v can be read, and the slices of s have a place for v
---   AtRow w h l t a b s y    == row y of the floor of a posed sheet, with the table t of the job's moves
+--   AtRow w h l t m c a b s y == row y of the floor of a posed sheet, with the job's moves as the table t, as the shifts m
+--                               and as the classes c
 --   RowTested .. t .. y n k  == k says whether `rowTest` holds, on the floor of any rows that t was built from
 --   FitCounts n f b          == the traversal counts of the vertices below n fit 64 bits
 --   Routing w h l r t b s    == the route of a posed sheet can be walked
@@ -29,13 +30,17 @@ use Rattle.basics.specs.Bounded.{pick, every}
 use Rattle.floor.specs.Floor.{Sized, floorOf, vertices, number}
 use Rattle.moves.specs.declared.Rows.{Rows}
 use Rattle.moves.specs.Table.{Listed}
+use Rattle.offsets.specs.declared.Class.{Class}
+use Rattle.offsets.specs.Offsets.{Shifts}
+use Rattle.offsets.specs.Classes.{Classes}
 use Rattle.paths.specs.Graph.{Graph}
 use Rattle.paths.specs.Distance.{unreachable}
 use Rattle.paths.specs.Sheet.{Sheet, sheetOf}
-use Rattle.paths.specs.Local.{rightCost, countAt, rightPoint, rightRoute, entry, Shaped, localOn, localNext, blankAt}
+use Rattle.paths.specs.Local.{countAt, rightPoint, rightRoute, entry, Shaped, localOn, localNext, blankAt}
 use Rattle.grid.specs.Grid.{floorGraph}
 use Rattle.neighbours.specs.declared.Reach.{Reach}
-use Rattle.neighbours.specs.Reach.{Lent, Here, Built, rightBoth}
+use Rattle.neighbours.specs.Reach.{Lent, Here, Built}
+use Rattle.neighbours.specs.Least.{rightCostIn}
 use Rattle.neighbours.specs.Choice.{traversalOf}
 
 abbrev pub numbersOf : List ℕ → List ℕ → List ℕ → List ℕ → Sheet
@@ -51,8 +56,8 @@ countsTest g a b s v =
 
 unfoldable pub vertexTest : Bool → Graph → ℕ → ℕ → Sheet → ℕ → Bool
 vertexTest j g a b s v =
-    pick j (rightBoth g a b (entry (s .d)) (entry (s .e)) v && countsTest g a b s v)
-    (rightCost g a (entry (s .d)) v && blankAt s v)
+    pick j ((rightCostIn g a (entry (s .d)) v && rightCostIn g b (entry (s .e)) v) && countsTest g a b s v)
+    (rightCostIn g a (entry (s .d)) v && blankAt s v)
 
 unfoldable pub verticesTest : Bool → Graph → ℕ → ℕ → Sheet → Bool
 verticesTest j g a b s = every (g .size) (vertexTest j g a b s)
@@ -96,10 +101,13 @@ pub record AtVertex (t : Reach) (mask b : ℕ) (s : Sheet) (v : ℕ) : Type 0 wh
   pub f-len : length (s .f) ≡ length (s .d)
   pub b-len : length (s .b) ≡ length (s .d)
 
-pub record AtRow (w h : ℕ) (l : List ℕ) (t : Reach) (a b : ℕ) (s : Sheet) (y : ℕ) : Type 0 where
+pub record AtRow (w h : ℕ) (l : List ℕ) (t : Reach) (m : List ℕ) (c : List Class) (a b : ℕ) (s : Sheet)
+    (y : ℕ) : Type 0 where
   pub rows : Rows
   pub posed : Posed w h l rows a b s
   pub built : Built w rows t
+  pub shifts : Shifts w m
+  pub classes : Classes rows c
   pub row : y ≤ h
 
 pub record RowTested (w h : ℕ) (l : List ℕ) (t : Reach) (j : Bool) (a b : ℕ) (s : Sheet) (y n : ℕ)

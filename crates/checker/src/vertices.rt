@@ -8,11 +8,13 @@ ghost use Rattle.paths.specs.Local.{entry, countAt, blankAt};
 ghost use Rattle.paths.specs.Sheet.{sheetOf};
 ghost use Rattle.grid.specs.Grid.{floorGraph};
 ghost use Rattle.neighbours.specs.Reach.{tableOf, star, Lent, Here};
+ghost use Rattle.neighbours.specs.Least.{Near, ClassMoves};
 ghost use Rattle.checker.specs.Tests.{numbersOf, blankOf, countsTest, vertexTest, verticesTest};
 ghost use Rattle.checker.specs.Tests.{Posed, AtVertex, AtRow, RowTested};
 use floor::Vertex;
 use moves::Rows;
 use neighbours::Sum;
+use offsets::Class;
 
 // The count f(v) from the source is right, as far as v and its neighbours can tell; `on` says whether v is on the way.
 // A sum that does not fit 64 bits is no number of the sheet.
@@ -99,8 +101,10 @@ fn blank_at(e: &[u32], f: &[u64], back: &[u64], route: &[u16], v: usize) -> bool
 }
 
 // The numbers of v are right, by the kind of the sheet, with a route where `joined` holds. A sheet without one has the
-// cost from a alone, and the loop that tests two costs takes it for both.
+// cost from a alone. The costs are tested by the shifts and classes of the moves, and the counts by their table.
 fn vertex_right(
+    shifts: &[usize],
+    classes: [Class; 2],
     count: usize,
     row: &[usize],
     up: &[usize],
@@ -118,19 +122,22 @@ fn vertex_right(
     v: usize,
 ) -> bool
     requires { ⌜ AtVertex (tableOf count (now row) (now up) (now down) (now cost)) mask b
-        (numbersOf (now d) (now e) (now f) (now back)) v × (length (now route) ≡ length (now d)) ⌝ }
+        (numbersOf (now d) (now e) (now f) (now back)) v
+        × Near (length (now d)) (now shifts) classes mask v
+        × ClassMoves (star (length (now d)) (tableOf count (now row) (now up) (now down) (now cost)) mask)
+        (now shifts) classes mask v × (length (now route) ≡ length (now d)) ⌝ }
     ensures { λ r. ⌜ r ≡ vertexTest joined
         (star (length (now (d .entry)))
         (tableOf count (now (row .entry)) (now (up .entry)) (now (down .entry)) (now (cost .entry))) mask) a b
         (sheetOf (now (d .entry)) (now (e .entry)) (now (f .entry)) (now (back .entry)) (now (route .entry)) 0) v ⌝ }
 {
     if joined {
-        if !neighbours::costs_right(count, row, up, down, cost, mask, a, b, d, e, v) {
+        if !neighbours::costs_right(shifts, classes, mask, a, b, d, e, v) {
             return false;
         }
         return counts_right(count, row, up, down, cost, mask, a, b, d, e, f, back, v);
     }
-    if !neighbours::costs_right(count, row, up, down, cost, mask, a, a, d, d, v) {
+    if !neighbours::cost_right(shifts, classes, mask, a, d, v) {
         return false;
     }
     blank_at(e, f, back, route, v)
@@ -139,6 +146,8 @@ fn vertex_right(
 // The numbers of the vertices of row y are right. Each is looked at, also after one that is false: a way out of the loop
 // makes every turn slower.
 fn row_right(
+    shifts: &[usize],
+    classes: [Class; 2],
     count: usize,
     row: &[usize],
     up: &[usize],
@@ -157,7 +166,7 @@ fn row_right(
     route: &[u16],
     y: usize,
 ) -> bool
-    requires { ⌜ AtRow w h (now map) (tableOf count (now row) (now up) (now down) (now cost)) a b
+    requires { ⌜ AtRow w h (now map) (tableOf count (now row) (now up) (now down) (now cost)) (now shifts) classes a b
         (sheetOf (now d) (now e) (now f) (now back) (now route) 0) y ⌝ }
     ensures { λ r. ⌜ RowTested w h (now (map .entry))
         (tableOf count (now (row .entry)) (now (up .entry)) (now (down .entry)) (now (cost .entry))) joined a b
@@ -169,6 +178,8 @@ fn row_right(
     for x in 0..w + 1 {
         let mask = masks::open_from(w, h, map, x, y);
         if !vertex_right(
+            shifts,
+            classes,
             count,
             row,
             up,
@@ -213,6 +224,8 @@ pub fn vertices_right(
 {
     let start = a.0;
     let goal = b.0;
+    let shifts = offsets::shifts_of(w);
+    let classes = offsets::classes_of(rows);
     let t = neighbours::reach_of(w, rows);
     let count = t.count;
     let row = t.row;
@@ -221,6 +234,8 @@ pub fn vertices_right(
     let cost = t.cost;
     for y in 0..h + 1 {
         if !row_right(
+            &shifts,
+            classes,
             count,
             &row,
             &up,

@@ -85,7 +85,8 @@ module _ {g : Graph} {t : Reach} {a b n k : ℕ} {d e work work′ : List ℕ} (
   even-way u i =
       onShortest-sum (entry d) (entry e) b u (omega (arith, from-at b (K .goal-in), K .reached))
       ∙ shortest-same (entry d) (distance g a) (entry e) (λ v. distance g v b) b u (from-at u i)
-      (back-at u i ∙ distance-sym g (K .lawful) b u (K .goal-in) i) (from-at b (K .goal-in)) ∙ way-turn g (K .lawful) a b u (K .start-in) (K .goal-in) i
+      (back-at u i ∙ distance-sym g (K .lawful) b u (K .goal-in) i) (from-at b (K .goal-in))
+      ∙ way-turn g (K .lawful) a b u (K .start-in) (K .goal-in) i
 
   order-kept : WayOrder g b a k (entry work′)
   order-kept = record {

@@ -84,7 +84,7 @@ module _ (f : Floor) (n : ℕ) (work masks : List ℕ) (count : n ≡ vertices (
 
 pub classes-of : (f : Floor) {r : Rows} {l : List Class} → Classes r l → CostClasses (floorGraph f r) r l
 classes-of f C = record {
-  each = λ k h. let c = C .each k h in record { high = c .high; same = c .same; found = c .found };
+  each = λ k h. let c = C .each k h in record { high = c .high; move = c .move };
   covers = C .covers;
 }
 

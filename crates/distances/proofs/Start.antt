@@ -3,8 +3,9 @@
 --   start-rest      == past the order the working slice is as it was
 --   mergeable-start == where the merge could start, it can go on with the source settled
 --   merging-start   == the invariant before the first turn
---   three-first     == three positions at 0, where their classes have moves
---   three-classes   == the classes of an array, read one by one
+--   First v c p     == p is where the position of class c starts: at 0, or past v vertices for a class of no move
+--   two-first       == so are two positions
+--   classes-read    == the classes of an array, read one by one
 use Prim.Native.Nat.{ℕ, zero, suc, _*_, _≤_, _<_}
 use mathlib.Core.Path.{_≡_, refl, sym, ap, _∙_, subst}
 use mathlib.Core.Logic.{⊎-elim}
@@ -18,9 +19,7 @@ use Rattle.basics.proofs.Order.{eq-or-ne}
 use Rattle.basics.proofs.Bounded.{pick-no}
 use Rattle.moves.specs.declared.Rows.{Rows}
 use Rattle.offsets.specs.declared.Class.{Class}
-use Rattle.moves.specs.Moves.{rowAt}
 use Rattle.offsets.specs.Classes.{Member, classAt}
-use Rattle.masks.proofs.Bits.{set-pos}
 use Rattle.paths.specs.Graph.{Graph}
 use Rattle.paths.specs.Distance.{unreachable}
 use Rattle.paths.specs.Local.{entry}
@@ -28,6 +27,10 @@ use Rattle.paths.proofs.Listing.{HasWalk, stop}
 use Rattle.distances.specs.Merge.{reached, OneCost, CostClasses, Settled, Merging, Mergeable}
 use Rattle.distances.proofs.Store.{reached-set}
 use Rattle.distances.proofs.Turn.{steps-same}
+
+pub record First (v : ℕ) (c : Class) (p : ℕ) : Type 0 where
+  pub zeroth : 0 < c .cost → p ≡ 0
+  pub past : c .cost ≡ 0 → p ≡ v
 
 reached-none : (n : ℕ) → reached (replicate n unreachable) ≡ 0
 unfolding reached
@@ -79,7 +82,6 @@ module _ (g : Graph) (a : ℕ) (work : List ℕ) (few : g .size ≤ 16384) (i : 
       inside = λ j h. omega (arith, place-0 j h);
       placed = λ j h. omega (arith, cost-0 j h);
       found = λ u h lt. (0, omega arith, place-0 0 (omega arith) ∙ sym (only-a u h lt));
-      once = λ j k h l e. omega arith;
       rising = λ j k le h. omega (arith, cost-0 j (omega arith), cost-0 k h);
     };
     at-most = λ u h.
@@ -91,13 +93,14 @@ module _ (g : Graph) (a : ℕ) (work : List ℕ) (few : g .size ≤ 16384) (i : 
   }
 
   merging-first : (r : Rows) (l : List Class) (pos d : List ℕ) → d ≡ none
-      → ((k : ℕ) → k < 3 → 0 < classAt l k .rows → getD pos k 0 ≡ 0)
+      → ((k : ℕ) → k < 2 → First (g .size) (classAt l k) (getD pos k 0))
       → Merging g r a 1 l pos (set d a 0) work₀ work₀
   merging-first r l pos d e firsts = rw e (record {
     settled = settled-start;
     passed = λ k h. record {
-      room = λ f. omega (arith, firsts k h f);
-      relaxed = λ j m w p M lt. absurd (omega (arith, firsts k h (set-pos (classAt l k .rows) (rowAt r m) M)));
+      unused = λ z. omega (arith, firsts k h .past z);
+      room = λ f. omega (arith, firsts k h .zeroth f);
+      relaxed = λ f j m w p M lt. absurd (omega (arith, firsts k h .zeroth f));
       pending = λ j h p. omega (arith, cost-0 j h);
     };
     rest = λ j h. refl;
@@ -106,48 +109,47 @@ module _ (g : Graph) (a : ℕ) (work : List ℕ) (few : g .size ≤ 16384) (i : 
 pub start-rest : {v : ℕ} (work : List ℕ) (a j : ℕ) → v < j → entry (set work 0 a) j ≡ entry work j
 start-rest work a j h = getD-set-other work 0 j a 0 (λ e. omega arith)
 
-pub three-first : (c₀ c₁ c₂ : Class) (p q r : ℕ) → (0 < c₀ .rows → p ≡ 0) → (0 < c₁ .rows → q ≡ 0)
-    → (0 < c₂ .rows → r ≡ 0)
-    → (k : ℕ) → k < 3 → 0 < classAt (c₀ ∷ c₁ ∷ c₂ ∷ []) k .rows → getD (p ∷ q ∷ r ∷ []) k 0 ≡ 0
-three-first c₀ c₁ c₂ p q r x y z zero h f = x f
-three-first c₀ c₁ c₂ p q r x y z (suc zero) h f = y f
-three-first c₀ c₁ c₂ p q r x y z (suc (suc zero)) h f = z f
-three-first c₀ c₁ c₂ p q r x y z (suc (suc (suc k))) h f = absurd (omega arith)
+pub two-first : {v : ℕ} (c₀ c₁ : Class) (p q : ℕ) → First v c₀ p → First v c₁ q
+    → (k : ℕ) → k < 2 → First v (classAt (c₀ ∷ c₁ ∷ []) k) (getD (p ∷ q ∷ []) k 0)
+two-first c₀ c₁ p q x y zero h = x
+two-first c₀ c₁ p q x y (suc zero) h = y
+two-first c₀ c₁ p q x y (suc (suc k)) h = absurd (omega arith)
 
 -- the classes of an array, read one by one
-three-classes : {g : Graph} {r : Rows} {l : List Class} → CostClasses g r l
-    → CostClasses g r (classAt l 0 ∷ classAt l 1 ∷ classAt l 2 ∷ [])
-three-classes {g} {r} {l} C = record {
+classes-read : {g : Graph} {r : Rows} {l : List Class} → CostClasses g r l
+    → CostClasses g r (classAt l 0 ∷ classAt l 1 ∷ [])
+classes-read {g} {r} {l} C = record {
   each = λ k h. subst (OneCost g r) (sym (same k h)) (C .each k h);
   covers = λ m lt. let q = C .covers m lt in
-      (q .0, q .1, subst (λ c. Member r c m) (sym (same (q .0) (q .1))) (q .2));
+      let e = sym (same (q .0) (q .1)) in
+      (q .0, q .1, subst (λ c. Member r c m) e (q .2), subst (λ (c : Class). g .cost m ≡ c .cost) e (q .3));
 }
   where
-    same : (k : ℕ) → k < 3 → classAt (classAt l 0 ∷ classAt l 1 ∷ classAt l 2 ∷ []) k ≡ classAt l k
+    same : (k : ℕ) → k < 2 → classAt (classAt l 0 ∷ classAt l 1 ∷ []) k ≡ classAt l k
     same zero h = refl
     same (suc zero) h = refl
-    same (suc (suc zero)) h = refl
-    same (suc (suc (suc k))) h = absurd (omega arith)
+    same (suc (suc k)) h = absurd (omega arith)
 
 module _ {g : Graph} {r : Rows} {shifts : List ℕ} {l : List Class} {a : ℕ} where
   pub mergeable-start : {d work : List ℕ} (d′ : List ℕ) → Mergeable g r shifts l a d work → length d′ ≡ length d
-      → Mergeable g r shifts (classAt l 0 ∷ classAt l 1 ∷ classAt l 2 ∷ []) a (set d′ a 0) (set work 0 a)
+      → Mergeable g r shifts (classAt l 0 ∷ classAt l 1 ∷ []) a (set d′ a 0) (set work 0 a)
   mergeable-start {work = work} d′ M same = record {
     few = M .few;
     lawful = M .lawful;
     table = M .table;
     steps = steps-same (M .steps) (start-rest work a);
-    classes = three-classes (M .classes);
+    classes = classes-read (M .classes);
     source = M .source;
     d-len = length-set d′ a 0 ∙ same ∙ M .d-len;
     work-len = length-set work 0 a ∙ M .work-len;
   }
 
   pub merging-start : (v : ℕ) (pos d work : List ℕ) → Mergeable g r shifts l a (set d a 0) (set work 0 a)
-      → d ≡ replicate v unreachable → ((k : ℕ) → k < 3 → 0 < classAt l k .rows → getD pos k 0 ≡ 0)
+      → d ≡ replicate v unreachable → ((k : ℕ) → k < 2 → First (length (set d a 0)) (classAt l k) (getD pos k 0))
       → Merging g r a 1 l pos (set d a 0) (set work 0 a) (set work 0 a)
   merging-start v pos d work M e firsts =
       let size : v ≡ g .size =
       sym (length-replicate v unreachable) ∙ sym (ap length e) ∙ sym (length-set d a 0) ∙ M .d-len in
       merging-first g a work (M .few) (M .source) (sym (length-set work 0 a) ∙ M .work-len) r l pos d
-      (e ∙ ap (λ (k : ℕ). replicate k unreachable) size) firsts
+      (e ∙ ap (λ (k : ℕ). replicate k unreachable) size)
+      (λ k h. subst (λ z. First z (classAt l k) (getD pos k 0)) (M .d-len) (firsts k h))

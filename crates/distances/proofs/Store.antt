@@ -123,12 +123,6 @@ module _ (g : Graph) (a n key w : ℕ) (d work : List ℕ) (R : Ready g a n key 
     found = λ u k h. ⊎-elim (λ e. (n, omega arith, at-n ∙ sym e))
         (λ ne. let r = S .found u k (omega (arith, off-w u ne)) in
         (r .0, omega (arith, r .1), off-n (r .0) (r .1) ∙ r .2)) (eq-or-ne u w);
-    once = λ j k hj hk e. ⊎-elim
-        (λ lj. ⊎-elim (λ lk. S .once j k lj lk (sym (off-n j lj) ∙ e ∙ off-n k lk))
-        (λ ek. absurd (old j lj (sym (off-n j lj) ∙ e ∙ place-at k ek))) (last k n hk))
-        (λ ej. ⊎-elim (λ lk. absurd (old k lk (sym (off-n k lk) ∙ sym e ∙ place-at j ej))) (λ ek. omega arith)
-        (last k n hk))
-        (last j n hj);
     rising = λ j k le h. ⊎-elim
         (λ lk. omega (arith, cost-old k lk, cost-old j (omega arith), S .rising j k le lk))
         (λ ek. ⊎-elim (λ lj. omega (arith, cost-old j lj, cost-at k ek, R .under j lj))
@@ -190,7 +184,6 @@ module _ {g : Graph} {a n key : ℕ} {d work : List ℕ} (R : Ready g a n key d 
     inside = λ j h. omega (arith, early j h, O .inside j h);
     placed = λ j h. omega (arith, early-cost j h, O .placed j h);
     found = λ u i h. let r = O .found u i h in (r .0, r .1, early (r .0) (r .1) ∙ r .2);
-    once = λ i j h k e. O .once i j h k (sym (early i h) ∙ e ∙ early j k);
     rising = λ i j le h. omega (arith, early-cost i (omega arith), early-cost j h, O .rising i j le h);
   }
 

@@ -2,14 +2,16 @@
 --
 --   key-in, key-out       == the key of a place that is settled, and of one that is not
 --   keyed                 == the keys can be worked out
+--   key-most              == and are at most `unreachable`
 --   steps-same            == masks past the order are as they were, so they give the same steps
 --   passed-same           == a position that stays
 --   passed-next           == the position that moves on by one
 --   Least ..              == position k has the least key
---   least-of              == so has the one that `lowest` finds
+--   Keys ..               == the keys of both positions, as the code works them out
+--   least-of              == so has the one whose key is at most both
 --   MergingOn ..          == `Merging` on any graph and rows that the merge can run on: the invariant of the loop
 --   Turn ..               == what a turn of class k takes and leaves: the invariant again, and a lower measure
---   turn                  == so is the turn of the least key
+--   turn                  == the turn of the position with the least key is such a turn
 --   filled                == at the end every position has passed every settled vertex, so the costs are the distances
 use Prim.Native.Nat.{ℕ, zero, suc, _+_, _*_, _≤_, _<_}
 use mathlib.Core.Path.{_≡_, sym, ap, _∙_, subst}
@@ -29,7 +31,6 @@ use Rattle.offsets.specs.declared.Class.{Class}
 use Rattle.moves.specs.Moves.{rowAt}
 use Rattle.offsets.specs.Offsets.{maskedEnd, Movable, shiftedBy}
 use Rattle.offsets.specs.Classes.{Member, classAt}
-use Rattle.masks.proofs.Bits.{set-pos}
 use Rattle.paths.specs.Graph.{Graph}
 use Rattle.paths.specs.Distance.{unreachable, distance}
 use Rattle.paths.specs.Local.{entry}
@@ -57,6 +58,10 @@ keyed S = record {
   small = λ i h. omega (arith, S .bounded i h, settled-le S, S .few);
 }
 
+pub key-most : (n p c : ℕ) (d work : List ℕ) → Keyed n d work → c ≤ 4095 → keyOf n p c d work ≤ unreachable
+key-most n p c d work K low = ⊎-elim (λ h. omega (arith, key-in n p c d work h, K .small p h))
+    (λ h. omega (arith, key-out n p c d work (omega arith))) (le-or-lt (suc p) n)
+
 -- ---- the masks
 
 pub steps-same : {g : Graph} {r : Rows} {shifts work₀ work : List ℕ} → RowSteps g r shifts work₀
@@ -80,11 +85,11 @@ module _ {g : Graph} {a n s key : ℕ} {d d′ work work′ : List ℕ} (S : Set
   stays i h = ap (entry d′) (G .same-order i h) ∙ G .same-cost (entry work i) (S .ordered .placed i h)
 
   module _ {r : Rows} {c : Class} {p : ℕ} (c-low : c .cost ≤ 4095) (P : Passed g r n c p d work) where
-    relaxed-on : (i m w : ℕ) → i < p → Member r c m → m < g .moves → g .step m (entry work′ i) ≡ some w
+    relaxed-on : 0 < c .cost → (i m w : ℕ) → i < p → Member r c m → m < g .moves → g .step m (entry work′ i) ≡ some w
         → entry d′ w ≤ entry d′ (entry work′ i) + c .cost
-    relaxed-on i m w h M lt st =
-        let l : i < n = omega (arith, P .room (set-pos (c .rows) (rowAt r m) M)) in
-        let was = P .relaxed i m w h M lt (ap (λ z. g .step m z) (sym (G .same-order i l)) ∙ st) in
+    relaxed-on f i m w h M lt st =
+        let l : i < n = omega (arith, P .room f) in
+        let was = P .relaxed f i m w h M lt (ap (λ z. g .step m z) (sym (G .same-order i l)) ∙ st) in
         let b = S .bounded i l in
         let v = S .few in
         let e = settled-le S in
@@ -92,6 +97,7 @@ module _ {g : Graph} {a n s key : ℕ} {d d′ work work′ : List ℕ} (S : Set
 
     pub passed-same : key ≤ keyOf n p (c .cost) d work → Passed g r s c p d′ work′
     passed-same le = record {
+      unused = P .unused;
       room = λ f. omega (arith, P .room f, G .more);
       relaxed = relaxed-on;
       pending = λ i h k. let u = R .under i h in ⊎-elim
@@ -103,8 +109,9 @@ module _ {g : Graph} {a n s key : ℕ} {d d′ work work′ : List ℕ} (S : Set
         → ((m w : ℕ) → Member r c m → m < g .moves → g .step m (entry work p) ≡ some w → entry d′ w ≤ key)
         → Passed g r s c (p + 1) d′ work′
     passed-next lt is done = record {
+      unused = λ z. omega (arith, P .unused z);
       room = λ f. omega (arith, G .more);
-      relaxed = λ i m w h M t st. ⊎-elim (λ q. relaxed-on i m w q M t st)
+      relaxed = λ f i m w h M t st. ⊎-elim (λ q. relaxed-on f i m w q M t st)
           (λ q. let j : i < n = omega arith in
           let o : entry work′ i ≡ entry work p = G .same-order i j ∙ ap (entry work) q in
           let low = done m w M t (ap (λ z. g .step m z) (sym o) ∙ st) in
@@ -116,26 +123,24 @@ module _ {g : Graph} {a n s key : ℕ} {d d′ work work′ : List ℕ} (S : Set
 -- ---- the least key
 
 pub record Least (n k key : ℕ) (l : List Class) (pos d work : List ℕ) : Type 0 where
-  pub one : k < 3
+  pub one : k < 2
   pub is : key ≡ keyOf n (getD pos k 0) (classAt l k .cost) d work
-  pub least : (j : ℕ) → j < 3 → key ≤ keyOf n (getD pos j 0) (classAt l j .cost) d work
+  pub least : (j : ℕ) → j < 2 → key ≤ keyOf n (getD pos j 0) (classAt l j .cost) d work
 
--- The three keys, as the code works them out.
-pub record Keys (n k0 k1 k2 : ℕ) (l : List Class) (pos d work : List ℕ) : Type 0 where
+-- The two keys, as the code works them out.
+pub record Keys (n k0 k1 : ℕ) (l : List Class) (pos d work : List ℕ) : Type 0 where
   pub at-0 : k0 ≡ keyOf n (getD pos 0 0) (classAt l 0 .cost) d work
   pub at-1 : k1 ≡ keyOf n (getD pos 1 0) (classAt l 1 .cost) d work
-  pub at-2 : k2 ≡ keyOf n (getD pos 2 0) (classAt l 2 .cost) d work
 
-module _ {n k0 k1 k2 key : ℕ} {l : List Class} {pos d work : List ℕ} (K : Keys n k0 k1 k2 l pos d work) where
-  pub least-of : (k : ℕ) → k < 3 → key ≡ keyOf n (getD pos k 0) (classAt l k .cost) d work
-      → key ≤ k0 → key ≤ k1 → key ≤ k2 → Least n k key l pos d work
-  least-of k h is l0 l1 l2 = record { one = h; is = is; least = each }
+module _ {n k0 k1 key : ℕ} {l : List Class} {pos d work : List ℕ} (K : Keys n k0 k1 l pos d work) where
+  pub least-of : (k : ℕ) → k < 2 → key ≡ keyOf n (getD pos k 0) (classAt l k .cost) d work
+      → key ≤ k0 → key ≤ k1 → Least n k key l pos d work
+  least-of k h is l0 l1 = record { one = h; is = is; least = each }
     where
-      each : (j : ℕ) → j < 3 → key ≤ keyOf n (getD pos j 0) (classAt l j .cost) d work
+      each : (j : ℕ) → j < 2 → key ≤ keyOf n (getD pos j 0) (classAt l j .cost) d work
       each zero h = omega (arith, K .at-0)
       each (suc zero) h = omega (arith, K .at-1)
-      each (suc (suc zero)) h = omega (arith, K .at-2)
-      each (suc (suc (suc j))) h = absurd (omega arith)
+      each (suc (suc j)) h = absurd (omega arith)
 
 -- ---- the measure
 
@@ -186,12 +191,17 @@ module _ {g : Graph} {r : Rows} {shifts : List ℕ} {a n k key : ℕ} {l : List 
       one-cost : OneCost g r c
       one-cost = M .classes .each k (T .one)
 
+      used : 0 < c .cost
+      used = ⊎-elim (λ h. h)
+          (λ h. absurd (omega (arith, before-all, K .passed k (T .one) .unused (omega arith)))) (le-or-lt 1 (c .cost))
+
       relaxing : Relaxing g r shifts c a p key n d work
       relaxing = let S = K .settled in let i = S .ordered .inside p before-end in record {
         lawful = M .lawful;
         table = M .table;
         steps = steps-same (M .steps) (K .rest);
         class = one-cost;
+        used = used;
         ready = record {
           settled = S;
           under = λ i h. omega (arith, key-is, K .passed k (T .one) .pending i h before-end);
@@ -206,7 +216,7 @@ module _ {g : Graph} {r : Rows} {shifts : List ℕ} {a n k key : ℕ} {l : List 
         };
       }
 
-      merging-next : {s : ℕ} {d′ work′ : List ℕ} → length pos ≡ 3
+      merging-next : {s : ℕ} {d′ work′ : List ℕ} → length pos ≡ 2
           → Relaxed g r a (entry work p) c key n s d d′ work work′
           → Merging g r a s l (set pos k (p + 1)) d′ work₀ work′
       merging-next {s} {d′} {work′} len P = record {
@@ -223,11 +233,11 @@ module _ {g : Graph} {r : Rows} {shifts : List ℕ} {a n k key : ℕ} {l : List 
               (passed-next (K .settled) (P .ready) (P .grown) (one-cost .high) (K .passed k (T .one)) before-end key-is
               (P .relaxed))
 
-          stayed : (j : ℕ) → j < 3 → Passed g r s (classAt l j) (getD pos j 0) d′ work′
+          stayed : (j : ℕ) → j < 2 → Passed g r s (classAt l j) (getD pos j 0) d′ work′
           stayed j h =
               passed-same (K .settled) (P .ready) (P .grown) (M .classes .each j h .high) (K .passed j h) (T .least j h)
 
-      pub turn : length pos ≡ 3 → Turn g r shifts a n k key l pos d₀ d work₀ work
+      pub turn : length pos ≡ 2 → Turn g r shifts a n k key l pos d₀ d work₀ work
       turn len = record {
         relaxing = relaxing;
         small = omega (arith, before-all, K .settled .few);
@@ -238,7 +248,7 @@ module _ {g : Graph} {r : Rows} {shifts : List ℕ} {a n k key : ℕ} {l : List 
     -- ---- the end
 
     module _ (end : key ≡ unreachable) where
-      all-passed : (j : ℕ) → j < 3 → n ≤ getD pos j 0
+      all-passed : (j : ℕ) → j < 2 → n ≤ getD pos j 0
       all-passed j h = ⊎-elim (λ le. le)
           (λ lt. let S = K .settled in let q = getD pos j 0 in absurd (omega (
             arith,
@@ -258,8 +268,10 @@ module _ {g : Graph} {r : Rows} {shifts : List ℕ} {a n k key : ℕ} {l : List 
           let q = M .classes .covers m lt in
           let f = K .settled .ordered .found u i h in
           let past : f .0 < getD pos (q .0) 0 = omega (arith, f .1, all-passed (q .0) (q .1)) in
-          let x = K .passed (q .0) (q .1) .relaxed (f .0) m w past (q .2) lt (ap (λ z. g .step m z) (f .2) ∙ st) in
-          omega (arith, x, ap (entry d) (f .2), M .classes .each (q .0) (q .1) .same m (q .2) lt))
+          let some-cost : 0 < classAt l (q .0) .cost = omega (arith, q .3, M .lawful .low m lt) in
+          let goes = ap (λ z. g .step m z) (f .2) ∙ st in
+          let x = K .passed (q .0) (q .1) .relaxed some-cost (f .0) m w past (q .2) lt goes in
+          omega (arith, x, ap (entry d) (f .2), q .3))
           (le-or-lt unreachable (entry d u))
 
       pub filled : {start : List ℕ} → ((i : ℕ) → g .size < i → entry work₀ i ≡ entry start i)

@@ -6,18 +6,16 @@
 --   Given ..                 == what an offer stores: the cost, and the vertex at the end of the order
 --   keyOf n p c d work       == the key of place p of the order for moves of cost c; `unreachable` past the n settled
 --   Keyed n d work           == the keys of the first n places can be worked out
---   Lowest r k0 k1 k2        == r is the number of the least key; 3 where no key is below `unreachable`
---   Table g r shifts         == the list has a place for the row of every move
+--   Table g r shifts         == the list of shifts has a place for the row of every move
 --   RowSteps g r shifts ..   == the masks, with the shifts of the rows, give the steps of the graph g
---   OneCost g r c            == the rows of class c are rows of moves of g, which all have its cost
---   CostClasses g r l        == the three classes of l have every move of g
+--   OneCost g r c            == where class c has moves, its four rows are rows of moves of g, which all have its cost
+--   CostClasses g r l        == the two classes of l have every move of g
 --   reached l                == how many costs of the list l are below `unreachable`
 --   Settled g a n d work     == n vertices have a cost, each that of a walk from a; they stand in order
 --   Ready ..                 == they cost at most key, which may be given to more
 --   KeyWalk g a u c key      == a walk from a to u and a move of cost c from there cost key together
 --   Grown ..                 == from n settled vertices to r, those added at cost key; all else is as it was
 --   Relaxing ..              == what the relaxing of a class of moves takes
---   RelaxingRows ..          == the same, with the vertex at place p and its open rows in the class at hand
 --   Relaxed ..               == the far ends of the moves of class c from u cost at most key
 --   Passed ..                == what holds of one class and its position p in the order
 --   Merging ..               == what holds at each turn of the merge, of the classes l and their positions pos
@@ -25,19 +23,16 @@
 --   remaining v pos          == what the positions have before them: the merge's measure
 use Prim.Native.Nat.{ℕ, _+_, _-_, _*_, _≤_, _<_}
 use mathlib.Core.Path.{_≡_}
-use mathlib.Core.Bool.{true}
 use mathlib.Core.Option.{some}
 use mathlib.Core.List.{List, [], _∷_}
-use lib.Bits.{bitAnd}
 use lib.Dec.{ltb, eqb}
 use lib.ListN.{length, getD, set}
 use Rattle.basics.specs.Bounded.{pick}
 use Rattle.offsets.specs.declared.Class.{Class}
 use Rattle.moves.specs.declared.Rows.{Rows}
 use Rattle.moves.specs.Moves.{rowAt}
-use Rattle.masks.specs.Masks.{bit}
 use Rattle.offsets.specs.Offsets.{maskedEnd, Movable, shiftedBy}
-use Rattle.offsets.specs.Classes.{Member, classAt}
+use Rattle.offsets.specs.Classes.{Member, classAt, classRow}
 use Rattle.paths.specs.Graph.{Graph, Lawful}
 use Rattle.paths.specs.Distance.{unreachable}
 use Rattle.paths.specs.Local.{entry}
@@ -67,12 +62,6 @@ pub record Keyed (n : ℕ) (d work : List ℕ) : Type 0 where
   pub inside : (i : ℕ) → i < n → entry work i < length d
   pub small : (i : ℕ) → i < n → entry d (entry work i) + 4095 < unreachable
 
-pub record Lowest (r k0 k1 k2 : ℕ) : Type 0 where
-  pub none : r ≡ 3 → (k0 ≡ unreachable) × (k0 ≤ k1) × (k0 ≤ k2)
-  pub at-0 : r ≡ 0 → (k0 < unreachable) × (k0 ≤ k1) × (k0 ≤ k2)
-  pub at-1 : r ≡ 1 → (k1 < unreachable) × (k1 ≤ k0) × (k1 ≤ k2)
-  pub at-2 : (r ≡ 3 → ⊥) → (r ≡ 0 → ⊥) → (r ≡ 1 → ⊥) → (k2 < unreachable) × (k2 ≤ k0) × (k2 ≤ k1)
-
 -- ---- the moves
 
 pub record Table (g : Graph) (r : Rows) (shifts : List ℕ) : Type 0 where
@@ -86,12 +75,13 @@ pub record RowSteps (g : Graph) (r : Rows) (shifts work : List ℕ) : Type 0 whe
 
 pub record OneCost (g : Graph) (r : Rows) (c : Class) : Type 0 where
   pub high : c .cost ≤ 4095
-  pub same : (m : ℕ) → Member r c m → m < g .moves → g .cost m ≡ c .cost
-  pub found : (k : ℕ) → bit (c .rows) k ≡ true → (m : ℕ) × (m < g .moves) × (rowAt r m ≡ k)
+  pub move : 0 < c .cost → (j : ℕ) → j < 4
+      → (m : ℕ) × (m < g .moves) × (rowAt r m ≡ classRow c j) × (g .cost m ≡ c .cost)
 
 pub record CostClasses (g : Graph) (r : Rows) (l : List Class) : Type 0 where
-  pub each : (k : ℕ) → k < 3 → OneCost g r (classAt l k)
-  pub covers : (m : ℕ) → m < g .moves → (k : ℕ) × (k < 3) × Member r (classAt l k) m
+  pub each : (k : ℕ) → k < 2 → OneCost g r (classAt l k)
+  pub covers : (m : ℕ) → m < g .moves
+      → (k : ℕ) × (k < 2) × Member r (classAt l k) m × (g .cost m ≡ classAt l k .cost)
 
 -- ---- the settled vertices
 
@@ -138,15 +128,10 @@ pub record Relaxing (g : Graph) (r : Rows) (shifts : List ℕ) (c : Class) (a p 
   pub table : Table g r shifts
   pub steps : RowSteps g r shifts work
   pub class : OneCost g r c
+  pub used : 0 < c .cost
   pub ready : Ready g a n key d work
   pub place : p < n
   pub walk : KeyWalk g a (entry work p) (c .cost) key
-
-pub record RelaxingRows (g : Graph) (r : Rows) (shifts : List ℕ) (c : Class) (a p u rows key n : ℕ) (d work : List ℕ)
-    : Type 0 where
-  pub relaxing : Relaxing g r shifts c a p key n d work
-  pub vertex : u ≡ entry work p
-  pub open-rows : rows ≡ bitAnd (maskAt (length d) work u) (c .rows)
 
 pub record Relaxed (g : Graph) (r : Rows) (a u : ℕ) (c : Class) (key n s : ℕ) (d d′ work work′ : List ℕ) : Type 0 where
   pub ready : Ready g a s key d′ work′
@@ -155,17 +140,18 @@ pub record Relaxed (g : Graph) (r : Rows) (a u : ℕ) (c : Class) (key n s : ℕ
 
 -- ---- the merge
 
--- Before place p no move of the class gives a lower cost; from p on, no key is less than a cost that was given. (Where
--- the class has no move, p may be anything.)
+-- Before place p no move of the class gives a lower cost; from p on, no key is less than a cost that was given. A class of
+-- no move has its position past all vertices.
 pub record Passed (g : Graph) (r : Rows) (n : ℕ) (c : Class) (p : ℕ) (d work : List ℕ) : Type 0 where
-  pub room : 0 < c .rows → p ≤ n
-  pub relaxed : (i m w : ℕ) → i < p → Member r c m → m < g .moves → g .step m (entry work i) ≡ some w
+  pub unused : c .cost ≡ 0 → g .size ≤ p
+  pub room : 0 < c .cost → p ≤ n
+  pub relaxed : 0 < c .cost → (i m w : ℕ) → i < p → Member r c m → m < g .moves → g .step m (entry work i) ≡ some w
       → entry d w ≤ entry d (entry work i) + c .cost
   pub pending : (i : ℕ) → i < n → p < n → entry d (entry work i) ≤ entry d (entry work p) + c .cost
 
 pub record Merging (g : Graph) (r : Rows) (a n : ℕ) (l : List Class) (pos d work₀ work : List ℕ) : Type 0 where
   pub settled : Settled g a n d work
-  pub passed : (k : ℕ) → k < 3 → Passed g r n (classAt l k) (getD pos k 0) d work
+  pub passed : (k : ℕ) → k < 2 → Passed g r n (classAt l k) (getD pos k 0) d work
   pub rest : (i : ℕ) → g .size < i → entry work i ≡ entry work₀ i
 
 pub record Mergeable (g : Graph) (r : Rows) (shifts : List ℕ) (l : List Class) (a : ℕ) (d work : List ℕ) : Type 0 where

@@ -3,7 +3,7 @@
 -- definitions of paths.
 --
 --   maskAt v work u        == the mask of vertex u: the masks begin at place 2 * v, where there are v vertices
---   Ordered v n D O        == O 0, .. O (n - 1) are the vertices below v that have a cost, each once, by rising cost D
+--   Ordered v n D O        == O 0, .. O (n - 1) are the vertices below v that have a cost, by rising cost D
 --   Masked g t work        == the masks, read by the table t, give the steps of the graph g
 --   maskOn f work v        == the mask of vertex v of the floor f
 --   MasksIn f work         == the mask of each vertex says which of the table's moves are open from it
@@ -37,7 +37,6 @@ pub record Ordered (v n : ℕ) (D O : ℕ → ℕ) : Type 0 where
   pub inside : (i : ℕ) → i < n → O i < v
   pub placed : (i : ℕ) → i < n → D (O i) < unreachable
   pub found : (u : ℕ) → u < v → D u < unreachable → (i : ℕ) × (i < n) × (O i ≡ u)
-  pub once : (i j : ℕ) → i < n → j < n → O i ≡ O j → i ≡ j
   pub rising : (i j : ℕ) → i ≤ j → j < n → D (O i) ≤ D (O j)
 
 pub record Masked (g : Graph) (t : Reach) (work : List ℕ) : Type 0 where

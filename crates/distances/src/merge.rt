@@ -3,17 +3,16 @@
 // key, a settled cost and the cost of a class, is given to the far ends of that class that have no cost yet. The
 // contracts are over any graph whose steps the masks and the offsets of the rows give.
 ghost use mathlib.Core.Path.{_≡_};
-ghost use Prim.Native.Nat.{ℕ, _+_, _<_, _≤_};
+ghost use Prim.Native.Nat.{ℕ, _<_, _≤_};
 ghost use lib.ListN.{length};
 ghost use Rattle.moves.specs.declared.Rows.{Rows};
 ghost use Rattle.paths.specs.Graph.{Graph};
 ghost use Rattle.paths.specs.Local.{entry};
 ghost use Rattle.distances.specs.Order.{SettledCosts};
-ghost use Rattle.distances.specs.Merge.{costGiven, countGiven, Given, keyOf, Keyed, Lowest};
+ghost use Rattle.distances.specs.Merge.{costGiven, countGiven, Given, keyOf, Keyed};
 ghost use Rattle.offsets.specs.declared.Class.{Class};
-ghost use Rattle.distances.specs.Merge.{Relaxing, RelaxingRows, Relaxed, Mergeable};
+ghost use Rattle.distances.specs.Merge.{Relaxing, Relaxed, Mergeable};
 use floor::Vertex;
-use moves::Step;
 use offsets::Class;
 
 // A number of 32 bits as a usize.
@@ -43,8 +42,8 @@ fn count_given(c: u32) -> usize
     0
 }
 
-// Gives the key to vertex x where it has no cost yet, as the vertex settled after n others. No branch: the stores are
-// made in any case, and change nothing that counts where x has a cost.
+// Gives the key to vertex x where it has no cost yet, as the vertex settled after n others. The stores are made in any
+// case, so that nothing has to branch, and change nothing that counts where x has a cost.
 fn offer(x: usize, key: u32, n: usize, d: &mut [u32], work: &mut [u32]) -> usize
     requires { ⌜ (x < length (now d)) × (x < 16384) × (n < length (now work)) ⌝ }
     ensures { λ r. ⌜ Given x key n r (now (d .entry)) (now (d .exit)) (now (work .entry)) (now (work .exit)) ⌝ }
@@ -55,37 +54,9 @@ fn offer(x: usize, key: u32, n: usize, d: &mut [u32], work: &mut [u32]) -> usize
     n + count_given(c)
 }
 
-// Gives the key to the far ends of some open rows of vertex u, the lowest first. `shifts` has by how much the move of each
-// row changes a vertex number; it is lent, since a table passed by value would be copied at each turn.
-fn relax_rows(
-    shifts: &[usize],
-    u: Vertex,
-    rows: u32,
-    key: u32,
-    n: usize,
-    d: &mut [u32],
-    work: &mut [u32],
-) -> usize
-    requires { ⌜ ((g : Graph) × (r : Rows) × (c : Class) × (a : ℕ) × (p : ℕ)
-        × RelaxingRows g r (now shifts) c a p (u .0) rows key n (now d) (now work)) ⌝ }
-    ensures { λ s. ⌜ ((g : Graph) → (r : Rows) → (c : Class) → (a : ℕ) → (p : ℕ)
-        → RelaxingRows g r (now (shifts .entry)) c a p (u .0) rows key n (now (d .entry)) (now (work .entry))
-        → Relaxed g r a (u .0) c key n s (now (d .entry)) (now (d .exit)) (now (work .entry)) (now (work .exit))) ⌝ }
-{
-    let mut k = n;
-    let mut rest = rows;
-    loop {
-        let Step::To(x) = offsets::lowest_step(rest, u, shifts) else {
-            return k;
-        };
-        k = offer(x.0, key, k, d, work);
-        rest = rest & (rest - 1);
-    }
-}
-
-// Gives the key to the far ends of the open moves of a class from the vertex at place p of the order: of the rows whose
-// bit both the class and the vertex's mask have. Where the whole class is open, as on an open floor, its rows go to a call
-// of their own: that loop's number of turns is then always the same, which a processor foresees.
+// Gives the key to the far ends of the open moves of a class from the vertex at place p of the order. A shut move offers it
+// to that vertex itself, which has a cost. `shifts` has by how much the move of each row changes a vertex number; it is
+// lent, since a table passed by value would be copied at each turn.
 fn relax_class(
     shifts: &[usize],
     class: Class,
@@ -103,11 +74,13 @@ fn relax_class(
         (now (work .entry)) (now (work .exit))) ⌝ }
 {
     let u = Vertex(wide(work[p]));
-    let open = work[2 * d.len() + u.0] & class.rows;
-    if open == class.rows {
-        return relax_rows(shifts, u, class.rows, key, n, d, work);
+    let mask = work[2 * d.len() + u.0];
+    let mut k = n;
+    for j in 0..4 {
+        let x = neighbours::end_or_self(mask, u, offsets::row_of(class, j), shifts);
+        k = offer(x.0, key, k, d, work);
     }
-    relax_rows(shifts, u, open, key, n, d, work)
+    k
 }
 
 // The key of place p of the order for moves that cost c.
@@ -122,40 +95,21 @@ fn key_at(n: usize, p: usize, c: u32, d: &[u32], work: &[u32]) -> u32
     d[u] + c
 }
 
-// Which of three keys is the least; 3 where none is below `UNREACHABLE`.
-fn lowest(k0: u32, k1: u32, k2: u32) -> u8
-    ensures { λ r. ⌜ Lowest r k0 k1 k2 ⌝ }
-{
-    if k0 <= k1 {
-        if k2 < k0 {
-            return 2;
-        }
-        if k0 == paths::UNREACHABLE {
-            return 3;
-        }
-        return 0;
-    }
-    if k2 < k1 {
-        return 2;
-    }
-    1
-}
-
 // Where the position of a class starts: past all v vertices for a class of no move.
 fn first_place(class: Class, v: usize) -> usize
-    ensures { λ r. ⌜ (0 < class .rows → r ≡ 0) ⌝ }
+    ensures { λ r. ⌜ (0 < class .cost → r ≡ 0) × (class .cost ≡ 0 → r ≡ v) ⌝ }
 {
-    if 0 < class.rows {
+    if 0 < class.cost {
         return 0;
     }
     v
 }
 
 // Fills d with the costs from a, and the beginning of `work` with the vertices that have one, by rising cost; answers
-// how many those are. Each turn moves one position on by one place, so there are at most three turns for a vertex.
+// how many those are. Each turn moves one position on by one place, so there are at most two turns for a vertex.
 pub fn settle(
     shifts: &[usize],
-    classes: [Class; 3],
+    classes: [Class; 2],
     a: usize,
     d: &mut [u32],
     work: &mut [u32],
@@ -170,30 +124,21 @@ pub fn settle(
     work[0] = a as u32;
     let c0 = classes[0];
     let c1 = classes[1];
-    let c2 = classes[2];
     let mut n: usize = 1;
     let mut p0 = first_place(c0, d.len());
     let mut p1 = first_place(c1, d.len());
-    let mut p2 = first_place(c2, d.len());
     loop {
         let k0 = key_at(n, p0, c0.cost, d, work);
         let k1 = key_at(n, p1, c1.cost, d, work);
-        let k2 = key_at(n, p2, c2.cost, d, work);
-        let k = lowest(k0, k1, k2);
-        if k == 3 {
-            return n;
-        }
-        if k == 0 {
+        if k0 <= k1 {
+            if k0 == paths::UNREACHABLE {
+                return n;
+            }
             n = relax_class(shifts, c0, p0, k0, n, d, work);
             p0 += 1;
             continue;
         }
-        if k == 1 {
-            n = relax_class(shifts, c1, p1, k1, n, d, work);
-            p1 += 1;
-            continue;
-        }
-        n = relax_class(shifts, c2, p2, k2, n, d, work);
-        p2 += 1;
+        n = relax_class(shifts, c1, p1, k1, n, d, work);
+        p1 += 1;
     }
 }

@@ -12,8 +12,9 @@ use Rattle.basics.proofs.Bounded.{every-cong}
 use Rattle.basics.proofs.Sums.{sum-cong}
 use Rattle.paths.specs.Graph.{Graph}
 use Rattle.paths.specs.Route.{candidate, better, best, nextVertex}
-use Rattle.paths.specs.Local.{relaxed, tight, rightCost, inflow, countAt}
-use Rattle.neighbours.specs.Reach.{relaxedBy, tightBy, inflowBy}
+use Rattle.paths.specs.Local.{tight, inflow, countAt}
+use Rattle.neighbours.specs.Reach.{tightBy, inflowBy}
+use Rattle.neighbours.specs.Least.{relaxedBy, relaxedIn, rightCostIn}
 
 pub record Agrees (g h : Graph) (v : ℕ) : Type 0 where
   pub moves : g .moves ≡ h .moves
@@ -39,9 +40,9 @@ chosen on D v o c = elim o [
 ]
 
 module _ {g h : Graph} {v : ℕ} (s : Agrees g h v) (D : ℕ → ℕ) where
-  pub relaxed-agrees : relaxed g D v ≡ relaxed h D v
-  unfolding relaxed relaxedBy
-  relaxed-agrees =
+  pub relaxedIn-agrees : relaxedIn g D v ≡ relaxedIn h D v
+  unfolding relaxedIn relaxedBy
+  relaxedIn-agrees =
       every-cong (g .moves) (relaxedBy g D v) (relaxedBy h D v) (λ m l. rw (s .step m l, s .cost m l))
       ∙ ap (λ (n : ℕ). every n (relaxedBy h D v)) (s .moves)
 
@@ -51,9 +52,9 @@ module _ {g h : Graph} {v : ℕ} (s : Agrees g h v) (D : ℕ → ℕ) where
       any-cong (g .moves) (tightBy g D v) (tightBy h D v) (λ m l. rw (s .step m l, s .cost m l))
       ∙ ap (λ (n : ℕ). any n (tightBy h D v)) (s .moves)
 
-  pub rightCost-agrees : (a : ℕ) → rightCost g a D v ≡ rightCost h a D v
-  unfolding rightCost
-  rightCost-agrees a = rw (relaxed-agrees, tight-agrees)
+  pub rightCostIn-agrees : (a : ℕ) → rightCostIn g a D v ≡ rightCostIn h a D v
+  unfolding rightCostIn
+  rightCostIn-agrees a = rw (relaxedIn-agrees, tight-agrees)
 
   pub inflow-agrees : (F : ℕ → ℕ) → inflow g D F v ≡ inflow h D F v
   unfolding inflow inflowBy

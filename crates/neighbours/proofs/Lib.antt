@@ -1,6 +1,8 @@
 pub mod Steps
-pub mod Costs
+pub mod Incoming
+pub mod Least
 pub mod Sums
 pub mod Choice
 pub mod Agree
 pub mod Built
+pub mod Classed

@@ -11,17 +11,15 @@
 --   Here n t mask v            == every move from v can be worked out, and leads to a vertex below n
 --   MoveIn w r t m             == move m of t is move m of the rows r on floors of width w
 --   Built w r t                == so is every move, and the lists have a place for each
---   rightBoth g a b D E v      == the costs D from a and E from b are right at v
---   relaxedBy g D v m          == what `relaxed` tests of move m
 --   tightBy g D v m            == what `tight` tests of move m
 --   inflowBy g D F v m         == what move m adds to `inflow`
 --   sumOf x                    == a sum as the code answers it: the sum where it fits 64 bits
 use Prim.Native.Nat.{ℕ, _+_, _^_, _≤_, _<_}
 use mathlib.Core.Path.{_≡_}
-use mathlib.Core.Bool.{Bool, _&&_}
+use mathlib.Core.Bool.{Bool}
 use mathlib.Core.List.{List}
 use mathlib.Core.Option.{Option, some}
-use lib.Dec.{leb, ltb, eqb}
+use lib.Dec.{ltb, eqb}
 use lib.ListN.{length}
 use Rattle.basics.specs.Bounded.{pick}
 use Rattle.moves.specs.declared.Offset.{Offset}
@@ -29,7 +27,7 @@ use Rattle.moves.specs.declared.Rows.{Rows}
 use Rattle.moves.specs.Moves.{rowAt, moveAt}
 use Rattle.offsets.specs.Offsets.{offsetOf, maskedEnd, Movable}
 use Rattle.paths.specs.Graph.{Graph}
-use Rattle.paths.specs.Local.{given, if-there, is-there, when-eq, entry, rightCost}
+use Rattle.paths.specs.Local.{given, is-there, when-eq, entry}
 use Rattle.neighbours.specs.declared.Reach.{Reach}
 use Rattle.neighbours.specs.declared.Sum.{Sum}
 use Rattle.neighbours.specs.declared.Sum.the-variants.{Is, Over}
@@ -74,12 +72,6 @@ pub record Built (w : ℕ) (r : Rows) (t : Reach) : Type 0 where
   pub count : t .count ≡ r .count
   pub lent : Lent t
   pub move : (m : ℕ) → m < t .count → MoveIn w r t m
-
-abbrev pub rightBoth : Graph → ℕ → ℕ → (ℕ → ℕ) → (ℕ → ℕ) → ℕ → Bool
-rightBoth g a b D E v = rightCost g a D v && rightCost g b E v
-
-unfoldable pub relaxedBy : Graph → (ℕ → ℕ) → ℕ → ℕ → Bool
-relaxedBy g D v m = if-there (g .step m v) (λ w. leb (D w) (D v + g .cost m))
 
 unfoldable pub tightBy : Graph → (ℕ → ℕ) → ℕ → ℕ → Bool
 tightBy g D v m = is-there (g .step m v) (λ w. eqb (D w + g .cost m) (D v))

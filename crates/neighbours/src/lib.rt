@@ -1,22 +1,25 @@
 // What the open moves of a vertex say of numbers that are kept for each vertex: costs, counts and the next vertex of
 // the central route.
 ghost use mathlib.Core.Path.{_≡_};
-ghost use mathlib.Core.Bool.{_||_};
+ghost use mathlib.Core.Bool.{_&&_};
 ghost use Prim.Native.Nat.{_<_, _≤_, _^_};
-ghost use lib.Dec.{eqb};
 ghost use lib.ListN.{length};
 ghost use Rattle.moves.specs.Steps.{stepOf};
-ghost use Rattle.offsets.specs.Offsets.{Movable, maskedEnd};
+ghost use Rattle.offsets.specs.Offsets.{Movable, maskedEnd, shiftedBy};
 ghost use Rattle.moves.specs.Table.{Listed};
-ghost use Rattle.paths.specs.Distance.{unreachable};
 ghost use Rattle.paths.specs.Route.{onShortest};
 ghost use Rattle.paths.specs.Local.{entry, inflow};
-ghost use Rattle.neighbours.specs.Reach.{by, tableOf, star, Lent, Here, Built, rightBoth, sumOf};
+ghost use Rattle.neighbours.specs.Reach.{by, tableOf, star, Lent, Here, Built, sumOf};
+ghost use Rattle.neighbours.specs.Least.{endAt, lesserOf, leastBy, rightBy, rightNear, ClassLent, Near};
 ghost use Rattle.neighbours.specs.Choice.{Choosing, Counted, followsBy, traversalOf, nextOf};
 use floor::Vertex;
 use moves::Offset;
 use moves::Rows;
 use moves::Step;
+use offsets::Class;
+
+// A cost above every other: the least that a class of no move gives.
+const NOWHERE: u64 = 4294967296;
 
 // The moves of a neighbourhood on floors of one width: of each its row in the table, which is its bit in a mask, how far
 // it leads up and how far down in vertex numbers, and its cost.
@@ -49,26 +52,6 @@ fn cost_at(d: &[u32], v: usize) -> u64
     wide(d[v])
 }
 
-// One of the two holds.
-fn either(p: bool, q: bool) -> bool
-    ensures { λ r. ⌜ r ≡ (p || q) ⌝ }
-{
-    if p {
-        return true;
-    }
-    q
-}
-
-// The cost of a vertex has a reason: the vertex is unreached, or the source, or a move to it is tight.
-fn settled(cost: u32, source: bool, tight: bool) -> bool
-    ensures { λ r. ⌜ r ≡ (eqb cost unreachable || (source || tight)) ⌝ }
-{
-    if cost == paths::UNREACHABLE {
-        return true;
-    }
-    either(source, tight)
-}
-
 // Where the move of a row leads from v, by the mask of v's open moves and how far it leads up and down.
 fn neighbour(mask: u32, v: usize, row: usize, up: usize, down: usize) -> Step
     requires { ⌜ Movable mask v row (by up down) ⌝ }
@@ -99,17 +82,90 @@ pub fn reach_of(w: usize, rows: Rows) -> Reach
     t
 }
 
-// The loops below read the moves of a Reach from its lists, lent one by one: a Reach passed by value would be copied at
-// each call.
+// Where row k of the table leads from v, by the mask of v's open moves and the shifts of `offsets::shifts_of`: v itself
+// where that move is shut. A loop over the rows of a class then has nothing to branch on.
+pub fn end_or_self(mask: u32, v: Vertex, k: usize, shifts: &[usize]) -> Vertex
+    requires { ⌜ (k < length (now shifts)) × Movable mask (v .0) k (shiftedBy (now shifts) k) ⌝ }
+    ensures { λ r. ⌜ r .0 ≡ endAt (now (shifts .entry)) mask (v .0) k ⌝ }
+{
+    let by = Offset {
+        up: shifts[k],
+        down: offsets::SHIFT_BASE,
+    };
+    let Step::To(end) = offsets::masked_step(mask, v, k, by) else {
+        return v;
+    };
+    end
+}
 
-// The costs d(v) from a and e(v) from b are right, as far as v and its neighbours can tell. One loop over the moves
-// tests both, and answers at the first neighbour that is too dear.
+// The lesser of two costs.
+fn lesser(x: u64, y: u64) -> u64
+    ensures { λ r. ⌜ r ≡ lesserOf x y ⌝ }
+{
+    if x < y {
+        return x;
+    }
+    y
+}
+
+// The least cost that an open move of a class gives v: that of its far end and its own. The far end of a shut move is v,
+// which never gives itself the least.
+fn least_by(shifts: &[usize], class: Class, mask: u32, d: &[u32], v: usize) -> u64
+    requires { ⌜ ClassLent (length (now d)) (now shifts) mask v class ⌝ }
+    ensures { λ r. ⌜ r ≡ leastBy (now (shifts .entry)) mask (entry (now (d .entry))) v class ⌝ }
+{
+    if class.cost == 0 {
+        return NOWHERE;
+    }
+    let mut least = NOWHERE;
+    for j in 0..4 {
+        let w = end_or_self(mask, Vertex(v), offsets::row_of(class, j), shifts);
+        least = lesser(least, cost_at(d, w.0));
+    }
+    least + wide(class.cost)
+}
+
+// The cost of v from a is right, where `least` is the least that a move gives it. The source and a vertex that is not
+// reached may cost less.
+fn right_by(least: u64, a: usize, d: &[u32], v: usize) -> bool
+    requires { ⌜ v < length (now d) ⌝ }
+    ensures { λ r. ⌜ r ≡ rightBy least a (entry (now (d .entry))) v ⌝ }
+{
+    let here = cost_at(d, v);
+    if here == least {
+        return true;
+    }
+    if least < here {
+        return false;
+    }
+    if d[v] == paths::UNREACHABLE {
+        return true;
+    }
+    v == a
+}
+
+// The cost d(v) from a is right, as far as v and its neighbours can tell.
+pub fn cost_right(
+    shifts: &[usize],
+    classes: [Class; 2],
+    mask: u32,
+    a: usize,
+    d: &[u32],
+    v: usize,
+) -> bool
+    requires { ⌜ Near (length (now d)) (now shifts) classes mask v ⌝ }
+    ensures { λ r. ⌜ r ≡ rightNear (now (shifts .entry)) classes mask a (entry (now (d .entry))) v ⌝ }
+{
+    let first = least_by(shifts, classes[0], mask, d, v);
+    let second = least_by(shifts, classes[1], mask, d, v);
+    right_by(lesser(first, second), a, d, v)
+}
+
+// Both costs of v, d(v) from a and e(v) from b, are right in that way. The least costs are taken class by class, so that
+// the far ends of a class are worked out once for both. Called at one place, this is compiled into the loop there.
 pub fn costs_right(
-    count: usize,
-    row: &[usize],
-    up: &[usize],
-    down: &[usize],
-    cost: &[u32],
+    shifts: &[usize],
+    classes: [Class; 2],
     mask: u32,
     a: usize,
     b: usize,
@@ -117,39 +173,22 @@ pub fn costs_right(
     e: &[u32],
     v: usize,
 ) -> bool
-    requires { ⌜ Lent (tableOf count (now row) (now up) (now down) (now cost))
-        × Here (length (now d)) (tableOf count (now row) (now up) (now down) (now cost)) mask v
-        × (length (now e) ≡ length (now d)) ⌝ }
-    ensures { λ r. ⌜ r ≡ rightBoth
-        (star (length (now (d .entry)))
-        (tableOf count (now (row .entry)) (now (up .entry)) (now (down .entry)) (now (cost .entry))) mask)
-        a b (entry (now (d .entry))) (entry (now (e .entry))) v ⌝ }
+    requires { ⌜ Near (length (now d)) (now shifts) classes mask v × (length (now e) ≡ length (now d)) ⌝ }
+    ensures { λ r. ⌜ r ≡ (rightNear (now (shifts .entry)) classes mask a (entry (now (d .entry))) v
+        && rightNear (now (shifts .entry)) classes mask b (entry (now (e .entry))) v) ⌝ }
 {
-    let d_here = cost_at(d, v);
-    let e_here = cost_at(e, v);
-    let mut d_tight = false;
-    let mut e_tight = false;
-    for m in 0..count {
-        let Step::To(w) = neighbour(mask, v, row[m], up[m], down[m]) else {
-            continue;
-        };
-        let d_there = cost_at(d, w.0);
-        let e_there = cost_at(e, w.0);
-        let c = wide(cost[m]);
-        if d_here + c < d_there {
-            return false;
-        }
-        if e_here + c < e_there {
-            return false;
-        }
-        d_tight = either(d_tight, d_there + c == d_here);
-        e_tight = either(e_tight, e_there + c == e_here);
-    }
-    if !settled(d[v], v == a, d_tight) {
+    let d_first = least_by(shifts, classes[0], mask, d, v);
+    let e_first = least_by(shifts, classes[0], mask, e, v);
+    let d_second = least_by(shifts, classes[1], mask, d, v);
+    let e_second = least_by(shifts, classes[1], mask, e, v);
+    if !right_by(lesser(d_first, d_second), a, d, v) {
         return false;
     }
-    settled(e[v], v == b, e_tight)
+    right_by(lesser(e_first, e_second), b, e, v)
 }
+
+// The loops below read the moves of a Reach from its lists, lent one by one: a Reach passed by value would be copied at
+// each call.
 
 // The sum of the counts f of the neighbours of v that lead to it cheapest, by the costs d.
 pub fn inflow_at(

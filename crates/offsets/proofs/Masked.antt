@@ -6,8 +6,7 @@
 --   masked-open     == so it does
 --   masked-movable  == and that can be worked out
 --   shifts-..       == and the same by the list of shifts
---   lowest-to, lowest-off == where the lowest row leads on, it does so by its offset, and else no row is left
-use Prim.Native.Nat.{ℕ, zero, suc, _+_, _-_, _*_, _≤_, _<_}
+use Prim.Native.Nat.{ℕ, suc, _+_, _-_, _*_, _≤_, _<_}
 use mathlib.Core.Path.{_≡_, refl, sym, ap, _∙_}
 use mathlib.Core.Logic.{⊎-elim}
 use mathlib.Core.Bool.{true, false}
@@ -16,7 +15,6 @@ use mathlib.Core.List.{List}
 use native.Mathlib.Omega.{arith}
 use native.Mathlib.Nat.{mul-le-mul}
 use native.Mathlib.Numerals.{add-one}
-use borrow.Author.Tests.{ne-eqb}
 use lib.ListN.{length, set, getD, length-set}
 use lib.Seq.{getD-set-same, getD-set-other}
 use Rattle.basics.proofs.Order.{le-or-lt}
@@ -31,7 +29,7 @@ use Rattle.moves.specs.Steps.{up, down, openEnd}
 use Rattle.moves.specs.Table.{Short, partsOf}
 use Rattle.masks.specs.Masks.{bit, isSome, OpenAt}
 use Rattle.offsets.specs.Offsets.{offsetOf, maskedEnd, Movable}
-use Rattle.offsets.specs.Offsets.{shiftBase, Shifts, shiftedBy, lowestRow, lowestEnd}
+use Rattle.offsets.specs.Offsets.{shiftBase, Shifts, shiftedBy}
 use Rattle.moves.proofs.Signs.{up-le, down-le}
 use Rattle.moves.proofs.Table.{table-short}
 use Rattle.moves.proofs.Steps.{Goes, open-goes}
@@ -179,16 +177,3 @@ shifts-more {w} {k} {l} {o} S h r = record {
 
 pub shifts-all : {w : ℕ} {l : List ℕ} → ShiftsTo w (length moves) l → Shifts w l
 shifts-all S = record { len = S .len; at = S .at }
-
--- ---- the lowest row
-
-module _ (v : ℕ) (l : List ℕ) where
-  pub lowest-to : (n w : ℕ) → lowestEnd n v l ≡ some w
-      → (0 < n) × (v + getD l (lowestRow n) 0 - shiftBase ≡ w)
-  lowest-to zero w e = let z : _≡_ {A = ℕ} 0 1 = cc in absurd (omega arith)
-  lowest-to (suc n) w e = let b = ne-eqb (suc n) 0 (λ z. omega arith) in (omega arith, cc)
-
-  pub lowest-off : (n : ℕ) → lowestEnd n v l ≡ none → n ≡ 0
-  lowest-off zero e = refl
-  lowest-off (suc n) e =
-      let b = ne-eqb (suc n) 0 (λ z. omega arith) in let z : _≡_ {A = ℕ} 0 1 = cc in absurd (omega arith)

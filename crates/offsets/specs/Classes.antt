@@ -1,55 +1,50 @@
 -- A neighbourhood's moves by cost. Nobody has to believe these: the laws of a table are tested by computing.
 --
---   Member r c m        == move m of the rows r is one of class c: its row has a bit there
---   CostClass r c       == the rows of class c are rows of moves of r, which all have its cost, 1 to 4,095
---   Classes r l         == the three classes of l have every move of the rows r
---   rowCosting r c m    == the bit of the row of move m, where the move costs c
---   rowsCosting r c n   == those of the first n moves, put together
---   classFor r m taken  == the class of the moves that cost what move m does; no row, where one is among those taken
-use Prim.Native.Nat.{ℕ, zero, suc, _≤_, _<_, _^_}
+--   quarter        == how many rows of the table, which is in order of angle, make a quarter turn
+--   classOf, classAt == a class by its parts, and class k of a list; cost 0: a class of no move
+--   classRow c j   == row j of class c: a quarter turn after the row before it
+--   Member r c m   == move m of the rows r is one of class c
+--   CostClass r c  == the cost is at most 4,095; where class c has moves, each of its four rows is that of a move of r
+--                     that has its cost
+--   Classes r l    == the first two classes of l have every move of the rows r
+--   classFor r m   == the class of move m and its turns, where m is among the first quarter of the moves of r, which
+--                     stand in order of angle; else m is a turn of one of these, and the class has no move
+use Prim.Native.Nat.{ℕ, _+_, _*_, _/_, _≤_, _<_}
 use mathlib.Core.Path.{_≡_}
-use mathlib.Core.Bool.{true}
 use mathlib.Core.List.{List}
-use lib.Bits.{bitAnd, bitOr}
-use lib.Dec.{eqb}
-use lib.ListN.{length, getD}
+use lib.Dec.{ltb}
+use lib.ListN.{getD}
 use Rattle.basics.specs.Bounded.{pick}
 use Rattle.moves.specs.declared.Rows.{Rows}
 use Rattle.offsets.specs.declared.Class.{Class}
 use Rattle.moves.specs.Moves.{rowAt, moveAt}
-use Rattle.masks.specs.Masks.{bit}
+
+abbrev pub quarter : ℕ
+quarter = 2
 
 abbrev pub classOf : ℕ → ℕ → Class
-classOf rows cost = record { rows = rows; cost = cost }
+classOf row cost = record { row = row; cost = cost }
 
 abbrev pub classAt : List Class → ℕ → Class
 classAt l k = getD l k (classOf 0 0)
 
+abbrev pub classRow : Class → ℕ → ℕ
+classRow c j = c .row + quarter * j
+
 abbrev pub Member : Rows → Class → ℕ → Type 0
-Member r c m = bit (c .rows) (rowAt r m) ≡ true
+Member r c m = (j : ℕ) × (j < 4) × (rowAt r m ≡ classRow c j)
 
 pub record CostClass (r : Rows) (c : Class) : Type 0 where
-  pub low : 1 ≤ c .cost
   pub high : c .cost ≤ 4095
-  pub same : (m : ℕ) → Member r c m → m < r .count → moveAt r m .cost ≡ c .cost
-  pub found : (k : ℕ) → bit (c .rows) k ≡ true → (m : ℕ) × (m < r .count) × (rowAt r m ≡ k)
+  pub move : 0 < c .cost → (j : ℕ) → j < 4
+      → (m : ℕ) × (m < r .count) × (rowAt r m ≡ classRow c j) × (moveAt r m .cost ≡ c .cost)
 
 pub record Classes (r : Rows) (l : List Class) : Type 0 where
-  pub three : length l ≡ 3
-  pub each : (k : ℕ) → k < 3 → CostClass r (classAt l k)
-  pub covers : (m : ℕ) → m < r .count → (k : ℕ) × (k < 3) × Member r (classAt l k) m
+  pub each : (k : ℕ) → k < 2 → CostClass r (classAt l k)
+  pub covers : (m : ℕ) → m < r .count
+      → (k : ℕ) × (k < 2) × Member r (classAt l k) m × (moveAt r m .cost ≡ classAt l k .cost)
 
 -- ---- the classes, read off the table
 
-abbrev pub rowCosting : Rows → ℕ → ℕ → ℕ
-rowCosting r c m = pick (eqb (moveAt r m .cost) c) (2 ^ rowAt r m) 0
-
-unfoldable pub rowsCosting : Rows → ℕ → ℕ → ℕ
-rowsCosting r c zero = 0
-rowsCosting r c (suc n) = bitOr (rowsCosting r c n) (rowCosting r c n)
-
-abbrev pub freeRows : ℕ → ℕ → ℕ
-freeRows rows taken = pick (eqb (bitAnd rows taken) 0) rows 0
-
-abbrev pub classFor : Rows → ℕ → ℕ → Class
-classFor r m taken = classOf (freeRows (rowsCosting r (moveAt r m .cost) (r .count)) taken) (moveAt r m .cost)
+abbrev pub classFor : Rows → ℕ → Class
+classFor r m = pick (ltb m (r .count / 4)) (classOf (rowAt r m) (moveAt r m .cost)) (classOf 0 0)

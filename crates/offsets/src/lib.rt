@@ -1,21 +1,28 @@
 // The moves of a neighbourhood as changes of a vertex number: a step by a mask of open moves, and the classes of moves of
-// one cost, as bits of rows.
+// one cost.
 ghost use mathlib.Core.Path.{_≡_};
 ghost use mathlib.Core.Bool.{true};
 ghost use Prim.Native.Nat.{_<_, _≤_};
 ghost use Rattle.moves.specs.Moves.{moveAt};
 ghost use Rattle.moves.specs.Steps.{stepOf};
 ghost use Rattle.moves.specs.Table.{Listed, lawfulRows};
-ghost use Rattle.offsets.specs.Offsets.{offsetOf, maskedEnd, Movable, Shifts, RowMovable, lowestRow, lowestEnd};
-ghost use Rattle.offsets.specs.Classes.{rowCosting, rowsCosting, classFor, Classes};
+ghost use Rattle.offsets.specs.Offsets.{offsetOf, maskedEnd, Movable, Shifts};
+ghost use Rattle.offsets.specs.Classes.{classRow, classFor, Classes};
 use floor::Vertex;
 use moves::Offset;
 use moves::Rows;
 use moves::Step;
 
-// Moves of one cost among a neighbourhood's: a bit for each of their rows of the table. No bit: a class of no move.
+// What is added to a change of a vertex number that stands in a list.
+pub const SHIFT_BASE: usize = 512;
+
+// How many rows of the table a quarter turn is: a fourth of them, since they stand in order of angle.
+const QUARTER: usize = 2;
+
+// Four moves of one cost, each a quarter turn from the one before: rows `row`, `row + QUARTER` and so on. Cost 0: a class
+// of no move.
 pub struct Class {
-    pub rows: u32,
+    pub row: usize,
     pub cost: u32,
 }
 
@@ -45,8 +52,8 @@ pub fn masked_step(mask: u32, v: Vertex, row: usize, o: Offset) -> Step
     Step::Off
 }
 
-// By how much the move of each row of the table changes a vertex number on floors of width w, and 512 more, so that no
-// number is negative.
+// By how much the move of each row of the table changes a vertex number on floors of width w, and SHIFT_BASE more, so that
+// no number is negative.
 pub fn shifts_of(w: usize) -> [usize; 8]
     requires { ⌜ w ≤ 127 ⌝ }
     ensures { λ r. ⌜ Shifts w r ⌝ }
@@ -54,74 +61,40 @@ pub fn shifts_of(w: usize) -> [usize; 8]
     let mut shifts = [0; 8];
     for k in 0..8 {
         let by = offset_of(w, moves::all_rows(), k);
-        shifts[k] = 512 + by.up - by.down;
+        shifts[k] = SHIFT_BASE + by.up - by.down;
     }
     shifts
 }
 
-// Where the lowest of some open rows leads from v: the row's offset added to v. No row left: `Off`. The offsets are
-// those of `shifts_of`.
-pub fn lowest_step(rest: u32, v: Vertex, shifts: &[usize]) -> Step
-    requires { ⌜ (0 < rest → RowMovable (v .0) (lowestRow rest) (now shifts)) ⌝ }
-    ensures { λ r. ⌜ r ≡ stepOf (lowestEnd rest (v .0) (now (shifts .entry))) ⌝ }
+// Row number j of a class.
+pub fn row_of(class: Class, j: usize) -> usize
+    requires { ⌜ (class .row < 32) × (j < 4) ⌝ }
+    ensures { λ r. ⌜ r ≡ classRow class j ⌝ }
 {
-    if rest == 0 {
-        return Step::Off;
-    }
-    let row = u32::trailing_zeros(rest) as usize;
-    Step::To(Vertex(v.0 + shifts[row] - 512))
+    class.row + QUARTER * j
 }
 
-// The bit of the row of move m, where the move costs c.
-fn row_costing(rows: Rows, m: usize, c: u32) -> u32
+// The class of move m of a neighbourhood and its turns. The moves stand in order of angle, so past the first fourth of them
+// a move is a turn of one before it, and the class is of no move.
+fn class_of(rows: Rows, m: usize) -> Class
     requires { ⌜ (lawfulRows rows ≡ true) × (m < rows .count) ⌝ }
-    ensures { λ r. ⌜ r ≡ rowCosting rows c m ⌝ }
+    ensures { λ r. ⌜ r ≡ classFor rows m ⌝ }
 {
-    let k = moves::row_at(rows, m);
-    if moves::move_at(rows, m).cost == c {
-        return 1u32 << k;
-    }
-    0
-}
-
-// The rows of the moves that cost c, a bit for each.
-fn rows_costing(rows: Rows, c: u32) -> u32
-    requires { ⌜ lawfulRows rows ≡ true ⌝ }
-    ensures { λ r. ⌜ r ≡ rowsCosting rows c (rows .count) ⌝ }
-{
-    let mut bits: u32 = 0;
-    for m in 0..rows.count {
-        bits = bits | row_costing(rows, m, c);
-    }
-    bits
-}
-
-// The class of the moves that cost what move m does: of no move, where another class has taken them.
-fn class_of(rows: Rows, m: usize, taken: u32) -> Class
-    requires { ⌜ (lawfulRows rows ≡ true) × (m < rows .count) ⌝ }
-    ensures { λ r. ⌜ r ≡ classFor rows m taken ⌝ }
-{
-    let cost = moves::move_at(rows, m).cost;
-    let same = rows_costing(rows, cost);
-    if same & taken == 0 {
+    if m < rows.count / 4 {
         return Class {
-            rows: same,
-            cost: cost,
+            row: moves::row_at(rows, m),
+            cost: moves::move_at(rows, m).cost,
         };
     }
-    Class {
-        rows: 0,
-        cost: cost,
-    }
+    Class { row: 0, cost: 0 }
 }
 
-// The moves of a neighbourhood by cost, in three classes: those of the costs of its first three moves.
-pub fn classes_of(rows: Rows) -> [Class; 3]
+// The classes of a neighbourhood, read off the table.
+pub fn classes_of(rows: Rows) -> [Class; 2]
     requires { ⌜ Listed rows ⌝ }
     ensures { λ r. ⌜ Classes rows r ⌝ }
 {
-    let first = class_of(rows, 0, 0);
-    let second = class_of(rows, 1, first.rows);
-    let third = class_of(rows, 2, first.rows | second.rows);
-    [first, second, third]
+    let first = class_of(rows, 0);
+    let second = class_of(rows, 1);
+    [first, second]
 }

@@ -79,7 +79,9 @@ same-length-6 : tie.Need-same-length-6
 same-length-6 c =
     let at = finished c in
     let C = costed (at .before) in
-    at .finish-over-masks .kept .1 .1 .1 .1 .1 .1 .1 .1 .1 .1 .1 .0 ∙ C .costs-over-masks .kept .1 .1 .1 .1 .1 .1 .0 ∙ masked C .fill-masks .kept .1 .1 .1 .0
+    at .finish-over-masks .kept .1 .1 .1 .1 .1 .1 .1 .1 .1 .1 .1 .0
+    ∙ C .costs-over-masks .kept .1 .1 .1 .1 .1 .1 .0
+    ∙ masked C .fill-masks .kept .1 .1 .1 .0
 
 returns-2 : tie.Need-returns-2
 returns-2 c =

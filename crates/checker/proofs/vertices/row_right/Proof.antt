@@ -12,20 +12,23 @@ use Rattle.moves.specs.Table.{OnFloor}
 use Rattle.paths.specs.Sheet.{sheetOf}
 use Rattle.neighbours.specs.Reach.{tableOf}
 use Rattle.checker.specs.Tests.{RowTested}
-use Rattle.checker.proofs.Passes.{row-none, row-more, and-stops, and-keeps, column-faces, posed-vertex}
+use Rattle.neighbours.proofs.Classed.{table-classed}
+use Rattle.checker.proofs.Passes.{row-none, row-more, and-stops, and-keeps, column-faces}
+use Rattle.checker.proofs.Passes.{posed-vertex, posed-near}
 use borrow.Author.Needs.{needs}
 use Rattle.checker.proofs.vertices.row_right.Statement.{statement}
 use Rattle.checker.proofs.vertices.row_right.Tie as tie
 
 abbrev Inv-loop : tie.InvT-loop
-Inv-loop count row up down cost w h map joined a b d e f back route y first right₀ x₀ x-end right x =
+Inv-loop shifts classes count row up down cost w h map joined a b d e f back route y first right₀ x₀ x-end right x =
     RowTested w h map (tableOf count row up down cost) joined a b (sheetOf d e f back route 0) y x right × (x ≤ w + 1)
 
 abbrev μ-loop : tie.MeasureT-loop
-μ-loop count row up down cost w h map joined a b d e f back route y first right₀ x₀ x-end right x = x-end - x
+μ-loop shifts classes count row up down cost w h map joined a b d e f back route y first right₀ x₀ x-end right x =
+    x-end - x
 
-abbrev entered : tie.After-shared-slice-known10 Inv-loop μ-loop → tie.Start Inv-loop μ-loop
-entered c = c .before .before .before .before .before .before .before .before .before .before
+abbrev entered : tie.After-shared-slice-known11 Inv-loop μ-loop → tie.Start Inv-loop μ-loop
+entered c = c .before .before .before .before .before .before .before .before .before .before .before
 
 abbrev start : tie.In-loop Inv-loop μ-loop → tie.Start Inv-loop μ-loop
 start c = entered (c .before .before)
@@ -77,8 +80,14 @@ vertex-right-requires : tie.Need-vertex-right-requires Inv-loop μ-loop
 vertex-right-requires c κs =
     let p = start (c .before) .pre in
     let q = p .posed in
-    let faces = column-faces (q .job .floor) (q .job .listed) (p .built) (on-row (c .before)) (c .open-from .ensures) in
-    (rw (at-number (c .before)) (posed-vertex q (p .built .lent) faces), q .shape .route ∙ sym (q .shape .d))
+    let listed = q .job .listed in
+    let faces = column-faces (q .job .floor) listed (p .built) (on-row (c .before)) (c .open-from .ensures) in
+    rw (at-number (c .before)) (
+      posed-vertex q (p .built .lent) faces,
+      posed-near q (p .built) (p .shifts) (p .classes) faces,
+      table-classed listed (p .built) (p .shifts) (p .classes) _ _ _,
+      q .shape .route ∙ sym (q .shape .d),
+    )
 
 add-x : tie.Need-add-x Inv-loop μ-loop
 add-x c = let o = on-row (c .before .before .before) in omega (arith, o .wide, o .column)

@@ -1,112 +1,151 @@
--- `distances::merge::relax_class` meets its contract: the rows that it hands on are the open rows of the vertex in the
--- class, in either call. Assumes nothing.
+-- `distances::merge::relax_class` meets its contract: on any graph that it can run on, the far ends of the moves of the
+-- first j rows of the class were offered the key. Assumes nothing.
 use borrow.Author.Needs.{needs}
 use native.Mathlib.Omega.{arith}
-use mathlib.Core.Path.{refl, sym}
-use Prim.Native.Nat.{_≤_, _<_}
+use mathlib.Core.Path.{_≡_, sym, _∙_}
+use Prim.Native.Nat.{_-_, _≤_, _<_}
 use lib.ListN.{length}
+use Rattle.offsets.specs.Classes.{classRow}
+use Rattle.paths.specs.Local.{entry}
 use Rattle.distances.proofs.Store.{settled-le}
+use Rattle.distances.proofs.Relax.{RelaxedOn, farAt, far-at, vertex-in, relaxed-none, row-low}
+use Rattle.distances.proofs.Relax.{reaching, offering, relaxed-more, relaxed-all}
 use Rattle.distances.proofs.merge.relax_class.Statement.{statement}
 use Rattle.distances.proofs.merge.relax_class.Tie as tie
 
-abbrev start : tie.After-wide → tie.Start
+abbrev Inv-loop : tie.InvT-loop
+Inv-loop shifts class p key n d₀ work₀ u mask k₀ j₀ d work k j =
+    RelaxedOn shifts class p j key n k d₀ d work₀ work × (j ≤ 4)
+
+abbrev μ-loop : tie.MeasureT-loop
+μ-loop shifts class p key n d₀ work₀ u mask k₀ j₀ d work k j = 4 - j
+
+abbrev start : tie.After-wide Inv-loop μ-loop → tie.Start Inv-loop μ-loop
 start c = c .before .before .before .before .before
 
--- Where the open rows are known.
-abbrev read : tie.After-struct-known3 → tie.After-wide
-read c = c .before .before .before .before
+abbrev read : tie.At-loop Inv-loop μ-loop → tie.After-wide Inv-loop μ-loop
+read l = l .before .before .before
 
-place-in : (s : tie.Start) → s .args .p < length (s .args .work .now)
+place-in : (s : tie.Start Inv-loop μ-loop) → s .args .p < length (s .args .work .now)
 place-in s =
     let B = s .pre .3 in
     let S = B .ready .settled in
     omega (arith, B .place, settled-le S, S .work-len)
 
-vertex-in : (c : tie.After-wide) → c .wide .result < length (start c .args .d .now)
-vertex-in c = let B = start c .pre .3 in omega (arith, c .wide .ensures, B .walk .inside, B .ready .settled .d-len)
-
-few : (s : tie.Start) → length (s .args .d .now) ≤ 16384
+few : (s : tie.Start Inv-loop μ-loop) → length (s .args .d .now) ≤ 16384
 few s = let S = s .pre .3 .ready .settled in omega (arith, S .d-len, S .few)
 
-mul-wide : tie.Need-mul-wide
+vertex : (w : tie.After-wide Inv-loop μ-loop) → w .wide .result < length (start w .args .d .now)
+vertex w = omega (arith, w .wide .ensures, vertex-in (start w .pre .3))
+
+-- A turn of the loop: where it begins, and the far end of its row.
+abbrev turned : tie.After-end-or-self Inv-loop μ-loop → tie.At-loop Inv-loop μ-loop
+turned e = e .before .before .before
+
+ends : (e : tie.After-end-or-self Inv-loop μ-loop)
+    → let l = turned e in
+    let a = start (read l) .args in
+    e .end-or-self .result .0
+    ≡ farAt (a .shifts .now) (a .work .now) (length (a .d .now)) (entry (a .work .now) (a .p))
+    (classRow (a .class) (l .loop .j))
+ends e =
+    let a = start (read (turned e)) .args in
+    far-at (a .shifts .now) (a .work .now) (length (a .d .now)) (read (turned e) .wide .ensures)
+    (e .before .row-of .ensures) (e .end-or-self .ensures)
+
+mul-wide : tie.Need-mul-wide Inv-loop μ-loop
 mul-wide c = omega (arith, place-in (c .before .before .before))
 
-slice-read-wide : tie.Need-slice-read-wide
+slice-read-wide : tie.Need-slice-read-wide Inv-loop μ-loop
 slice-read-wide c = place-in (c .before .before .before .before)
 
-wide-requires : tie.Need-wide-requires
+wide-requires : tie.Need-wide-requires Inv-loop μ-loop
 wide-requires c κs = search needs
 
-mul-open : tie.Need-mul-open
-mul-open c = omega (arith, few (start c))
+mul-mask : tie.Need-mul-mask Inv-loop μ-loop
+mul-mask c = omega (arith, few (start c))
 
-add-open : tie.Need-add-open
-add-open c = let w = c .before in omega (arith, vertex-in w, few (start w))
+add-mask : tie.Need-add-mask Inv-loop μ-loop
+add-mask c = let w = c .before in omega (arith, vertex w, few (start w))
 
-mul-open-2 : tie.Need-mul-open-2
-mul-open-2 c = let w = c .before in omega (arith, vertex-in w, few (start w))
+mul-mask-2 : tie.Need-mul-mask-2 Inv-loop μ-loop
+mul-mask-2 c = let w = c .before in omega (arith, vertex w, few (start w))
 
-slice-read-open : tie.Need-slice-read-open
-slice-read-open c =
+slice-read-mask : tie.Need-slice-read-mask Inv-loop μ-loop
+slice-read-mask c =
     let w = c .before .before in
     let S = start w .pre .3 .ready .settled in
-    omega (arith, vertex-in w, S .d-len, S .work-len)
+    omega (arith, vertex w, S .d-len, S .work-len)
 
-relax-rows-requires : tie.Need-relax-rows-requires
-relax-rows-requires c κs =
-    let t = c .before .before in
-    let w = read (t .before) in
-    (_, _, _, _, _, record { relaxing = start w .pre .3; vertex = w .wide .ensures; open-rows = sym (t .if1 .taken) })
+loop-holds : tie.Need-loop-holds Inv-loop μ-loop
+loop-holds c = (λ g r a B. relaxed-none B, omega arith)
 
-same-length : tie.Need-same-length
-same-length c = search needs
+row-of-requires : tie.Need-row-of-requires Inv-loop μ-loop
+row-of-requires c κs = let i : c .before .loop .j < 4 = omega arith in (row-low (start (read (c .before)) .pre .3) i, i)
 
-same-length-2 : tie.Need-same-length-2
-same-length-2 c = search needs
+end-or-self-requires : tie.Need-end-or-self-requires Inv-loop μ-loop
+end-or-self-requires c κs =
+    let w = read (c .before .before) in
+    rw (w .wide .ensures, c .row-of .ensures) (reaching (start w .pre .3) (omega arith))
 
-returns : tie.Need-returns
+offer-requires : tie.Need-offer-requires Inv-loop μ-loop
+offer-requires c κs =
+    let e = c .before .before in
+    let l = turned e in
+    let B = start (read l) .pre .3 in
+    offering B (omega arith) (ends e) (l .loop .inv .0 _ _ _ B)
+
+add-j : tie.Need-add-j Inv-loop μ-loop
+add-j c = omega arith
+
+loop-less : tie.Need-loop-less Inv-loop μ-loop
+loop-less c = omega arith
+
+loop-again : tie.Need-loop-again Inv-loop μ-loop
+loop-again c =
+    let o = c .before .before .before .before in
+    let e = o .before .before .before in
+    let l = turned e in
+    (λ g r a B. relaxed-more B (omega arith) (ends e) (l .loop .inv .0 g r a B) (o .offer .ensures), omega arith)
+
+same-length : tie.Need-same-length Inv-loop μ-loop
+same-length c =
+    let l = c .before in
+    let B = start (read l) .pre .3 in
+    l .loop .inv .0 _ _ _ B .ready .settled .d-len ∙ sym (B .ready .settled .d-len)
+
+same-length-2 : tie.Need-same-length-2 Inv-loop μ-loop
+same-length-2 c =
+    let l = c .before in
+    let B = start (read l) .pre .3 in
+    l .loop .inv .0 _ _ _ B .ready .settled .work-len ∙ sym (B .ready .settled .work-len)
+
+returns : tie.Need-returns Inv-loop μ-loop
 returns c =
-    let b = c .before .before .before .before in
-    let t = b .before .before .before in
-    let w = read (t .before) in
-    λ g r a B. rw (w .wide .ensures)
-    at (b .relax-rows .ensures g r _ a _
-    (record { relaxing = B; vertex = w .wide .ensures; open-rows = sym (t .if1 .taken) }))
-
-relax-rows-requires-2 : tie.Need-relax-rows-requires-2
-relax-rows-requires-2 c κs =
-    let w = read (c .before .before .before) in
-    (_, _, _, _, _, record { relaxing = start w .pre .3; vertex = w .wide .ensures; open-rows = refl })
-
-same-length-3 : tie.Need-same-length-3
-same-length-3 c = search needs
-
-same-length-4 : tie.Need-same-length-4
-same-length-4 c = search needs
-
-returns-2 : tie.Need-returns-2
-returns-2 c =
-    let b = c .before .before .before .before in
-    let w = read (b .before .before .before .before) in
-    λ g r a B. rw (w .wide .ensures)
-    at (b .relax-rows2 .ensures g r _ a _ (record { relaxing = B; vertex = w .wide .ensures; open-rows = refl }))
+    let l = c .before in
+    let end : l .loop .j ≡ 4 = omega (arith, l .loop .inv .1) in
+    λ g r a B. relaxed-all B (rw end at (l .loop .inv .0 g r a B))
 
 pub relax-class-spec : {M : Type 1} → statement M
 relax-class-spec =
     tie.close
     (tie.spec
+    Inv-loop
+    μ-loop
     mul-wide
     slice-read-wide
     wide-requires
-    mul-open
-    add-open
-    mul-open-2
-    slice-read-open
-    relax-rows-requires
+    mul-mask
+    add-mask
+    mul-mask-2
+    slice-read-mask
+    loop-holds
+    row-of-requires
+    end-or-self-requires
+    offer-requires
+    add-j
+    loop-less
+    loop-again
     same-length
     same-length-2
-    returns
-    relax-rows-requires-2
-    same-length-3
-    same-length-4
-    returns-2)
+    returns)

@@ -1,0 +1,160 @@
+-- The test of a cost by the least that a move gives it, over any graph.
+--
+--   least-is      == the least of some numbers is one of them, or `nowhere`, and at most all
+--   right-found   == the test by the least, from what the code finds in turn
+--   least-right   == the test by the least is `rightCostIn`, where the moves of the graph are those of the classes
+use Prim.Native.Nat.{ℕ, zero, suc, _+_, _≤_, _<_}
+use mathlib.Core.Path.{_≡_, refl, sym, ap, ap₂, _∙_}
+use mathlib.Core.Logic.{_⊎_, inl, inr, ⊎-elim}
+use mathlib.Core.Bool.{Bool, true, false, _&&_, _||_, or-assoc, or-comm}
+use mathlib.Core.Option.{Option, none, some}
+use mathlib.Core.List.{List}
+use native.Mathlib.Omega.{arith}
+use borrow.Author.Tests.{lt-ltb, le-ltb, leb-true, le-leb, eqb-true, eq-eqb, ne-eqb}
+use lib.Dec.{leb, eqb}
+use Rattle.basics.proofs.Order.{le-or-lt, eq-or-ne}
+use Rattle.basics.proofs.Bools.{iff-eq}
+use Rattle.basics.proofs.Bounded.{any-cases, any-one}
+use Rattle.offsets.specs.declared.Class.{Class}
+use Rattle.offsets.specs.Classes.{classAt, classRow}
+use Rattle.paths.specs.Graph.{Graph}
+use Rattle.paths.specs.Distance.{unreachable}
+use Rattle.paths.specs.Local.{tight}
+use Rattle.paths.proofs.Neighbours.{is-there-cases, is-there-at}
+use Rattle.neighbours.specs.Reach.{tightBy}
+use Rattle.neighbours.specs.Least.{endOr, relaxedIn, rightCostIn, nowhere, lesserOf, leastOf, rowEnd, endAt, leastBy}
+use Rattle.neighbours.specs.Least.{leastAt, rightBy, rightNear, ClassMoves}
+use Rattle.neighbours.proofs.Incoming.{relaxedIn-cases, relaxedIn-all}
+
+record Lesser (x y z : ℕ) : Type 0 where
+  left : z ≤ x
+  right : z ≤ y
+  is : (z ≡ x) ⊎ (z ≡ y)
+
+lesser-is : (x y : ℕ) → Lesser x y (lesserOf x y)
+lesser-is x y = ⊎-elim
+    (λ h. rw (le-ltb x y h) (record { left = h; right = omega arith; is = inr refl }))
+    (λ h. rw (lt-ltb x y h) (record { left = omega arith; right = omega arith; is = inl refl })) (le-or-lt y x)
+
+pub record Least (F : ℕ → ℕ) (n z : ℕ) : Type 0 where
+  pub most : z ≤ nowhere
+  pub each : (j : ℕ) → j < n → z ≤ F j
+  pub is : (z ≡ nowhere) ⊎ ((j : ℕ) × (j < n) × (z ≡ F j))
+
+pub least-is : (F : ℕ → ℕ) (n : ℕ) → Least F n (leastOf F n)
+unfolding leastOf
+least-is F zero = record { most = omega arith; each = λ j h. absurd (omega arith); is = inl refl }
+least-is F (suc n) =
+    let L = least-is F n in
+    let K = lesser-is (leastOf F n) (F n) in
+    record {
+      most = omega (arith, K .left, L .most);
+      each = λ j h. ⊎-elim (λ (lt : suc j ≤ n). omega (arith, K .left, L .each j lt))
+          (λ (ge : n < suc j). let e : j ≡ n = omega arith in rw e (K .right)) (le-or-lt (suc j) n);
+      is = ⊎-elim
+          (λ e. ⊎-elim (λ q. inl (e ∙ q)) (λ q. inr (q .0, omega (arith, q .1), e ∙ q .2)) (L .is))
+          (λ e. inr (n, omega arith, e)) (K .is);
+    }
+
+-- x and y are the least by the first class and by the second, z is the lesser of them, and r what it says of the cost.
+pub right-found : (a v : ℕ) (D : ℕ → ℕ) {x y z p q : ℕ} {r : Bool} → x ≡ p → y ≡ q → z ≡ lesserOf x y
+    → r ≡ rightBy z a D v → r ≡ rightBy (lesserOf p q) a D v
+right-found a v D p q e f = f ∙ ap (λ z. rightBy z a D v) (e ∙ ap₂ lesserOf p q)
+
+-- The parts of the two tests, each in its order.
+reordered : (b u s t e : Bool) → (b ≡ true → t ≡ e) → (b && (u || (s || t))) ≡ (b && (e || (u || s)))
+reordered true u s t e h = rw (h refl) (sym (or-assoc u s e) ∙ or-comm (u || s) e)
+reordered false u s t e h = refl
+
+module _ {g : Graph} {s : List ℕ} {l : List Class} {mask v : ℕ} (C : ClassMoves g s l mask v) (D : ℕ → ℕ) where
+  abbrev by : ℕ → ℕ
+  by k = leastBy s mask D v (classAt l k)
+
+  abbrev X : ℕ
+  X = leastAt s l mask D v
+
+  -- An open move gives v the cost x.
+  record Gives (x : ℕ) : Type 0 where
+    move : ℕ
+    to : ℕ
+    below : move < g .moves
+    goes : g .step move v ≡ some to
+    is : x ≡ D to + g .cost move
+
+  abbrev ends : ℕ → ℕ → ℕ
+  ends k j = D (endAt s mask v (classRow (classAt l k) j))
+
+  by-moves : (k : ℕ) → 0 < classAt l k .cost → by k ≡ leastOf (ends k) 4 + classAt l k .cost
+  unfolding leastBy
+  by-moves k pos = rw (ne-eqb (classAt l k .cost) 0 (λ e. omega arith))
+
+  least-class : (k : ℕ) → k < 2 → X ≤ by k
+  least-class k h =
+      let K = lesser-is (by 0) (by 1) in
+      ⊎-elim (λ z. let e : k ≡ 0 = omega arith in rw e (K .left)) (λ z. let e : k ≡ 1 = omega arith in rw e (K .right))
+      (le-or-lt k 0)
+
+  -- The least is at most what any open move gives.
+  least-le : (m w : ℕ) → m < g .moves → g .step m v ≡ some w → X ≤ D w + g .cost m
+  least-le m w lt st =
+      let c = C .covers m lt in
+      let k = c .0 in
+      let b = c .4 in
+      let e : ends k (c .1) ≡ D w = ap (λ o. D (endOr v o)) (sym (b .step) ∙ st) in
+      omega (arith, least-class k (c .2), by-moves k (c .3), least-is (ends k) 4 .each (c .1) (b .row), b .cost)
+
+  -- The least is what an open move gives, or above the cost of v, as what a shut move would give is.
+  module _ (small : D v ≤ unreachable) where
+    given-by : (k : ℕ) → k < 2 → (D v < by k) ⊎ Gives (by k)
+    unfolding leastBy
+    given-by k h = ⊎-elim (λ e. inl (rw (eq-eqb (classAt l k .cost) 0 e) (omega arith)))
+        (λ ne. let pos : 0 < classAt l k .cost = omega arith in
+        ⊎-elim (λ e. inl (omega (arith, by-moves k pos)))
+        (λ j. row (j .0) (j .1) pos (j .2) (rowEnd s mask v (classRow (classAt l k) (j .0))) refl)
+        (least-is (ends k) 4 .is)) (eq-or-ne (classAt l k .cost) 0)
+      where
+        row : (j : ℕ) → j < 4 → 0 < classAt l k .cost → leastOf (ends k) 4 ≡ ends k j
+            → (o : Option ℕ) → rowEnd s mask v (classRow (classAt l k) j) ≡ o → (D v < by k) ⊎ Gives (by k)
+        row j i pos e none q =
+            let z : ends k j ≡ D v = ap (λ o. D (endOr v o)) q in
+            inl (omega (arith, by-moves k pos))
+        row j i pos e (some w) q =
+            let z : ends k j ≡ D w = ap (λ o. D (endOr v o)) q in
+            let m = C .move k j h i pos in
+            inr (record {
+              move = m .0;
+              to = w;
+              below = m .1 .listed;
+              goes = m .1 .step ∙ q;
+              is = omega (arith, by-moves k pos, m .1 .cost);
+            })
+
+    given-least : (D v < X) ⊎ Gives X
+    given-least = ⊎-elim (λ e. rw e (given-by 0 (omega arith))) (λ e. rw e (given-by 1 (omega arith)))
+        (lesser-is (by 0) (by 1) .is)
+
+    relaxed-least : relaxedIn g D v ≡ leb (D v) X
+    relaxed-least = iff-eq (relaxedIn g D v) (leb (D v) X)
+        (λ r. le-leb (D v) X (⊎-elim (λ lt. omega arith)
+        (λ o. omega (arith, o .is, relaxedIn-cases g D v r (o .move) (o .to) (o .below) (o .goes))) given-least))
+        (λ t. relaxedIn-all g D v (λ m w lt st. omega (arith, leb-true (D v) X t, least-le m w lt st)))
+
+    tight-least : D v ≤ X → tight g D v ≡ eqb (D v) X
+    unfolding tight tightBy
+    tight-least le = iff-eq (tight g D v) (eqb (D v) X)
+        (λ t.
+        let m = any-cases (g .moves) (tightBy g D v) t in
+        let w = is-there-cases (g .step (m .0) v) (λ w. eqb (D w + g .cost (m .0)) (D v)) (m .2) in
+        eq-eqb (D v) X
+        (omega (arith, least-le (m .0) (w .0) (m .1) (w .1), eqb-true (D (w .0) + g .cost (m .0)) (D v) (w .2))))
+        (λ t. ⊎-elim (λ lt. absurd (omega (arith, eqb-true (D v) X t)))
+        (λ o. any-one (g .moves) (o .move) (tightBy g D v) (o .below)
+        (is-there-at (g .step (o .move) v) _ (o .to) (o .goes)
+        (eq-eqb (D (o .to) + g .cost (o .move)) (D v) (omega (arith, o .is, eqb-true (D v) X t))))) given-least)
+
+    pub least-right : (a : ℕ) → rightCostIn g a D v ≡ rightNear s l mask a D v
+    unfolding rightCostIn rightBy
+    least-right a =
+        rw (le-leb (D v) unreachable small, relaxed-least)
+        (reordered (leb (D v) X) (eqb (D v) unreachable) (eqb v a) (tight g D v) (eqb (D v) X)
+        (λ t. tight-least (leb-true (D v) X t)))

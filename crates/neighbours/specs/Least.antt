@@ -1,0 +1,102 @@
+-- The test of a cost by the least that an open move gives it. The moves of a vertex are read by class: four far ends at
+-- one cost. Nobody has to believe these: `costs-in` ties the test to `rightCost`, and `least-right` the classes to it.
+--
+--   relaxedBy g D v m        == v costs no more than the far end of move m and that move
+--   relaxedIn g D v          == so it is of every open move; `relaxed` says it of the far end
+--   rightCostIn g a D v      == what `rightCost` says, with that test of the moves
+--   nowhere                  == a cost above every other
+--   lesserOf x y             == the lesser of two numbers
+--   leastOf F n              == the least of `nowhere` and F 0, .. F (n - 1)
+--   endOr v e                == the far end e; v itself where there is none
+--   rowEnd s mask v k        == the far end of row k from v by its mask and the shifts s, if the move is open
+--   endAt s mask v k         == the same, and v itself where the move is shut, which is never the least: a move costs 1
+--   leastBy s mask D v c     == the least cost that a move of class c gives v: that of its far end and its own
+--   leastAt s l mask D v     == the least by the two classes of l
+--   rightBy x a D v          == the cost of v is right, where x is the least that a move gives it: it is x, or lower at
+--                               the source and where v is unreached
+--   rightNear s l mask a D v == so it is, by its neighbours
+--   RowLent n s mask v k     == the far end of row k from v can be worked out, and is below n
+--   Near n s l mask v        == so can those of every class, and v is below n
+--   MoveBy g s mask v c j m  == move m of the graph g from v is that of row j of class c
+--   ClassMoves g s l mask v  == the moves of the graph g from v are those of the classes of l
+use Prim.Native.Nat.{ℕ, zero, suc, _+_, _<_}
+use mathlib.Core.Path.{_≡_}
+use mathlib.Core.Bool.{Bool, _&&_, _||_}
+use mathlib.Core.List.{List}
+use mathlib.Core.Option.{Option, none, some}
+use lib.Dec.{leb, ltb, eqb}
+use lib.ListN.{length}
+use Rattle.basics.specs.Bounded.{pick, every}
+use Rattle.offsets.specs.declared.Class.{Class}
+use Rattle.offsets.specs.Offsets.{maskedEnd, Movable, shiftedBy}
+use Rattle.offsets.specs.Classes.{classAt, classRow}
+use Rattle.paths.specs.Graph.{Graph}
+use Rattle.paths.specs.Distance.{unreachable}
+use Rattle.paths.specs.Local.{if-there, tight}
+
+unfoldable pub relaxedBy : Graph → (ℕ → ℕ) → ℕ → ℕ → Bool
+relaxedBy g D v m = if-there (g .step m v) (λ w. leb (D v) (D w + g .cost m))
+
+unfoldable pub relaxedIn : Graph → (ℕ → ℕ) → ℕ → Bool
+relaxedIn g D v = every (g .moves) (relaxedBy g D v)
+
+unfoldable pub rightCostIn : Graph → ℕ → (ℕ → ℕ) → ℕ → Bool
+rightCostIn g a D v = leb (D v) unreachable && (relaxedIn g D v && (eqb (D v) unreachable || (eqb v a || tight g D v)))
+
+-- ---- by the least
+
+abbrev pub nowhere : ℕ
+nowhere = 4294967296
+
+abbrev pub lesserOf : ℕ → ℕ → ℕ
+lesserOf x y = pick (ltb x y) x y
+
+unfoldable pub leastOf : (ℕ → ℕ) → ℕ → ℕ
+leastOf F zero = nowhere
+leastOf F (suc n) = lesserOf (leastOf F n) (F n)
+
+abbrev pub endOr : ℕ → Option ℕ → ℕ
+endOr v none = v
+endOr v (some w) = w
+
+abbrev pub rowEnd : List ℕ → ℕ → ℕ → ℕ → Option ℕ
+rowEnd s mask v k = maskedEnd mask v k (shiftedBy s k)
+
+abbrev pub endAt : List ℕ → ℕ → ℕ → ℕ → ℕ
+endAt s mask v k = endOr v (rowEnd s mask v k)
+
+unfoldable pub leastBy : List ℕ → ℕ → (ℕ → ℕ) → ℕ → Class → ℕ
+leastBy s mask D v c = pick (eqb (c .cost) 0) nowhere (leastOf (λ j. D (endAt s mask v (classRow c j))) 4 + c .cost)
+
+abbrev pub leastAt : List ℕ → List Class → ℕ → (ℕ → ℕ) → ℕ → ℕ
+leastAt s l mask D v = lesserOf (leastBy s mask D v (classAt l 0)) (leastBy s mask D v (classAt l 1))
+
+unfoldable pub rightBy : ℕ → ℕ → (ℕ → ℕ) → ℕ → Bool
+rightBy x a D v = leb (D v) x && (eqb (D v) x || (eqb (D v) unreachable || eqb v a))
+
+abbrev pub rightNear : List ℕ → List Class → ℕ → ℕ → (ℕ → ℕ) → ℕ → Bool
+rightNear s l mask a D v = rightBy (leastAt s l mask D v) a D v
+
+pub record RowLent (n : ℕ) (s : List ℕ) (mask v k : ℕ) : Type 0 where
+  pub listed : k < length s
+  pub movable : Movable mask v k (shiftedBy s k)
+  pub inside : endAt s mask v k < n
+
+-- A class of no move has nothing to read.
+pub record ClassLent (n : ℕ) (s : List ℕ) (mask v : ℕ) (c : Class) : Type 0 where
+  pub row : 0 < c .cost → (j : ℕ) → j < 4 → RowLent n s mask v (classRow c j)
+
+pub record Near (n : ℕ) (s : List ℕ) (l : List Class) (mask v : ℕ) : Type 0 where
+  pub vertex : v < n
+  pub class : (k : ℕ) → k < 2 → ClassLent n s mask v (classAt l k)
+
+pub record MoveBy (g : Graph) (s : List ℕ) (mask v : ℕ) (c : Class) (j m : ℕ) : Type 0 where
+  pub row : j < 4
+  pub listed : m < g .moves
+  pub step : g .step m v ≡ rowEnd s mask v (classRow c j)
+  pub cost : g .cost m ≡ c .cost
+
+pub record ClassMoves (g : Graph) (s : List ℕ) (l : List Class) (mask v : ℕ) : Type 0 where
+  pub move : (k j : ℕ) → k < 2 → j < 4 → 0 < classAt l k .cost → (m : ℕ) × MoveBy g s mask v (classAt l k) j m
+  pub covers : (m : ℕ) → m < g .moves
+      → (k : ℕ) × (j : ℕ) × (k < 2) × (0 < classAt l k .cost) × MoveBy g s mask v (classAt l k) j m
