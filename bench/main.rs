@@ -2,8 +2,13 @@
 //!
 //!     bench agree FLOORS
 //!     bench table ROUNDS
+//!     bench list
+//!     bench measure ROUNDS
 //!     bench repeat PROGRAM OPERATION FLOOR SIDE NEIGHBOURHOOD TIMES
 //!     bench segment PROGRAM COLUMNS ROWS TIMES
+//!
+//! A measurement's name is the four words OPERATION FLOOR SIDE NEIGHBOURHOOD. `list` prints every name, a line each;
+//! `measure` reads such lines and prints each with the library's nanoseconds after it. bench/beside relies on both.
 
 #[allow(dead_code)]
 #[path = "../examples/rust/lurfanzi.rs"]
@@ -23,7 +28,7 @@ mod tuned_sight;
 
 use floors::{Case, KINDS};
 use lurfanzi::Floor;
-use programs::{Bench, OPERATIONS, PROGRAMS};
+use programs::{Bench, Operation, LIBRARY, OPERATIONS, PROGRAMS};
 use std::hint::black_box;
 use std::process::ExitCode;
 
@@ -31,15 +36,32 @@ fn number(word: &str) -> Option<usize> {
     word.parse().ok()
 }
 
-/// Runs one program on one floor a number of times, for a tool that counts instructions.
-fn repeat(words: &[&str]) -> Option<()> {
-    let &[program, operation, floor, side, neighbourhood, times] = words else { return None };
-    let program = PROGRAMS.iter().find(|known| known.name == program)?;
+/// What a measurement's name says.
+fn named(words: &[&str]) -> Option<(Operation, Case)> {
+    let &[operation, floor, side, neighbourhood] = words else { return None };
     let operation = *OPERATIONS.iter().find(|known| known.name() == operation)?;
     let kind = *KINDS.iter().find(|known| known.name() == floor)?;
     let side = number(side).filter(|side| (1..=127).contains(side))?;
     let neighbourhood = number(neighbourhood).filter(|&moves| moves == 4 || moves == 8)?;
-    let case = Case::new(kind, side, neighbourhood as u32);
+    Some((operation, Case::new(kind, side, neighbourhood as u32)))
+}
+
+/// Times the library alone at each measurement that the input names.
+fn measure(rounds: usize) -> Option<()> {
+    for line in std::io::stdin().lines() {
+        let line = line.ok()?;
+        let (operation, case) = named(&line.split(' ').collect::<Vec<_>>())?;
+        let times = table::measure(&mut Bench::new(&case), &[LIBRARY], operation, rounds);
+        println!("{line} {:.2}", times[0]);
+    }
+    Some(())
+}
+
+/// Runs one program on one floor a number of times, for a tool that counts instructions.
+fn repeat(words: &[&str]) -> Option<()> {
+    let [program, name @ .., times] = words else { return None };
+    let program = PROGRAMS.iter().find(|known| known.name == *program)?;
+    let (operation, case) = named(name)?;
     let mut bench = Bench::new(&case);
     for _ in 0..number(times)? {
         bench.run(program, operation);
@@ -68,13 +90,15 @@ fn main() -> ExitCode {
     let done = match words.as_slice() {
         ["agree", floors] => number(floors).map(agree::agree),
         ["table", rounds] => number(rounds).map(table::print),
+        ["list"] => Some(table::list()),
+        ["measure", rounds] => number(rounds).and_then(measure),
         ["repeat", rest @ ..] => repeat(rest),
         ["segment", rest @ ..] => segment(rest),
         _ => None,
     };
     if done.is_none() {
-        eprintln!("bench agree FLOORS | table ROUNDS | repeat PROGRAM OPERATION FLOOR SIDE NEIGHBOURHOOD TIMES");
-        eprintln!("    | segment PROGRAM COLUMNS ROWS TIMES");
+        eprintln!("bench agree FLOORS | table ROUNDS | list | measure ROUNDS");
+        eprintln!("    | repeat PROGRAM OPERATION FLOOR SIDE NEIGHBOURHOOD TIMES | segment PROGRAM COLUMNS ROWS TIMES");
         return ExitCode::FAILURE;
     }
     ExitCode::SUCCESS

@@ -7,7 +7,7 @@ use std::time::Instant;
 
 const SIDES: [usize; 4] = [16, 32, 64, 127];
 
-/// Nanoseconds of one operation, for each of its programs in turn.
+/// Nanoseconds of one operation, for each program in turn.
 type Times = Vec<f64>;
 
 /// A timed stretch lasts at least this long, so that the clock's own steps do not count.
@@ -22,8 +22,7 @@ fn timed(bench: &mut Bench, program: &Program, operation: Operation, runs: usize
 }
 
 /// The least of many rounds; a round has each program once, the first place going round.
-fn measure(bench: &mut Bench, operation: Operation, rounds: usize) -> Times {
-    let programs = operation.programs();
+pub fn measure(bench: &mut Bench, programs: &[Program], operation: Operation, rounds: usize) -> Times {
     let mut runs_to_fill = |program: &Program| {
         let one = timed(bench, program, operation, 1).min(timed(bench, program, operation, 1));
         (STRETCH / (one * bench.count(operation) as f64)).ceil().max(1.0) as usize
@@ -46,17 +45,27 @@ struct Row {
     by_side: Vec<Times>,
 }
 
+/// The floors with their neighbourhoods.
+fn floors() -> impl Iterator<Item = (Kind, u32)> {
+    KINDS.into_iter().flat_map(|kind| [(kind, 8), (kind, 4)])
+}
+
+/// Whether the operation is measured with the neighbourhood: with one of them where it does not matter.
+fn is_measured(operation: Operation, neighbourhood: u32) -> bool {
+    neighbourhood == 8 || operation.has_neighbourhood()
+}
+
 fn rows(rounds: usize) -> Vec<Row> {
     let mut rows: Vec<Row> = Vec::new();
-    for (kind, neighbourhood) in KINDS.into_iter().flat_map(|kind| [(kind, 8), (kind, 4)]) {
+    for (kind, neighbourhood) in floors() {
         let mut by_operation: Vec<Vec<Times>> = vec![Vec::new(); OPERATIONS.len()];
         for side in SIDES {
             let case = Case::new(kind, side, neighbourhood);
             agree::agree_on_case(&case);
             let mut bench = Bench::new(&case);
             for (operation, by_side) in OPERATIONS.into_iter().zip(&mut by_operation) {
-                if neighbourhood == 8 || operation.has_neighbourhood() {
-                    by_side.push(measure(&mut bench, operation, rounds));
+                if is_measured(operation, neighbourhood) {
+                    by_side.push(measure(&mut bench, operation.programs(), operation, rounds));
                 }
             }
         }
@@ -123,5 +132,16 @@ pub fn print(rounds: usize) {
             print_row(row, heap_search(&rows, row));
         }
         println!();
+    }
+}
+
+/// Prints the name of every measurement of the table, in the order of its rows.
+pub fn list() {
+    for operation in OPERATIONS {
+        for (kind, neighbourhood) in floors().filter(|&(_, neighbourhood)| is_measured(operation, neighbourhood)) {
+            for side in SIDES {
+                println!("{} {} {side} {neighbourhood}", operation.name(), kind.name());
+            }
+        }
     }
 }
