@@ -3,12 +3,12 @@
 //!     bench agree FLOORS
 //!     bench table ROUNDS
 //!     bench list
-//!     bench measure ROUNDS
+//!     bench measure OPERATION FLOOR SIDE NEIGHBOURHOOD ROUNDS
 //!     bench repeat PROGRAM OPERATION FLOOR SIDE NEIGHBOURHOOD TIMES
 //!     bench segment PROGRAM COLUMNS ROWS TIMES
 //!
 //! A measurement's name is the four words OPERATION FLOOR SIDE NEIGHBOURHOOD. `list` prints every name, a line each;
-//! `measure` reads such lines and prints each with the library's nanoseconds after it. bench/beside relies on both.
+//! `measure` prints the name and the library's nanoseconds. bench/beside relies on both, and on `repeat`.
 
 #[allow(dead_code)]
 #[path = "../examples/rust/lurfanzi.rs"]
@@ -46,14 +46,12 @@ fn named(words: &[&str]) -> Option<(Operation, Case)> {
     Some((operation, Case::new(kind, side, neighbourhood as u32)))
 }
 
-/// Times the library alone at each measurement that the input names.
-fn measure(rounds: usize) -> Option<()> {
-    for line in std::io::stdin().lines() {
-        let line = line.ok()?;
-        let (operation, case) = named(&line.split(' ').collect::<Vec<_>>())?;
-        let times = table::measure(&mut Bench::new(&case), &[LIBRARY], operation, rounds);
-        println!("{line} {:.2}", times[0]);
-    }
+/// Times the library alone.
+fn measure(words: &[&str]) -> Option<()> {
+    let [name @ .., rounds] = words else { return None };
+    let (operation, case) = named(name)?;
+    let times = table::measure(&mut Bench::new(&case), &[LIBRARY], operation, number(rounds)?);
+    println!("{} {:.2}", name.join(" "), times[0]);
     Some(())
 }
 
@@ -91,13 +89,13 @@ fn main() -> ExitCode {
         ["agree", floors] => number(floors).map(agree::agree),
         ["table", rounds] => number(rounds).map(table::print),
         ["list"] => Some(table::list()),
-        ["measure", rounds] => number(rounds).and_then(measure),
+        ["measure", rest @ ..] => measure(rest),
         ["repeat", rest @ ..] => repeat(rest),
         ["segment", rest @ ..] => segment(rest),
         _ => None,
     };
     if done.is_none() {
-        eprintln!("bench agree FLOORS | table ROUNDS | list | measure ROUNDS");
+        eprintln!("bench agree FLOORS | table ROUNDS | list | measure OPERATION FLOOR SIDE NEIGHBOURHOOD ROUNDS");
         eprintln!("    | repeat PROGRAM OPERATION FLOOR SIDE NEIGHBOURHOOD TIMES | segment PROGRAM COLUMNS ROWS TIMES");
         return ExitCode::FAILURE;
     }
