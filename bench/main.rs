@@ -67,7 +67,8 @@ fn repeat(words: &[&str]) -> Option<()> {
     Some(())
 }
 
-/// Asks one program a number of times whether the first vertex of an open floor sees the one so many columns and rows away.
+/// Asks one program a number of times whether the first vertex of an open floor sees the one so many columns and rows
+/// away.
 fn segment(words: &[&str]) -> Option<()> {
     let &[program, columns, rows, times] = words else { return None };
     let program = PROGRAMS.iter().find(|known| known.name == program)?;
