@@ -55,7 +55,7 @@ pub record Sided (w h : ℕ) (t : Closures) : Type 0 where
 pub empty-sided : (w h : ℕ) → Sided w h (emptyTable w h)
 empty-sided w h = record { wide = refl; high = refl; sixteen = length-replicate 16 (slotOf Free) }
 
-with-sided : {w h : ℕ} {t : Closures} (k : ℕ) (s : Hold) → Sided w h t → Sided w h (withSlot t k s)
+pub with-sided : {w h : ℕ} {t : Closures} (k : ℕ) (s : Hold) → Sided w h t → Sided w h (withSlot t k s)
 with-sided {w} {h} {t} k s g =
     record { wide = g .wide; high = g .high; sixteen = length-set (t .slots) k (slotOf s) ∙ g .sixteen }
 
@@ -79,7 +79,7 @@ held-empty w h = λ i k. at k i
         (λ (l : k < 16). ap (λ s. heldIn (s .hold)) (getD-replicate 16 k (slotOf Free) (slotOf Free) l))
         (le-or-lt 16 k)
 
-held-with : (t : Closures) (k : ℕ) (s : Hold) → k < length (t .slots)
+pub held-with : (t : Closures) (k : ℕ) (s : Hold) → k < length (t .slots)
     → held (withSlot t k s) ≡ changed (held t) k (heldIn s)
 held-with t k s l = λ i j. at j i
   where
