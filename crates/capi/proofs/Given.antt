@@ -1,12 +1,32 @@
 -- The answers of the C interface from those of the operations.
 use Prim.Native.Nat.{ℕ}
-use mathlib.Core.Path.{_≡_, refl, ap, ap₂, _∙_}
+use mathlib.Core.Path.{_≡_, sym, ap, _∙_}
 use mathlib.Core.List.{List}
+use Rattle.floor.specs.Refusals.{refusalNumber}
+use Rattle.floor.specs.declared.Refusal.{Refusal}
+use Rattle.sight.specs.declared.Obstacle.{Obstacle}
+use Rattle.sight.specs.declared.Sight.{Sight}
+use Rattle.sight.specs.declared.Sight.the-variants.{Answered, Unasked}
 use Rattle.planner.specs.Plan.{Slices, Plans, planNumber, planCost, planTotal, planPoints}
 use Rattle.planner.specs.declared.Planned.{Planned}
 use Rattle.thinning.specs.Answer.{Thins, thinNumber, thinKept}
 use Rattle.thinning.specs.declared.Thinned.{Thinned}
-use Rattle.capi.specs.Results.{planResult, thinResult, PlansTo, ThinsTo}
+use Rattle.closures.specs.Plain.{postSlot, postNumber, strikeNumber, workNumber}
+use Rattle.closures.specs.declared.Rectangle.{Rectangle}
+use Rattle.closures.specs.declared.Posting.{Posting}
+use Rattle.closures.specs.declared.Striking.{Striking}
+use Rattle.closures.specs.declared.Writing.{Writing}
+use Rattle.stored_closures.specs.Stored.{PostsIn, StrikesIn, WritesFrom}
+use Rattle.capi.specs.Results.{obstacleNumber, obstaclePlace, obstacleResult, planResult, thinResult, postResult}
+use Rattle.capi.specs.Results.{PlansTo, ThinsTo, PostsTo, StrikesTo, WritesTo}
+
+pub obstacle-refused : {s : Sight} {x : Refusal} {r : ℕ} → s ≡ Unasked x → r ≡ refusalNumber x
+    → record { place = 0; answer = r } ≡ obstacleResult s
+obstacle-refused e er = rw er (sym (ap obstacleResult e))
+
+pub obstacle-answered : {s : Sight} {o : Obstacle} {p r : ℕ} → s ≡ Answered o → p ≡ obstaclePlace o
+    → r ≡ obstacleNumber o → record { place = p; answer = r } ≡ obstacleResult s
+obstacle-answered e ep er = rw (ep, er) (sym (ap obstacleResult e))
 
 pub plans-to : {w h : ℕ} {map : List ℕ} {nb a b : ℕ} {s s' : Slices} {p : Planned} {t n c r : ℕ} → Plans w h map nb a b s p s'
     → t ≡ planTotal p → n ≡ planPoints p → c ≡ planCost p → r ≡ planNumber p
@@ -16,3 +36,15 @@ plans-to {p = p} P et en ec er = record { answer = rw (et, en, ec, er) (ap planR
 pub thins-to : {w h : ℕ} {map list out out' : List ℕ} {n k r : ℕ} {t : Thinned} → Thins w h map list out n t out'
     → k ≡ thinKept t → r ≡ thinNumber t → ThinsTo w h map list out n (record { kept = k; answer = r }) out'
 thins-to T ek er = record { answer = rw (ek, er) (ap thinResult (T .answer)); left = T .output }
+
+pub posts-to : {w h : ℕ} {l l' : List ℕ} {x : Rectangle} {p : Posting} {k r : ℕ} → PostsIn w h l x p l'
+    → k ≡ postSlot p → r ≡ postNumber p → PostsTo w h l x (record { slot = k; answer = r }) l'
+posts-to P ek er = record { answer = rw (ek, er) (ap postResult (P .answers)); left = P .leaves }
+
+pub strikes-to : {w h : ℕ} {l l' : List ℕ} {k r : ℕ} {s : Striking} → StrikesIn w h l k s l' → r ≡ strikeNumber s
+    → StrikesTo w h l k r l'
+strikes-to S e = record { answer = e ∙ ap strikeNumber (S .answers); left = S .leaves }
+
+pub writes-to : {w h : ℕ} {l base map map' : List ℕ} {r : ℕ} {s : Writing} → WritesFrom w h l base map s map'
+    → r ≡ workNumber s → WritesTo w h l base map r map'
+writes-to W e = record { answer = e ∙ ap workNumber (W .answers); left = W .leaves }

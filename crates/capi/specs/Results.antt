@@ -1,24 +1,60 @@
 -- The answers of the C interface: the operations' own, as numbers with their values beside them.
 --
---   planResult p   == an answer of the planner
---   thinResult t   == an answer of the thinning
---   PlansTo ..     == the planner's statement: the answer r, and every lent slice afterwards
---   ThinsTo ..     == the thinning's statement: the answer r, and the output slice afterwards
+--   obstacleNumber o == what is in the way: 0 nothing, 101 a blocked cell that is entered, 102 a shut step
+--   obstaclePlace o  == the cell's number, or that of the vertex where the step begins; 0 where nothing is in the way
+--   obstacleResult s == an answer to the sight question, with what is in the way; at a refusal its number and place 0
+--   planResult p     == an answer of the planner
+--   thinResult t     == an answer of the thinning
+--   postResult p     == an answer of post
+--   PlansTo ..       == the planner's statement: the answer r, and every lent slice afterwards
+--   ThinsTo ..       == the thinning's statement: the answer r, and the output slice afterwards
+--   PostsTo, StrikesTo == the statements of post and strike: the answer, and the 64 numbers afterwards
+--   WritesTo ..      == the statement of writing the working map: the answer, and the slice afterwards
 use Prim.Native.Nat.{ℕ}
 use mathlib.Core.Path.{_≡_}
 use mathlib.Core.List.{List}
+use lib.ListN.{length}
+use Rattle.floor.specs.Refusals.{refusalNumber}
+use Rattle.sight.specs.declared.Obstacle.{Obstacle}
+use Rattle.sight.specs.declared.Obstacle.the-variants.{Clear, Cell, Step}
+use Rattle.sight.specs.declared.Sight.{Sight}
+use Rattle.sight.specs.declared.Sight.the-variants.{Answered, Unasked}
 use Rattle.planner.specs.Plan.{Slices, planAnswer, planLeft, planNumber, planCost, planTotal, planPoints}
 use Rattle.planner.specs.declared.Planned.{Planned}
 use Rattle.thinning.specs.Answer.{thinAnswer, thinOutput, thinNumber, thinKept}
 use Rattle.thinning.specs.declared.Thinned.{Thinned}
+use Rattle.closures.specs.Plain.{postAnswer, postSlot, postNumber, strikeAnswer, strikeNumber}
+use Rattle.closures.specs.Plain.{workAnswer, workLeft, workNumber}
+use Rattle.closures.specs.declared.Rectangle.{Rectangle}
+use Rattle.closures.specs.declared.Posting.{Posting}
+use Rattle.stored_closures.specs.Stored.{storedIn, postStored, strikeStored}
+use Rattle.capi.specs.declared.ObstacleResult.{ObstacleResult}
 use Rattle.capi.specs.declared.PlanResult.{PlanResult}
 use Rattle.capi.specs.declared.ThinResult.{ThinResult}
+use Rattle.capi.specs.declared.PostResult.{PostResult}
+
+abbrev pub obstacleNumber : Obstacle → ℕ
+obstacleNumber Clear = 0
+obstacleNumber (Cell c) = 101
+obstacleNumber (Step v) = 102
+
+abbrev pub obstaclePlace : Obstacle → ℕ
+obstaclePlace Clear = 0
+obstaclePlace (Cell c) = c .0
+obstaclePlace (Step v) = v .0
+
+abbrev pub obstacleResult : Sight → ObstacleResult
+obstacleResult (Answered o) = record { place = obstaclePlace o; answer = obstacleNumber o }
+obstacleResult (Unasked r) = record { place = 0; answer = refusalNumber r }
 
 abbrev pub planResult : Planned → PlanResult
 planResult p = record { total = planTotal p; points = planPoints p; cost = planCost p; answer = planNumber p }
 
 abbrev pub thinResult : Thinned → ThinResult
 thinResult t = record { kept = thinKept t; answer = thinNumber t }
+
+abbrev pub postResult : Posting → PostResult
+postResult p = record { slot = postSlot p; answer = postNumber p }
 
 pub record PlansTo (w h : ℕ) (map : List ℕ) (nb a b : ℕ) (s : Slices) (r : PlanResult) (s' : Slices) : Type 0 where
   pub answer : r ≡ planResult (planAnswer w h map nb a b s)
@@ -27,3 +63,15 @@ pub record PlansTo (w h : ℕ) (map : List ℕ) (nb a b : ℕ) (s : Slices) (r :
 pub record ThinsTo (w h : ℕ) (map list out : List ℕ) (n : ℕ) (r : ThinResult) (out' : List ℕ) : Type 0 where
   pub answer : r ≡ thinResult (thinAnswer w h map list out n)
   pub left : out' ≡ thinOutput w h map list out n
+
+pub record PostsTo (w h : ℕ) (l : List ℕ) (x : Rectangle) (r : PostResult) (l' : List ℕ) : Type 0 where
+  pub answer : r ≡ postResult (postAnswer w h (storedIn l) x)
+  pub left : l' ≡ postStored w h l x
+
+pub record StrikesTo (w h : ℕ) (l : List ℕ) (k r : ℕ) (l' : List ℕ) : Type 0 where
+  pub answer : r ≡ strikeNumber (strikeAnswer w h (storedIn l) k)
+  pub left : l' ≡ strikeStored w h l k
+
+pub record WritesTo (w h : ℕ) (l base map : List ℕ) (r : ℕ) (map' : List ℕ) : Type 0 where
+  pub answer : r ≡ workNumber (workAnswer w h base (length map))
+  pub left : map' ≡ workLeft w h base (storedIn l) map

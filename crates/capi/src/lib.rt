@@ -5,7 +5,18 @@ ghost use Rattle.sight.specs.Question.{sightAnswer, sightNumber};
 ghost use Rattle.paths.specs.Sheet.{sheetOf};
 ghost use Rattle.planner.specs.Plan.{slicesOf};
 ghost use Rattle.checker.specs.Answer.{checkAnswer, checkNumber};
-ghost use Rattle.capi.specs.Results.{PlansTo, ThinsTo};
+ghost use Rattle.stored_closures.specs.Stored.{rectangleOf};
+ghost use Rattle.capi.specs.Results.{obstacleNumber, obstaclePlace, obstacleResult};
+ghost use Rattle.capi.specs.Results.{PlansTo, ThinsTo, PostsTo, StrikesTo, WritesTo};
+use sight::Obstacle;
+use sight::Sight;
+
+// What is in the way with its place: a cell's number, a vertex's, or 0.
+#[repr(C)]
+pub struct ObstacleResult {
+    pub place: u32,
+    pub answer: u8,
+}
 
 // The planner's answer with its values, all 0 at a refusal.
 #[repr(C)]
@@ -23,6 +34,13 @@ pub struct ThinResult {
     pub answer: u8,
 }
 
+// Post's answer with the slot, 0 at a refusal.
+#[repr(C)]
+pub struct PostResult {
+    pub slot: u32,
+    pub answer: u8,
+}
+
 // The sight question.
 #[no_mangle]
 pub extern "C" fn lurfanzi_sight(width: u32, height: u32, map: &[u8], a: u32, b: u32) -> u8
@@ -30,6 +48,55 @@ pub extern "C" fn lurfanzi_sight(width: u32, height: u32, map: &[u8], a: u32, b:
 {
     let s = sight::ask(width as usize, height as usize, map, a as usize, b as usize);
     sight::sight_number(s)
+}
+
+// What is in the way, as a number.
+fn obstacle_number(o: Obstacle) -> u8
+    ensures { λ r. ⌜ r ≡ obstacleNumber o ⌝ }
+{
+    match o {
+        Obstacle::Clear => 0,
+        Obstacle::Cell(_) => 101,
+        Obstacle::Step(_) => 102,
+    }
+}
+
+// Where it is: the cell's number, or that of the vertex where the step begins.
+fn obstacle_place(o: Obstacle) -> usize
+    ensures { λ r. ⌜ r ≡ obstaclePlace o ⌝ }
+{
+    match o {
+        Obstacle::Clear => 0,
+        Obstacle::Cell(c) => c.0,
+        Obstacle::Step(v) => v.0,
+    }
+}
+
+// What is in the way.
+#[no_mangle]
+pub extern "C" fn lurfanzi_obstacle(
+    width: u32,
+    height: u32,
+    map: &[u8],
+    a: u32,
+    b: u32,
+) -> ObstacleResult
+    ensures { λ r. ⌜ r ≡ obstacleResult (sightAnswer width height (now (map .entry)) a b) ⌝ }
+{
+    let found = sight::ask(width as usize, height as usize, map, a as usize, b as usize);
+    match found {
+        Sight::Unasked(r) => ObstacleResult {
+            place: 0,
+            answer: floor::refusal_number(r),
+        },
+        Sight::Answered(o) => {
+            let place = obstacle_place(o) as u32;
+            ObstacleResult {
+                place: place,
+                answer: obstacle_number(o),
+            }
+        }
+    }
 }
 
 // The planner.
@@ -127,4 +194,59 @@ pub extern "C" fn lurfanzi_thin(
         kept: thinning::kept_count(t),
         answer: thinning::thin_number(t),
     }
+}
+
+// Posting a closure.
+#[no_mangle]
+pub extern "C" fn lurfanzi_post(
+    width: u32,
+    height: u32,
+    slots: &mut [u32; 64],
+    column: u32,
+    row: u32,
+    columns: u32,
+    rows: u32,
+) -> PostResult
+    ensures { λ r. ⌜ PostsTo width height (now (slots .entry)) (rectangleOf column row columns rows) r
+        (now (slots .exit)) ⌝ }
+{
+    let p = stored_closures::post(
+        width as usize,
+        height as usize,
+        slots,
+        column,
+        row,
+        columns,
+        rows,
+    );
+    let slot = closures::post_slot(p) as u32;
+    PostResult {
+        slot: slot,
+        answer: closures::post_number(p),
+    }
+}
+
+// Striking a closure.
+#[no_mangle]
+pub extern "C" fn lurfanzi_strike(width: u32, height: u32, slots: &mut [u32; 64], slot: u32) -> u8
+    ensures { λ r. ⌜ StrikesTo width height (now (slots .entry)) slot r (now (slots .exit)) ⌝ }
+{
+    let s = stored_closures::strike(width as usize, height as usize, slots, slot as usize);
+    closures::strike_number(s)
+}
+
+// The working map.
+#[no_mangle]
+pub extern "C" fn lurfanzi_working_map(
+    width: u32,
+    height: u32,
+    slots: &[u32; 64],
+    base: &[u8],
+    map: &mut [u8],
+) -> u8
+    ensures { λ r.
+        ⌜ WritesTo width height (now (slots .entry)) (now (base .entry)) (now (map .entry)) r (now (map .exit)) ⌝ }
+{
+    let s = stored_closures::working_map(width as usize, height as usize, slots, base, map);
+    closures::work_number(s)
 }
