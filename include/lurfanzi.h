@@ -20,8 +20,10 @@
  *
  * Memory. A slice is a pointer and the number of its elements. The pointer of a slice with elements must be valid for
  * all of them and aligned for their type; the pointer of a slice of length 0 may be anything, null included, and is
- * not used. A slice that a call writes may overlap no other slice of the call: a list must not be thinned onto itself.
- * Numbers are 32 bits wide or a size_t, so that none is cut down on its way in.
+ * not used. A slice that a call writes may overlap no other slice of the call: a list must not be thinned onto itself,
+ * nor a working map be written onto its base map. A table of closures is a pointer to 64 numbers, valid for all of them
+ * and aligned; it may overlap no slice of its call. Numbers are 32 bits wide or a size_t, so that none is cut down on
+ * its way in.
  *
  * The library is built for x86-64. It uses the C library's memcpy and memset, no heap, no static memory and less than
  * 4 KiB of stack; calls at the same time are safe on different memory, and on the same memory where none of them
@@ -49,14 +51,23 @@ enum {
     LURFANZI_NO_ROUTE = 7,          /* no open walk joins the ends; from lurfanzi_check: a true no-route sheet */
     LURFANZI_TOO_MANY = 8,          /* the cheapest routes number more than 2^64 - 1 */
     LURFANZI_FALSE_SHEET = 9,       /* the sheet is not a true one */
-    LURFANZI_NOT_JOINED = 10        /* n is 0 or above list_length, or one of the first n numbers is not below V or
+    LURFANZI_NOT_JOINED = 10,       /* n is 0 or above list_length, or one of the first n numbers is not below V or
                                        does not see the next */
+    LURFANZI_BAD_CLOSURE = 12,      /* the rectangle is empty or leaves the floor */
+    LURFANZI_SLOTS_FULL = 13,       /* no slot is free */
+    LURFANZI_SLOT_EMPTY = 14        /* the slot is above 15 or free */
 };
 
 /* The sight question's own answers. Only LURFANZI_SIGHT_YES says that the way is clear. */
 enum {
     LURFANZI_SIGHT_YES = 0,
     LURFANZI_SIGHT_NO = 100
+};
+
+/* What lurfanzi_obstacle finds in the way. */
+enum {
+    LURFANZI_BLOCKED_CELL = 101,
+    LURFANZI_SHUT_STEP = 102
 };
 
 /* The cost where no open walk joins two vertices; it stands in d and e. */
@@ -69,6 +80,27 @@ enum {
 uint8_t lurfanzi_sight(uint32_t width, uint32_t height, const uint8_t *map, size_t map_length, uint32_t a, uint32_t b);
 
 typedef struct {
+    uint32_t place;  /* where it is; 0 where nothing is in the way and at a refusal */
+    uint8_t answer;  /* 0, LURFANZI_BLOCKED_CELL, LURFANZI_SHUT_STEP, or a refusal: 1, 2, 3 or 5 */
+} lurfanzi_obstacle_result;
+
+/* What is in the way from vertex a to vertex b? For technicians, who ask why a point was kept; a drive that needs yes
+ * or no asks lurfanzi_sight. Writes nothing.
+ *
+ * answer      place
+ * 0           0             nothing is in the way; lurfanzi_sight answers LURFANZI_SIGHT_YES exactly then
+ * 101         a cell        of the blocked cells that the segment enters, the one least far in columns from a, of
+ *                           equals least far in rows: map[place] is its byte
+ * 102         a vertex      a step of a segment along a grid line is shut: the vertex where the first one begins, going
+ *                           from a
+ * 1, 2, 3, 5  0             refused
+ *
+ * Asked from b to a it may name another cell or step; whether the way is clear stays the same.
+ */
+lurfanzi_obstacle_result lurfanzi_obstacle(
+    uint32_t width, uint32_t height, const uint8_t *map, size_t map_length, uint32_t a, uint32_t b);
+
+typedef struct {
     uint64_t total;  /* the number of cheapest routes */
     size_t points;   /* the number of vertices of the central route, its ends among them */
     uint32_t cost;   /* its cost */
@@ -76,8 +108,8 @@ typedef struct {
 } lurfanzi_plan_result;
 
 /* Plans the central route from vertex a to vertex b, and fills its sheet. From each vertex the route takes, of the open
- * moves that lead on along a cheapest route, the one to the vertex with the highest f * back, of equals the first in the
- * order of moves. With a = b it is that one vertex, at cost 0.
+ * moves that lead on along a cheapest route, the one to the vertex with the highest f * back, of equals the first in
+ * the order of moves. With a = b it is that one vertex, at cost 0.
  *
  * d, e       V costs: d from a, e to b; LURFANZI_UNREACHABLE where there is no walk
  * f, back    V counts of cheapest walks: f from a, back to b; 0 off the cheapest routes
@@ -91,7 +123,8 @@ typedef struct {
  * 8          true       true       0          0          0
  */
 lurfanzi_plan_result lurfanzi_plan(
-    uint32_t width, uint32_t height, const uint8_t *map, size_t map_length, uint32_t neighbourhood, uint32_t a, uint32_t b,
+    uint32_t width, uint32_t height, const uint8_t *map, size_t map_length,
+    uint32_t neighbourhood, uint32_t a, uint32_t b,
     uint32_t *d, size_t d_length, uint32_t *e, size_t e_length, uint64_t *f, size_t f_length,
     uint64_t *back, size_t back_length, uint16_t *route, size_t route_length, uint32_t *work, size_t work_length);
 
@@ -103,7 +136,8 @@ lurfanzi_plan_result lurfanzi_plan(
  * answers with 8. Or it refuses with 1 to 6: each of the five slices must have V places.
  */
 uint8_t lurfanzi_check(
-    uint32_t width, uint32_t height, const uint8_t *map, size_t map_length, uint32_t neighbourhood, uint32_t a, uint32_t b,
+    uint32_t width, uint32_t height, const uint8_t *map, size_t map_length,
+    uint32_t neighbourhood, uint32_t a, uint32_t b,
     const uint32_t *d, size_t d_length, const uint32_t *e, size_t e_length, const uint64_t *f, size_t f_length,
     const uint64_t *back, size_t back_length, const uint16_t *route, size_t route_length, size_t n);
 
@@ -113,8 +147,9 @@ typedef struct {
 } lurfanzi_thin_result;
 
 /* Thins the first n vertices of list to the positions that a cart needs. Position 0 is kept; after a kept position the
- * next is the last one before the first position that it does not see, or n - 1 where it sees all; so n - 1 is kept, and
- * each kept vertex sees the next. With n = 1 position 0 alone is kept. Vertices may stand in the list more than once.
+ * next is the last one before the first position that it does not see, or n - 1 where it sees all; so n - 1 is kept,
+ * and each kept vertex sees the next. With n = 1 position 0 alone is kept. Vertices may stand in the list more than
+ * once.
  *
  * list       at most 16,384 places; those past n are not read
  * out        as long as list: at answer 0 the kept positions in list, then 0; untouched at a refusal
@@ -122,6 +157,57 @@ typedef struct {
 lurfanzi_thin_result lurfanzi_thin(
     uint32_t width, uint32_t height, const uint8_t *map, size_t map_length,
     const uint16_t *list, size_t list_length, uint16_t *out, size_t out_length, size_t n);
+
+/* Closures are rectangles of cells that are blocked for a time, as wet floors and parked beds. They stand in a table of
+ * sixteen slots, 64 numbers that the caller lends to each call: slots[4 * k] to slots[4 * k + 3] are the first column,
+ * the first row, the columns and the rows of slot k, which is free where its columns are 0. 64 zeros are the empty
+ * table. A table is for one floor: give every call on it the same width and height.
+ *
+ * Any 64 numbers may stand in a table. A slot with columns 0 is free, whatever its other three numbers are. Any other
+ * slot is held, also one whose rows are 0 or whose rectangle leaves the floor, which no call leaves so: it takes its
+ * slot, can be struck, and covers the cells of the floor that lie in it. Sums of these numbers do not wrap.
+ *
+ * After any calls from 64 zeros the table holds what a plain map from slot to rectangle would.
+ */
+#define LURFANZI_SLOTS 16
+#define LURFANZI_TABLE (4 * LURFANZI_SLOTS)
+
+typedef struct {
+    uint32_t slot;   /* the slot that the closure took, 0 to 15; 0 at a refusal */
+    uint8_t answer;  /* 0, or a refusal: 1, 12 or 13 */
+} lurfanzi_post_result;
+
+/* Posts a closure of the given columns and rows, whose first cell is in the given column and row. It takes the lowest
+ * free slot.
+ *
+ * answer     slots
+ * 0          the four numbers of the slot answered are column, row, columns, rows; all others are untouched
+ * 1, 12, 13  untouched
+ */
+lurfanzi_post_result lurfanzi_post(
+    uint32_t width, uint32_t height, uint32_t slots[LURFANZI_TABLE],
+    uint32_t column, uint32_t row, uint32_t columns, uint32_t rows);
+
+/* Strikes the closure in a slot.
+ *
+ * answer     slots
+ * 0          the four numbers of that slot are 0; all others are untouched
+ * 1, 14      untouched
+ */
+uint8_t lurfanzi_strike(uint32_t width, uint32_t height, uint32_t slots[LURFANZI_TABLE], uint32_t slot);
+
+/* Writes the working map: a cell is blocked where it is in the base map or where any closure that the table holds
+ * covers it. The other functions take it as the floor's map.
+ *
+ * base       width * height bytes, a map; read
+ * map        as long as base: at answer 0 the working map; untouched at a refusal
+ *
+ * Answers 0, or refuses with 1, with 2 or 3 for the base map, or with 6 where map_length is not base_length. The table
+ * is read, and tested for nothing.
+ */
+uint8_t lurfanzi_working_map(
+    uint32_t width, uint32_t height, const uint32_t slots[LURFANZI_TABLE],
+    const uint8_t *base, size_t base_length, uint8_t *map, size_t map_length);
 
 #ifdef __cplusplus
 }

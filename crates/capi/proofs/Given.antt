@@ -1,10 +1,13 @@
 -- The answers of the C interface from those of the operations.
 use Prim.Native.Nat.{ℕ}
-use mathlib.Core.Path.{_≡_, sym, ap, _∙_}
+use mathlib.Core.Path.{_≡_, refl, sym, ap, _∙_}
 use mathlib.Core.List.{List}
+use lib.Dec.{eqb}
 use Rattle.floor.specs.Refusals.{refusalNumber}
 use Rattle.floor.specs.declared.Refusal.{Refusal}
+use Rattle.sight.specs.Question.{sightNumber}
 use Rattle.sight.specs.declared.Obstacle.{Obstacle}
+use Rattle.sight.specs.declared.Obstacle.the-variants.{Clear, Cell, Step}
 use Rattle.sight.specs.declared.Sight.{Sight}
 use Rattle.sight.specs.declared.Sight.the-variants.{Answered, Unasked}
 use Rattle.planner.specs.Plan.{Slices, Plans, planNumber, planCost, planTotal, planPoints}
@@ -28,7 +31,15 @@ pub obstacle-answered : {s : Sight} {o : Obstacle} {p r : ℕ} → s ≡ Answere
     → r ≡ obstacleNumber o → record { place = p; answer = r } ≡ obstacleResult s
 obstacle-answered e ep er = rw (ep, er) (sym (ap obstacleResult e))
 
-pub plans-to : {w h : ℕ} {map : List ℕ} {nb a b : ℕ} {s s' : Slices} {p : Planned} {t n c r : ℕ} → Plans w h map nb a b s p s'
+-- The technicians' answer is 0 exactly where the firmware's is.
+pub clear-alike : (s : Sight) → eqb (obstacleResult s .answer) 0 ≡ eqb (sightNumber s) 0
+clear-alike (Answered Clear) = refl
+clear-alike (Answered (Cell c)) = refl
+clear-alike (Answered (Step v)) = refl
+clear-alike (Unasked r) = refl
+
+pub plans-to : {w h : ℕ} {map : List ℕ} {nb a b : ℕ} {s s' : Slices} {p : Planned} {t n c r : ℕ}
+    → Plans w h map nb a b s p s'
     → t ≡ planTotal p → n ≡ planPoints p → c ≡ planCost p → r ≡ planNumber p
     → PlansTo w h map nb a b s (record { total = t; points = n; cost = c; answer = r }) s'
 plans-to {p = p} P et en ec er = record { answer = rw (et, en, ec, er) (ap planResult (P .answer)); left = P .left }

@@ -1,5 +1,5 @@
--- What the C interface answers fits its numbers: the place of what is in the way is a cell or a vertex of the floor, and
--- the slot of post is one of the sixteen.
+-- What the C interface answers fits its numbers: the place of what is in the way is a cell or a vertex of the floor,
+-- and the slot of post is one of the sixteen.
 use Prim.Native.Nat.{ℕ, suc, _*_, _≤_, _<_}
 use mathlib.Core.Path.{_≡_, refl, sym, _∙_}
 use mathlib.Core.Logic.{⊎-elim}
@@ -50,22 +50,24 @@ module _ (w h : ℕ) (l : List ℕ) (a b : ℕ) where
         let n = cell-named (floorOf w h l) (column w a) (row w a) (column w b) (row w b) ends e in
         omega (arith, fits, n .numbered, cell-lt w h (n .i) (n .j) (n .i-lt) (n .j-lt))
     place-on (Step v) e =
+        let x0 = column w a in
+        let y0 = row w a in
         ⊎-elim
         (λ n. omega (
           arith,
           fits,
           n .1 .begins,
-          number-lt w h (column w a) _ (ends .x-first)
-              (start-le (row w a) (row w b) (n .1 .k) h (ends .y-first) (ends .y-last) (n .1 .below)),
+          number-lt w h x0 _ (ends .x-first)
+              (start-le y0 (row w b) (n .1 .k) h (ends .y-first) (ends .y-last) (n .1 .below)),
         ))
         (λ n. omega (
           arith,
           fits,
           n .1 .begins,
-          number-lt w h _ (row w a)
-              (start-le (column w a) (column w b) (n .1 .k) w (ends .x-first) (ends .x-last) (n .1 .below)) (ends .y-first),
+          number-lt w h _ y0
+              (start-le x0 (column w b) (n .1 .k) w (ends .x-first) (ends .x-last) (n .1 .below)) (ends .y-first),
         ))
-        (step-named (floorOf w h l) (column w a) (row w a) (column w b) (row w b) e)
+        (step-named (floorOf w h l) x0 y0 (column w b) (row w b) e)
 
   pub place-lt : {o : Obstacle} → Answered o ≡ sightAnswer w h l a b → obstaclePlace o < 16384
   unfolding sightAnswer

@@ -1,5 +1,6 @@
 // The C interface: each operation on plain numbers and slices, with the operation's own statement. include/lurfanzi.h
-// declares these functions. Sides, neighbourhood and ends are 32 bits wide, so that no number is cut down on its way in.
+// declares these functions. Sides, neighbourhood, ends, slots and the numbers of a rectangle are 32 bits wide, so that
+// no number is cut down on its way in.
 ghost use mathlib.Core.Path.{_≡_};
 ghost use Rattle.sight.specs.Question.{sightAnswer, sightNumber};
 ghost use Rattle.paths.specs.Sheet.{sheetOf};
@@ -116,9 +117,11 @@ pub extern "C" fn lurfanzi_plan(
     work: &mut [u32],
 ) -> PlanResult
     ensures { λ r. ⌜ PlansTo width height (now (map .entry)) neighbourhood a b
-        (slicesOf (now (d .entry)) (now (e .entry)) (now (f .entry)) (now (back .entry)) (now (route .entry)) (now (work .entry)))
+        (slicesOf (now (d .entry)) (now (e .entry)) (now (f .entry)) (now (back .entry)) (now (route .entry))
+        (now (work .entry)))
         r
-        (slicesOf (now (d .exit)) (now (e .exit)) (now (f .exit)) (now (back .exit)) (now (route .exit)) (now (work .exit))) ⌝ }
+        (slicesOf (now (d .exit)) (now (e .exit)) (now (f .exit)) (now (back .exit)) (now (route .exit))
+        (now (work .exit))) ⌝ }
 {
     let p = planner::plan(
         width as usize,
@@ -187,7 +190,8 @@ pub extern "C" fn lurfanzi_thin(
     out: &mut [u16],
     n: usize,
 ) -> ThinResult
-    ensures { λ r. ⌜ ThinsTo width height (now (map .entry)) (now (list .entry)) (now (out .entry)) n r (now (out .exit)) ⌝ }
+    ensures { λ r.
+        ⌜ ThinsTo width height (now (map .entry)) (now (list .entry)) (now (out .entry)) n r (now (out .exit)) ⌝ }
 {
     let t = thinning::thin(width as usize, height as usize, map, list, out, n);
     ThinResult {

@@ -5,7 +5,8 @@
 --   stored-left        == one call: the map that the numbers left stand for is the map left by the plain call
 --   after-any-calls    == any calls from 64 zeros: the same of the numbers and maps left
 --   answers-any-calls  == any calls from 64 zeros: the answers are those of the plain map
---   writes-any-calls   == any calls from 64 zeros, then the writing: it answers and leaves what it would by the plain map
+--   writes-any-calls   == any calls from 64 zeros, then the writing: it answers and leaves what it would by the plain
+--                         map
 use Prim.Native.Nat.{ℕ, _+_, _*_, _≤_, _<_}
 use mathlib.Core.Path.{_≡_, refl, sym, ap, ap₂, _∙_}
 use mathlib.Core.Bool.{_&&_}

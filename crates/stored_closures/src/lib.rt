@@ -1,9 +1,10 @@
-// A closure table in plain memory, as a C caller lends it: 64 numbers, four for each of the sixteen slots. Each operation
-// reads them as a table of `closures`, whose rules decide; a post or a strike stores the four numbers of one slot.
+// A closure table in plain memory, as a C caller lends it: 64 numbers, four for each of the sixteen slots. Each
+// operation reads them as a table of `closures`, whose rules decide; post and strike store the four numbers of a slot.
 ghost use mathlib.Core.Path.{_≡_};
 ghost use Prim.Native.Nat.{_<_};
 ghost use Rattle.closures.specs.Table.{heldIn};
-ghost use Rattle.stored_closures.specs.Stored.{rectangleOf, storedIn, withNumbers, PostsIn, StrikesIn, WritesFrom};
+ghost use Rattle.stored_closures.specs.Stored.{rectangleOf, storedIn, withNumbers};
+ghost use Rattle.stored_closures.specs.Stored.{PostsIn, StrikesIn, WritesFrom};
 ghost use Rattle.stored_closures.specs.Known.{Stands};
 use closures::Closures;
 use closures::Hold;

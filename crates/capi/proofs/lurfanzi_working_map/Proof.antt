@@ -1,5 +1,5 @@
--- `capi::lurfanzi_working_map` meets its contract: it hands its numbers and slices on to `stored_closures::working_map`.
--- Assumes nothing.
+-- `capi::lurfanzi_working_map` meets its contract: it hands its numbers and slices on to
+-- `stored_closures::working_map`. Assumes nothing.
 use Rattle.capi.proofs.Given.{writes-to}
 use borrow.Author.Needs.{needs}
 use Rattle.capi.proofs.lurfanzi_working_map.Statement.{statement}

@@ -1,5 +1,5 @@
--- `stored_closures::post` meets its contract: the answer for the table is that for the numbers, and the slot answered is
--- stored. Assumes nothing.
+-- `stored_closures::post` meets its contract: the answer for the table is that for the numbers, and the slot answered
+-- is stored. Assumes nothing.
 use mathlib.Core.Path.{_≡_, sym, _∙_}
 use Rattle.closures.specs.Plain.{postAnswer}
 use Rattle.closures.specs.declared.Posting.the-variants.{In}
