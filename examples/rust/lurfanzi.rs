@@ -59,6 +59,32 @@ pub enum Verdict {
     FalseSheet,
 }
 
+/// What is in the way between two vertices: nothing, the cell with a number, or the shut step that begins in a vertex.
+#[derive(Clone, Copy, Debug, PartialEq, Eq)]
+pub enum Obstacle {
+    Clear,
+    Cell(u32),
+    Step(u32),
+}
+
+/// A rectangle of cells: its first column and row, and how many columns and rows it has.
+#[derive(Clone, Copy, Debug, PartialEq, Eq)]
+pub struct Rectangle {
+    pub column: u32,
+    pub row: u32,
+    pub columns: u32,
+    pub rows: u32,
+}
+
+/// The sixteen closures of a floor with these sides. Slot `k` has its column, row, columns and rows at `4 * k` and on, and
+/// is free where columns is 0. Any numbers may stand there.
+#[derive(Clone, Debug, PartialEq, Eq)]
+pub struct Closures {
+    pub width: u32,
+    pub height: u32,
+    pub slots: [u32; 64],
+}
+
 /// The refusals of the header, by its numbers.
 #[derive(Clone, Copy, Debug, PartialEq, Eq)]
 pub enum Refusal {
@@ -71,6 +97,9 @@ pub enum Refusal {
     NoRoute,
     TooMany,
     NotJoined,
+    BadClosure,
+    SlotsFull,
+    SlotEmpty,
     /// A number that the header does not list for the call. The library gives none.
     Unlisted(u8),
 }
@@ -87,6 +116,9 @@ impl Refusal {
             7 => Refusal::NoRoute,
             8 => Refusal::TooMany,
             10 => Refusal::NotJoined,
+            12 => Refusal::BadClosure,
+            13 => Refusal::SlotsFull,
+            14 => Refusal::SlotEmpty,
             other => Refusal::Unlisted(other),
         }
     }
@@ -102,6 +134,9 @@ impl Refusal {
             Refusal::NoRoute => 7,
             Refusal::TooMany => 8,
             Refusal::NotJoined => 10,
+            Refusal::BadClosure => 12,
+            Refusal::SlotsFull => 13,
+            Refusal::SlotEmpty => 14,
             Refusal::Unlisted(number) => number,
         }
     }
@@ -119,6 +154,9 @@ impl std::fmt::Display for Refusal {
             Refusal::NoRoute => "no open walk joins the ends",
             Refusal::TooMany => "the cheapest routes number more than 2^64 - 1",
             Refusal::NotJoined => "the list is not a joined list of vertices",
+            Refusal::BadClosure => "the rectangle is empty or leaves the floor",
+            Refusal::SlotsFull => "no slot is free",
+            Refusal::SlotEmpty => "the slot is above 15 or free",
             Refusal::Unlisted(_) => "an answer that the header does not list",
         };
         write!(to, "{meaning} ({})", self.number())
@@ -141,11 +179,56 @@ impl SheetMut<'_> {
     }
 }
 
+impl Closures {
+    /// No closure, on a floor with these sides.
+    pub fn new(width: u32, height: u32) -> Closures {
+        Closures { width, height, slots: [0; 64] }
+    }
+
+    /// Puts a rectangle into the lowest free slot: its number.
+    pub fn post(&mut self, rectangle: Rectangle) -> Result<u32, Refusal> {
+        let result = call::post(self, rectangle);
+        match result.answer {
+            0 => Ok(result.slot),
+            number => Err(Refusal::from_number(number)),
+        }
+    }
+
+    /// Frees a slot.
+    pub fn strike(&mut self, slot: u32) -> Result<(), Refusal> {
+        done(call::strike(self, slot))
+    }
+
+    /// Writes the base map with the closures on it.
+    pub fn working_map(&self, base: &[u8], map: &mut [u8]) -> Result<(), Refusal> {
+        done(call::working_map(self, base, map))
+    }
+}
+
+/// An answer that holds no value.
+fn done(number: u8) -> Result<(), Refusal> {
+    match number {
+        0 => Ok(()),
+        number => Err(Refusal::from_number(number)),
+    }
+}
+
 /// Whether the vertices `a` and `b` see each other.
 pub fn sight(floor: Floor, a: u32, b: u32) -> Result<bool, Refusal> {
     match call::sight(floor, a, b) {
         0 => Ok(true),
         100 => Ok(false),
+        number => Err(Refusal::from_number(number)),
+    }
+}
+
+/// What is in the way from the vertex `a` to the vertex `b`.
+pub fn obstacle(floor: Floor, a: u32, b: u32) -> Result<Obstacle, Refusal> {
+    let result = call::obstacle(floor, a, b);
+    match result.answer {
+        0 => Ok(Obstacle::Clear),
+        101 => Ok(Obstacle::Cell(result.place)),
+        102 => Ok(Obstacle::Step(result.place)),
         number => Err(Refusal::from_number(number)),
     }
 }
@@ -182,11 +265,11 @@ pub fn thin(floor: Floor, list: &[u16], out: &mut [u16], n: usize) -> Result<usi
 /// The calls themselves: the only unsafe code.
 ///
 /// Why they are sound: the header asks that a slice's pointer be valid for its length, aligned, and that no written slice
-/// overlap another slice of the call. Each pointer and length are those of one Rust slice, shared for `*const` and
-/// exclusive for `*mut`, and the borrows last as long as the call. The library reads and writes nothing else, keeps no
+/// overlap another slice of the call. Each pointer and length are those of one Rust slice or array, shared for `*const`
+/// and exclusive for `*mut`, and the borrows last as long as the call. The library reads and writes nothing else, keeps no
 /// pointer, and every number it may write is a value of the slice's type.
 mod call {
-    use super::{Floor, Job, Sheet, SheetMut};
+    use super::{Closures, Floor, Job, Rectangle, Sheet, SheetMut};
 
     #[repr(C)]
     pub struct PlanResult {
@@ -202,8 +285,35 @@ mod call {
         pub answer: u8,
     }
 
+    #[repr(C)]
+    pub struct PostResult {
+        pub slot: u32,
+        pub answer: u8,
+    }
+
+    #[repr(C)]
+    pub struct ObstacleResult {
+        pub place: u32,
+        pub answer: u8,
+    }
+
     extern "C" {
         fn lurfanzi_sight(width: u32, height: u32, map: *const u8, map_length: usize, a: u32, b: u32) -> u8;
+
+        fn lurfanzi_obstacle(
+            width: u32, height: u32, map: *const u8, map_length: usize, a: u32, b: u32,
+        ) -> ObstacleResult;
+
+        fn lurfanzi_post(
+            width: u32, height: u32, slots: *mut u32, column: u32, row: u32, columns: u32, rows: u32,
+        ) -> PostResult;
+
+        fn lurfanzi_strike(width: u32, height: u32, slots: *mut u32, slot: u32) -> u8;
+
+        fn lurfanzi_working_map(
+            width: u32, height: u32, slots: *const u32,
+            base: *const u8, base_length: usize, map: *mut u8, map_length: usize,
+        ) -> u8;
 
         fn lurfanzi_plan(
             width: u32, height: u32, map: *const u8, map_length: usize, neighbourhood: u32, a: u32, b: u32,
@@ -226,6 +336,32 @@ mod call {
     pub fn sight(floor: Floor, a: u32, b: u32) -> u8 {
         // SAFETY: the map is a shared slice; nothing is written.
         unsafe { lurfanzi_sight(floor.width, floor.height, floor.map.as_ptr(), floor.map.len(), a, b) }
+    }
+
+    pub fn obstacle(floor: Floor, a: u32, b: u32) -> ObstacleResult {
+        // SAFETY: the map is a shared slice; nothing is written.
+        unsafe { lurfanzi_obstacle(floor.width, floor.height, floor.map.as_ptr(), floor.map.len(), a, b) }
+    }
+
+    pub fn post(table: &mut Closures, r: Rectangle) -> PostResult {
+        let slots = table.slots.as_mut_ptr();
+        // SAFETY: the slots are an exclusive array of 64 numbers.
+        unsafe { lurfanzi_post(table.width, table.height, slots, r.column, r.row, r.columns, r.rows) }
+    }
+
+    pub fn strike(table: &mut Closures, slot: u32) -> u8 {
+        // SAFETY: the slots are an exclusive array of 64 numbers.
+        unsafe { lurfanzi_strike(table.width, table.height, table.slots.as_mut_ptr(), slot) }
+    }
+
+    pub fn working_map(table: &Closures, base: &[u8], map: &mut [u8]) -> u8 {
+        // SAFETY: the slots are a shared array of 64 numbers, the base map is a shared slice, the map an exclusive one.
+        unsafe {
+            lurfanzi_working_map(
+                table.width, table.height, table.slots.as_ptr(),
+                base.as_ptr(), base.len(), map.as_mut_ptr(), map.len(),
+            )
+        }
     }
 
     pub fn plan(floor: Floor, job: Job, sheet: &mut SheetMut, work: &mut [u32]) -> PlanResult {
@@ -317,6 +453,55 @@ mod tests {
         assert_eq!(sight(SHUT, 0, 5), Ok(false));
         assert_eq!(sight(SHUT, 0, 6), Err(Refusal::BadEnd));
         assert_eq!(sight(Floor { width: 0, height: 0, map: &[] }, 0, 0), Err(Refusal::BadSize));
+    }
+
+    #[test]
+    fn obstacles() {
+        assert_eq!(obstacle(OPEN, 0, 5), Ok(Obstacle::Clear));
+        assert_eq!(obstacle(SHUT, 0, 5), Ok(Obstacle::Cell(1)));
+        assert_eq!(obstacle(SHUT, 0, 2), Ok(Obstacle::Step(1)));
+        assert_eq!(obstacle(SHUT, 2, 0), Ok(Obstacle::Step(2)));
+        assert_eq!(obstacle(SHUT, 6, 0), Err(Refusal::BadEnd));
+        assert_eq!(obstacle(Floor { map: &[0, 2], ..OPEN }, 0, 0), Err(Refusal::BadMapByte));
+    }
+
+    const CELL: Rectangle = Rectangle { column: 1, row: 0, columns: 1, rows: 1 };
+
+    #[test]
+    fn closed() {
+        let mut table = Closures::new(2, 1);
+        let mut map = [9; 2];
+        assert_eq!(table.post(CELL), Ok(0));
+        assert_eq!(table.working_map(OPEN.map, &mut map), Ok(()));
+        assert_eq!(map, [0, 1]);
+        assert_eq!(table.strike(0), Ok(()));
+        assert_eq!(table, Closures::new(2, 1));
+        assert_eq!(table.working_map(OPEN.map, &mut map), Ok(()));
+        assert_eq!(map, [0, 0]);
+        assert_eq!(table.working_map(&[0, 2], &mut map), Err(Refusal::BadMapByte));
+        assert_eq!(table.working_map(&[0], &mut map), Err(Refusal::BadMapLength));
+        assert_eq!(table.working_map(OPEN.map, &mut map[..1]), Err(Refusal::BadSliceLength));
+        assert_eq!(map, [0, 0]);
+    }
+
+    #[test]
+    fn unclosed() {
+        let mut table = Closures::new(2, 1);
+        assert_eq!(table.post(Rectangle { columns: 0, ..CELL }), Err(Refusal::BadClosure));
+        assert_eq!(table.post(Rectangle { column: u32::MAX, ..CELL }), Err(Refusal::BadClosure));
+        assert_eq!(table.strike(0), Err(Refusal::SlotEmpty));
+        assert_eq!(table.strike(u32::MAX), Err(Refusal::SlotEmpty));
+        assert_eq!(table, Closures::new(2, 1));
+        for slot in 0..16 {
+            assert_eq!(table.post(CELL), Ok(slot));
+        }
+        assert_eq!(table.post(CELL), Err(Refusal::SlotsFull));
+        assert_eq!(table.strike(15), Ok(()));
+        assert_eq!(table.strike(16), Err(Refusal::SlotEmpty));
+        let mut none = Closures { width: 0, ..table };
+        assert_eq!(none.post(CELL), Err(Refusal::BadSize));
+        assert_eq!(none.strike(0), Err(Refusal::BadSize));
+        assert_eq!(none.working_map(&[], &mut []), Err(Refusal::BadSize));
     }
 
     #[test]

@@ -5,7 +5,7 @@
 #[path = "../../examples/rust/lurfanzi.rs"]
 mod lurfanzi;
 
-use lurfanzi::{Floor, Job, Refusal, Sheet, SheetMut, Verdict};
+use lurfanzi::{Closures, Floor, Job, Obstacle, Rectangle, Refusal, Sheet, SheetMut, Verdict};
 use std::io::{self, Error, ErrorKind, Read, Write};
 
 /// The number that some bytes make, the lowest first.
@@ -88,6 +88,11 @@ impl Record {
         Job { neighbourhood: self.word(0), a: self.word(1), b: self.word(2) }
     }
 
+    /// The two vertices of each pair.
+    fn pairs(&self) -> impl Iterator<Item = (u32, u32)> + '_ {
+        self.payload.chunks_exact(8).map(|pair| (number(&pair[..4]) as u32, number(&pair[4..]) as u32))
+    }
+
     /// The payload's changes: slice, place, value.
     fn changes(&self) -> impl Iterator<Item = (u64, usize, u64)> + '_ {
         let change = |row: &[u8]| (number(&row[..4]), number(&row[4..8]) as usize, number(&row[8..]));
@@ -135,6 +140,8 @@ struct Driver {
     work: Vec<u32>,
     list: Vec<u16>,
     out: Vec<u16>,
+    slots: [u32; 64],
+    working: Vec<u8>,
 }
 
 /// A result's number of the header, 0 for a good one.
@@ -148,7 +155,7 @@ impl Driver {
         let slices = Slices { d: vec![0; v], e: vec![0; v], f: vec![0; v], back: vec![0; v], route: vec![0; v] };
         let ground = Ground { width: 0, height: 0, map: Vec::new() };
         let (work, list, out) = (vec![0; 4 * v], vec![0; longest], vec![0; longest]);
-        Driver { ground, slices, points: 0, work, list, out }
+        Driver { ground, slices, points: 0, work, list, out, slots: [0; 64], working: vec![0; longest] }
     }
 
     fn line(&mut self, record: &Record) -> io::Result<String> {
@@ -160,6 +167,11 @@ impl Driver {
             4 => format!("check {}", self.check(record)),
             5 => self.thin(record),
             6 => format!("sight {}", self.sight(record)),
+            7 => self.table(record),
+            8 => self.post(record),
+            9 => self.strike(record),
+            10 => self.working(record),
+            11 => self.obstacle(record),
             _ => return Err(Error::new(ErrorKind::InvalidData, "a record of no known operation")),
         })
     }
@@ -235,12 +247,62 @@ impl Driver {
 
     fn sight(&self, record: &Record) -> String {
         let floor = self.ground.floor();
-        let ask = |pair: &[u8]| match lurfanzi::sight(floor, number(&pair[..4]) as u32, number(&pair[4..]) as u32) {
+        let ask = |(a, b)| match lurfanzi::sight(floor, a, b) {
             Ok(true) => "y".to_string(),
             Ok(false) => "n".to_string(),
             Err(refusal) => refusal.number().to_string(),
         };
-        record.payload.chunks_exact(8).map(ask).collect()
+        record.pairs().map(ask).collect()
+    }
+
+    fn obstacle(&self, record: &Record) -> String {
+        let floor = self.ground.floor();
+        let ask = |(a, b)| match lurfanzi::obstacle(floor, a, b) {
+            Ok(Obstacle::Clear) => " y".to_string(),
+            Ok(Obstacle::Cell(cell)) => format!(" c{cell}"),
+            Ok(Obstacle::Step(vertex)) => format!(" s{vertex}"),
+            Err(refusal) => format!(" {}", refusal.number()),
+        };
+        let words: String = record.pairs().map(ask).collect();
+        format!("obstacle {}{words}", digest(floor.map))
+    }
+
+    fn table(&mut self, record: &Record) -> String {
+        let given = record.payload.chunks_exact(4).map(|bytes| Element::cut(number(bytes)));
+        self.slots.iter_mut().zip(given).for_each(|(place, given)| *place = given);
+        format!("table {}", digest(&self.slots))
+    }
+
+    /// The table, for the sides of the floor.
+    fn closures(&self) -> Closures {
+        Closures { width: self.ground.width, height: self.ground.height, slots: self.slots }
+    }
+
+    fn post(&mut self, record: &Record) -> String {
+        let [column, row, columns, rows] = [0, 1, 2, 3].map(|k| record.word(k));
+        let mut table = self.closures();
+        let posted = table.post(Rectangle { column, row, columns, rows });
+        self.slots = table.slots;
+        format!("post {} {} {}", answer(posted), posted.unwrap_or(0), digest(&self.slots))
+    }
+
+    fn strike(&mut self, record: &Record) -> String {
+        let mut table = self.closures();
+        let struck = table.strike(record.word(0));
+        self.slots = table.slots;
+        format!("strike {} {}", answer(struck), digest(&self.slots))
+    }
+
+    fn working(&mut self, record: &Record) -> String {
+        let table = self.closures();
+        let base = if record.word(2) == 1 { &record.payload } else { &self.ground.map };
+        let map = patterned(&mut self.working, record.length(0), record.word(1));
+        let written = table.working_map(base, map);
+        let digests = (digest(&table.slots), digest(base), digest(map));
+        if written.is_ok() && record.word(3) == 1 {
+            self.ground.map = map.to_vec();
+        }
+        format!("working {} {} {} {}", answer(written), digests.0, digests.1, digests.2)
     }
 }
 

@@ -1,9 +1,11 @@
 //! Runs a job stream and writes the expected text.
 
+use crate::closures::{Rectangle, Table};
 use crate::floor::Floor;
 use crate::format::{self, Damage, Digest, Record};
 use crate::sheet::{self, Handed, Lent, Request, Solver};
-use crate::{sight, thin};
+use crate::sight::{self, Obstacle};
+use crate::thin;
 
 /// The buffers that a harness has, all 0 at the start.
 struct Buffers {
@@ -16,6 +18,8 @@ struct Buffers {
     work: Vec<u32>,
     list: Vec<u16>,
     output: Vec<u16>,
+    table: Table,
+    working: Vec<u8>,
 }
 
 impl Buffers {
@@ -31,6 +35,8 @@ impl Buffers {
             work: vec![0; format::WORK_ROOM],
             list: vec![0; format::LIST_ROOM],
             output: vec![0; format::LIST_ROOM],
+            table: Table::empty(),
+            working: vec![0; format::WORKING_ROOM],
         }
     }
 
@@ -66,6 +72,14 @@ fn fill16(slice: &mut [u16], seed: u32) {
     slice.iter_mut().enumerate().for_each(|(i, x)| *x = format::pattern(seed, i) as u16);
 }
 
+fn fill8(slice: &mut [u8], seed: u32) {
+    slice.iter_mut().enumerate().for_each(|(i, x)| *x = format::pattern(seed, i) as u8);
+}
+
+fn digest8(slice: &[u8]) -> u64 {
+    Digest::of(slice.iter().map(|&x| u32::from(x)))
+}
+
 fn digest32(slice: &[u32]) -> u64 {
     Digest::of(slice.iter().copied())
 }
@@ -77,6 +91,12 @@ fn digest16(slice: &[u16]) -> u64 {
 fn request_of(record: &Record) -> Request {
     let word = |k: usize| u64::from(record.words[k]);
     Request { neighbourhood: word(0), start: word(1), goal: word(2) }
+}
+
+/// The two vertices of each pair.
+fn pairs_of(record: &Record) -> impl Iterator<Item = (u64, u64)> + '_ {
+    let number = |bytes: &[u8]| u64::from(u32::from_le_bytes(bytes.try_into().unwrap()));
+    record.payload.chunks_exact(8).map(move |pair| (number(&pair[..4]), number(&pair[4..])))
 }
 
 struct Runner {
@@ -93,6 +113,11 @@ impl Runner {
             format::CHECK => self.check(record),
             format::THIN => self.thin(record),
             format::SIGHT => self.sight(record),
+            format::TABLE => self.table(record),
+            format::POST => self.post(record),
+            format::STRIKE => self.strike(record),
+            format::WORKING => self.working(record),
+            format::OBSTACLE => self.obstacle(record),
             other => panic!("no operation {other}"),
         }
     }
@@ -100,8 +125,7 @@ impl Runner {
     fn floor(&mut self, record: &Record) -> String {
         let (width, height) = (record.words[0], record.words[1]);
         self.solver = Solver::new(Floor::new(width.into(), height.into(), record.payload.clone()));
-        let cells = Digest::of(record.payload.iter().map(|&cell| u32::from(cell)));
-        format!("floor {width} {height} {} {cells}", record.payload.len())
+        format!("floor {width} {height} {} {}", record.payload.len(), digest8(&record.payload))
     }
 
     fn plan(&mut self, record: &Record) -> String {
@@ -187,15 +211,66 @@ impl Runner {
     }
 
     fn sight(&mut self, record: &Record) -> String {
-        let mut line = String::from("sight ");
-        for pair in record.payload.chunks_exact(8) {
-            let from = u32::from_le_bytes(pair[..4].try_into().unwrap());
-            let to = u32::from_le_bytes(pair[4..].try_into().unwrap());
-            line.push(match sight::question(&self.solver.floor, from.into(), to.into()) {
-                Ok(true) => 'y',
-                Ok(false) => 'n',
-                Err(refusal) => char::from(b'0' + refusal),
-            });
+        let floor = &self.solver.floor;
+        let letter = |(from, to)| match sight::question(floor, from, to) {
+            Ok(true) => 'y',
+            Ok(false) => 'n',
+            Err(refusal) => char::from(b'0' + refusal),
+        };
+        format!("sight {}", pairs_of(record).map(letter).collect::<String>())
+    }
+
+    fn obstacle(&mut self, record: &Record) -> String {
+        let floor = &self.solver.floor;
+        let word = |(from, to)| match sight::obstacle_question(floor, from, to) {
+            Ok(Obstacle::Clear) => " y".to_string(),
+            Ok(Obstacle::Cell(number)) => format!(" c{number}"),
+            Ok(Obstacle::Step(number)) => format!(" s{number}"),
+            Err(refusal) => format!(" {refusal}"),
+        };
+        format!("obstacle {}{}", digest8(&floor.cells), pairs_of(record).map(word).collect::<String>())
+    }
+
+    fn table(&mut self, record: &Record) -> String {
+        let numbers = &mut self.buffers.table.numbers;
+        for (place, bytes) in numbers.iter_mut().zip(record.payload.chunks_exact(4)) {
+            *place = u32::from_le_bytes(bytes.try_into().unwrap());
+        }
+        format!("table {}", digest32(numbers))
+    }
+
+    fn post(&mut self, record: &Record) -> String {
+        let [column, row, columns, rows] = [0, 1, 2, 3].map(|k: usize| record.words[k]);
+        let (floor, table) = (&self.solver.floor, &mut self.buffers.table);
+        let posted = table.post(floor.width, floor.height, Rectangle { column, row, columns, rows });
+        let (answer, slot) = posted.map_or_else(|refusal| (refusal, 0), |slot| (0, slot));
+        format!("post {answer} {slot} {}", digest32(&table.numbers))
+    }
+
+    fn strike(&mut self, record: &Record) -> String {
+        let (floor, table) = (&self.solver.floor, &mut self.buffers.table);
+        let struck = table.strike(floor.width, floor.height, record.words[0]);
+        format!("strike {} {}", struck.err().unwrap_or(0), digest32(&table.numbers))
+    }
+
+    fn working(&mut self, record: &Record) -> String {
+        let at = &mut self.buffers;
+        let working = &mut at.working[..record.word(0)];
+        fill8(working, record.words[1]);
+        let mut base = self.solver.floor.clone();
+        if record.words[2] == 1 {
+            base.cells.clone_from(&record.payload);
+        }
+        let written = at.table.working_map(&base, working);
+        let answer = written.err().unwrap_or(0);
+        let line = format!(
+            "working {answer} {} {} {}",
+            digest32(&at.table.numbers),
+            digest8(&base.cells),
+            digest8(working)
+        );
+        if answer == 0 && record.words[3] == 1 {
+            self.solver = Solver::new(Floor { cells: working.to_vec(), ..base });
         }
         line
     }

@@ -1,5 +1,10 @@
 //! The floor: cells row by row, vertices at the cell corners.
 
+/// Whether refusal 1 does not apply.
+pub fn sides_are_good(width: u64, height: u64) -> bool {
+    [width, height].iter().all(|side| (1..=127).contains(side))
+}
+
 #[derive(Clone, Debug)]
 pub struct Floor {
     pub width: u64,
@@ -18,8 +23,7 @@ impl Floor {
 
     /// Refusal 1, 2 or 3, the first that applies.
     pub fn shape_fault(&self) -> Option<u8> {
-        let side_is_good = |side: u64| (1..=127).contains(&side);
-        if !side_is_good(self.width) || !side_is_good(self.height) {
+        if !sides_are_good(self.width, self.height) {
             return Some(1);
         }
         if self.cells.len() as u64 != self.width * self.height {

@@ -7,6 +7,11 @@ pub const LOAD: u8 = 3;
 pub const CHECK: u8 = 4;
 pub const THIN: u8 = 5;
 pub const SIGHT: u8 = 6;
+pub const TABLE: u8 = 7;
+pub const POST: u8 = 8;
+pub const STRIKE: u8 = 9;
+pub const WORKING: u8 = 10;
+pub const OBSTACLE: u8 = 11;
 
 pub const WORDS: usize = 14;
 pub const HEADER_SIZE: usize = 64;
@@ -15,6 +20,7 @@ pub const MAP_ROOM: usize = 16_129;
 pub const SHEET_ROOM: usize = 16_384;
 pub const WORK_ROOM: usize = 65_536;
 pub const LIST_ROOM: usize = 16_392;
+pub const WORKING_ROOM: usize = 16_392;
 pub const MOST_DAMAGES: usize = 4;
 
 #[derive(Clone, Debug)]

@@ -1,6 +1,7 @@
 //! Makes a job stream: floors, and for each one operations on it.
 
 use crate::boundary;
+use crate::closures::Table;
 use crate::count;
 use crate::floor::Floor;
 use crate::format::{self, Damage, Record};
@@ -20,18 +21,23 @@ fn good_lengths(count: usize) -> Lengths {
 /// Vertices above this make a floor large: fewer operations are made for it.
 const LARGE: usize = 1500;
 
-struct Maker {
+pub struct Maker {
     out: Vec<u8>,
-    random: Random,
+    pub random: Random,
+    /// For closures and obstacles: their records change nothing of the others.
+    aside: Random,
     /// Whether numbers may pass 8 bits (sides, neighbourhood) and 16 bits (ends, n).
     wide: bool,
-    solver: Solver,
+    pub solver: Solver,
+    /// The table as the records leave it.
+    pub table: Table,
 }
 
 /// The stream for a number of floors.
 pub fn make(seed: u64, count: u64, wide: bool) -> Vec<u8> {
-    let random = Random::new(seed);
-    let mut maker = Maker { out: Vec::new(), random, wide, solver: Solver::new(Floor::open(1, 1)) };
+    let (random, aside) = (Random::new(seed), Random::new(!seed));
+    let (solver, table) = (Solver::new(Floor::open(1, 1)), Table::empty());
+    let mut maker = Maker { out: Vec::new(), random, aside, wide, solver, table };
     let mut floors = fixed_floors(&mut maker.random);
     floors.truncate(count as usize);
     for k in floors.len() as u64..count {
@@ -99,7 +105,7 @@ fn fixed_floors(random: &mut Random) -> Vec<(Floor, Vec<Request>)> {
 }
 
 impl Maker {
-    fn record(&mut self, operation: u8, words: &[u32], payload: Vec<u8>) {
+    pub fn record(&mut self, operation: u8, words: &[u32], payload: Vec<u8>) {
         Record::new(operation, words, payload).write(&mut self.out);
     }
 
@@ -160,6 +166,23 @@ impl Maker {
         } else {
             self.bad_operations();
         }
+        self.use_aside();
+        if is_good {
+            self.obstacle_pairs(if self.is_large() { 24 } else { 48 });
+            self.closures_on_good_floor();
+        } else {
+            self.closures_on_bad_floor();
+        }
+        self.use_aside();
+    }
+
+    /// Exchanges the two generators.
+    fn use_aside(&mut self) {
+        std::mem::swap(&mut self.random, &mut self.aside);
+    }
+
+    pub fn is_large(&self) -> bool {
+        self.count() > LARGE
     }
 
     fn count(&self) -> usize {
@@ -167,7 +190,7 @@ impl Maker {
     }
 
     fn good_operations(&mut self, requests: &[Request]) {
-        let large = self.count() > LARGE;
+        let large = self.is_large();
         self.sight_pairs(if large { 24 } else { 48 });
         let mut requests = requests.to_vec();
         while requests.len() < if large { 2 } else { 3 } {
@@ -187,7 +210,7 @@ impl Maker {
     }
 
     /// A good plan, and checks and thinnings of what it left.
-    fn job(&mut self, request: Request, damaged: usize) {
+    pub fn job(&mut self, request: Request, damaged: usize) {
         let count = self.count();
         self.plan_record(request, good_lengths(count));
         self.check_record(request, good_lengths(count), None, &[]);
@@ -208,7 +231,7 @@ impl Maker {
         let count = self.count();
         let swapped = Request { start: request.goal, goal: request.start, ..request };
         self.check_record(swapped, good_lengths(count), None, &[]);
-        if count <= LARGE {
+        if !self.is_large() {
             let turned = Request { neighbourhood: 12 - request.neighbourhood, ..request };
             self.check_record(turned, good_lengths(count), None, &[]);
         }
@@ -259,15 +282,15 @@ impl Maker {
             let out_length = length + self.random.index(2);
             self.list_record(&list, length, out_length, n);
         }
-        let pairs = [(); 6].map(|_| (self.random.below(30) as u32, self.random.below(30) as u32));
-        self.sight_record(&pairs);
+        let pairs = self.small_pairs();
+        self.pairs_record(format::SIGHT, &pairs);
     }
 }
 
 /// Requests and slice lengths.
 impl Maker {
     /// A request of good shape; in most of them a walk joins the ends.
-    fn any_request(&mut self) -> Request {
+    pub fn any_request(&mut self) -> Request {
         let count = self.count() as u64;
         let neighbourhood = self.random.pick(&[4, 8]);
         let graphs = self.solver.graphs(neighbourhood);
@@ -384,9 +407,10 @@ impl Maker {
         self.record(format::THIN, &words, format::damages_to_bytes(damages));
     }
 
-    fn sight_record(&mut self, pairs: &[(u32, u32)]) {
+    /// A record of pairs: sight or obstacle.
+    pub fn pairs_record(&mut self, operation: u8, pairs: &[(u32, u32)]) {
         let bytes = pairs.iter().flat_map(|(from, to)| [from.to_le_bytes(), to.to_le_bytes()].concat()).collect();
-        self.record(format::SIGHT, &[pairs.len() as u32], bytes);
+        self.record(operation, &[pairs.len() as u32], bytes);
     }
 }
 
@@ -585,7 +609,7 @@ impl Maker {
             _ => self.random.below(count as u64),
         };
         self.route_record(count, None, &[Damage { slice: 4, place, value }]);
-        if count <= LARGE && self.random.percent(25) {
+        if !self.is_large() && self.random.percent(25) {
             self.route_record(count - 1, None, &[]);
         }
     }
@@ -678,9 +702,20 @@ impl Maker {
         self.solver.floor.vertex(x + dx, y + dy).unwrap_or(at)
     }
 
-    fn sight_pairs(&mut self, number: usize) {
+    pub fn sight_pairs(&mut self, number: usize) {
         let pairs: Vec<(u32, u32)> = (0..number).map(|_| self.sight_pair()).collect();
-        self.sight_record(&pairs);
+        self.pairs_record(format::SIGHT, &pairs);
+    }
+
+    /// Some pairs, and each of them the other way round.
+    fn obstacle_pairs(&mut self, number: usize) {
+        let pairs = (0..number / 2).map(|_| self.sight_pair());
+        let both: Vec<(u32, u32)> = pairs.flat_map(|(from, to)| [(from, to), (to, from)]).collect();
+        self.pairs_record(format::OBSTACLE, &both);
+    }
+
+    pub fn small_pairs(&mut self) -> [(u32, u32); 6] {
+        [(); 6].map(|_| (self.random.below(30) as u32, self.random.below(30) as u32))
     }
 
     fn sight_pair(&mut self) -> (u32, u32) {

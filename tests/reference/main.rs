@@ -1,5 +1,5 @@
 //! An independent second program for the route planner, its checker, the
-//! thinner, the sight question and the program. Subcommands:
+//! thinner, the sight questions, the closures and the program. Subcommands:
 //!
 //! vectors                 runs known answers and self checks
 //! program                 record stream on standard input, lines out
@@ -10,6 +10,8 @@
 
 mod answers;
 mod boundary;
+mod closure_jobs;
+mod closures;
 mod count;
 mod floor;
 mod format;

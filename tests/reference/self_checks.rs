@@ -1,14 +1,21 @@
 //! Checks of this program against itself by other methods.
 
+use crate::closures::{Rectangle, Table};
 use crate::floor::Floor;
 use crate::graph::{self, Graph};
+use crate::layouts::{self, KINDS};
 use crate::natural::Natural;
+use crate::random::Random;
+use crate::sight::{self, Obstacle, Point};
 use crate::vectors::{self, Tally};
-use crate::{answers, count, jobs, sheet, sight, thin};
+use crate::{answers, count, jobs, sheet, thin};
+use std::collections::BTreeMap;
 
 pub fn run(tally: &mut Tally) {
     naturals(tally);
     clipping(tally);
+    obstacles(tally);
+    closures(tally);
     tiny_floors(tally);
     checker_on_damage(tally);
     thinning(tally);
@@ -58,6 +65,78 @@ fn clipping(tally: &mut Tally) {
         }
     }
     tally.holds("clipping agrees with the corner rule", agree);
+}
+
+/// What is in the way, by the order in which one meets it: of the blocked cells that
+/// the corner rule has entered, the one whose inside is reached first.
+fn first_on_the_way(floor: &Floor, from: Point, to: Point) -> Option<Point> {
+    let (dx, dy) = ((to.0 - from.0).abs(), (to.1 - from.1).abs());
+    let lines = |at: i64, first: i64, last: i64| if first < last { at - first } else { first - at - 1 };
+    // the share of the segment before the cell, times dx * dy
+    let before = |&(i, j): &Point| (lines(i, from.0, to.0) * dy).max(lines(j, from.1, to.1) * dx);
+    let cells = (0..floor.height as i64).flat_map(|j| (0..floor.width as i64).map(move |i| (i, j)));
+    let met = cells.filter(|&(i, j)| floor.is_blocked(i, j) && enters_by_corners(from, to, i, j));
+    met.min_by_key(before)
+}
+
+/// The named cell is the first on the way, a named step begins where all before it is
+/// seen and the next vertex is not, and clear is what sight says.
+fn obstacles(tally: &mut Tally) {
+    let mut random = Random::new(3);
+    for kind in KINDS {
+        let floor = layouts::make(kind, &mut random, 7, 5);
+        let mut agree = true;
+        for (from, to) in (0..48).flat_map(|a| (0..48).map(move |b| (a, b))) {
+            let (a, b) = (floor.point(from), floor.point(to));
+            let (dx, dy) = ((b.0 - a.0).signum(), (b.1 - a.1).signum());
+            agree &= match sight::obstacle(&floor, a, b) {
+                Obstacle::Clear => sight::sees(&floor, a, b),
+                Obstacle::Cell(c) => first_on_the_way(&floor, a, b) == Some((c as i64 % 7, c as i64 / 7)),
+                Obstacle::Step(v) => {
+                    let (x, y) = floor.point(v as usize);
+                    sight::sees(&floor, a, (x, y)) && !sight::sees(&floor, a, (x + dx, y + dy))
+                }
+            };
+        }
+        tally.holds("obstacles by the order on the way", agree);
+    }
+}
+
+/// Calls in a row from the empty table, held to a plain map from slot to rectangle; the
+/// working map by painting its rectangles one after the other.
+fn closures(tally: &mut Tally) {
+    let mut random = Random::new(4);
+    let base = layouts::make(KINDS[2], &mut random, 5, 4);
+    let (mut table, mut plain) = (Table::empty(), BTreeMap::new());
+    for _ in 0..600 {
+        if random.percent(60) {
+            let [column, row, columns, rows] = [5, 4, 3, 3].map(|most| random.below(most + 1) as u32);
+            let rectangle = Rectangle { column, row, columns, rows };
+            let leaves = column + columns > 5 || row + rows > 4;
+            let expected = match (0..16).find(|slot| !plain.contains_key(slot)) {
+                _ if columns * rows == 0 || leaves => Err(12),
+                None => Err(13),
+                Some(slot) => {
+                    plain.insert(slot, rectangle);
+                    Ok(slot)
+                }
+            };
+            tally.equal("post", table.post(5, 4, rectangle), expected);
+        } else {
+            let slot = random.below(18) as u32;
+            tally.equal("strike", table.strike(5, 4, slot), plain.remove(&slot).map(|_| ()).ok_or(14));
+        }
+        tally.holds("the table is the plain map", table.held() == plain);
+        let mut painted = base.cells.clone();
+        for r in plain.values() {
+            for j in r.row..r.row + r.rows {
+                painted[(j * 5 + r.column) as usize..][..r.columns as usize].fill(1);
+            }
+        }
+        let mut working = vec![9; 20];
+        tally.equal("working map", table.working_map(&base, &mut working), Ok(()));
+        tally.holds("cells of the working map", working == painted);
+    }
 }
 
 /// All floors of a size, one for each set of blocked cells.
@@ -165,6 +244,19 @@ fn streams(tally: &mut Tally) {
     }
     for answer in [0, 1, 2, 3, 6, 10] {
         tally.holds(&format!("thin answers {answer}"), has(&format!("thin {answer} ")));
+    }
+    for answer in [0, 1, 12, 13] {
+        tally.holds(&format!("post answers {answer}"), has(&format!("post {answer} ")));
+    }
+    for answer in [0, 1, 14] {
+        tally.holds(&format!("strike answers {answer}"), has(&format!("strike {answer} ")));
+    }
+    for answer in [0, 1, 2, 3, 6] {
+        tally.holds(&format!("working answers {answer}"), has(&format!("working {answer} ")));
+    }
+    let obstacles: String = text.lines().filter_map(|line| line.strip_prefix("obstacle ")).collect();
+    for answer in [" y", " c", " s", " 1 ", " 2 ", " 3 ", " 5 "] {
+        tally.holds(&format!("obstacle answers{answer}"), obstacles.contains(answer));
     }
     let sights: String = text.lines().filter_map(|line| line.strip_prefix("sight ")).collect();
     for answer in ['y', 'n', '1', '2', '3', '5'] {

@@ -87,14 +87,57 @@ pub fn vertices_see(floor: &Floor, from: usize, to: usize) -> bool {
     sees(floor, floor.point(from), floor.point(to))
 }
 
+/// Refusal 1, 2, 3 or 5 of a question about two vertices.
+fn question_fault(floor: &Floor, from: u64, to: u64) -> Option<u8> {
+    let off_floor = || (from.max(to) >= floor.vertex_count() as u64).then_some(5);
+    floor.shape_fault().or_else(off_floor)
+}
+
 /// The sight question: a refusal 1, 2, 3 or 5, or yes or no.
 pub fn question(floor: &Floor, from: u64, to: u64) -> Result<bool, u8> {
-    if let Some(fault) = floor.shape_fault() {
-        return Err(fault);
+    let seen = || vertices_see(floor, from as usize, to as usize);
+    question_fault(floor, from, to).map_or_else(|| Ok(seen()), Err)
+}
+
+/// What is in the way of a segment: a cell's number, or that of the vertex where a
+/// step begins.
+#[derive(Clone, Copy, Debug, PartialEq, Eq)]
+pub enum Obstacle {
+    Clear,
+    Cell(u64),
+    Step(u64),
+}
+
+/// Of all blocked cells entered, the one least far in columns from the first end,
+/// of equals least far in rows. Distances are those of the cells' middles, doubled.
+fn nearest_cell(floor: &Floor, from: Point, to: Point) -> Obstacle {
+    let cells = (0..floor.height as i64).flat_map(|j| (0..floor.width as i64).map(move |i| (i, j)));
+    let entered = cells.filter(|&(i, j)| floor.is_blocked(i, j) && enters_cell(from, to, i, j));
+    let far = |&(i, j): &Point| ((2 * i + 1 - 2 * from.0).abs(), (2 * j + 1 - 2 * from.1).abs());
+    entered.min_by_key(far).map_or(Obstacle::Clear, |(i, j)| Obstacle::Cell(j as u64 * floor.width + i as u64))
+}
+
+/// Walks from the first end, vertex by vertex, to the first step that is shut.
+fn first_step(floor: &Floor, from: Point, to: Point) -> Obstacle {
+    let (dx, dy) = ((to.0 - from.0).signum(), (to.1 - from.1).signum());
+    let mut at = from;
+    while at != to {
+        let next = (at.0 + dx, at.1 + dy);
+        if !sees(floor, at, next) {
+            return Obstacle::Step(floor.vertex(at.0, at.1).expect("between two vertices") as u64);
+        }
+        at = next;
     }
-    let count = floor.vertex_count() as u64;
-    if from >= count || to >= count {
-        return Err(5);
-    }
-    Ok(vertices_see(floor, from as usize, to as usize))
+    Obstacle::Clear
+}
+
+/// What is in the way between two points of a floor of good shape.
+pub fn obstacle(floor: &Floor, from: Point, to: Point) -> Obstacle {
+    if from.0 == to.0 || from.1 == to.1 { first_step(floor, from, to) } else { nearest_cell(floor, from, to) }
+}
+
+/// What is in the way between two vertices, or a refusal 1, 2, 3 or 5.
+pub fn obstacle_question(floor: &Floor, from: u64, to: u64) -> Result<Obstacle, u8> {
+    let found = || obstacle(floor, floor.point(from as usize), floor.point(to as usize));
+    question_fault(floor, from, to).map_or_else(|| Ok(found()), Err)
 }

@@ -1,10 +1,12 @@
 //! Known answers: the worked floors of document 01 and the worked numbers of
 //! the source documents 000, 002 and 003, each with its place there.
 
+use crate::closures::{Rectangle, Table};
 use crate::floor::Floor;
 use crate::natural::{binomial, Natural};
 use crate::sheet::{self, Handed, Lent, PlanAnswer, Request, Sheet, Solver, NO_WALK};
-use crate::{boundary, program, self_checks, sight, stream, thin};
+use crate::sight::{self, Obstacle};
+use crate::{boundary, program, self_checks, stream, thin};
 
 /// Counts what holds and prints what does not.
 pub struct Tally {
@@ -35,6 +37,8 @@ pub fn run() -> bool {
     let mut tally = Tally { passed: 0, failed: 0 };
     small_floors(&mut tally);
     small_sight(&mut tally);
+    named_obstacles(&mut tally);
+    posted_closures(&mut tally);
     large_totals(&mut tally);
     totals_at_the_boundary(&mut tally);
     bad_shapes(&mut tally);
@@ -155,6 +159,72 @@ fn small_sight(tally: &mut Tally) {
         }
     }
     tally.equal("i", entered, vec![(0, 0), (1, 0), (1, 1), (2, 1)]);
+}
+
+/// Document 02, request 2, on floors i, f and g of document 01: from (0, 0) to (3, 2)
+/// cells 0, 1, 4 and 5 are entered.
+fn named_obstacles(tally: &mut Tally) {
+    let cell = |number| Ok(Obstacle::Cell(number));
+    let step = |number| Ok(Obstacle::Step(number));
+    let clear = Ok(Obstacle::Clear);
+    let i = |blocked: &[usize]| {
+        let mut floor = Floor::open(3, 2);
+        blocked.iter().for_each(|&c| floor.cells[c] = 1);
+        floor
+    };
+    let (f, g) = (Floor::new(2, 1, vec![0, 1]), Floor::new(2, 2, vec![1, 0, 0, 1]));
+    let questions = [
+        (i(&[1, 5]), 0, 11, cell(1)),
+        (i(&[1, 5]), 11, 0, cell(5)),
+        (i(&[1, 4]), 0, 11, cell(1)),
+        (i(&[1, 4]), 11, 0, cell(4)),
+        (i(&[2, 3]), 0, 11, clear),
+        (i(&[2, 3]), 11, 0, clear),
+        (f.clone(), 0, 2, step(1)),
+        (f.clone(), 2, 0, step(2)),
+        (f.clone(), 0, 6, Err(5)),
+        (g.clone(), 0, 8, cell(0)),
+        (g.clone(), 8, 0, cell(3)),
+        (g.clone(), 2, 6, clear),
+        (g.clone(), 0, 6, step(0)),
+        (g.clone(), 6, 0, step(3)),
+        (g, 0, 0, clear),
+    ];
+    for (floor, from, to, answer) in questions {
+        tally.equal("request 2", sight::obstacle_question(&floor, from, to), answer);
+    }
+}
+
+/// Document 02, request 1, on a floor of 3 by 2 cells with cell 5 blocked.
+fn posted_closures(tally: &mut Tally) {
+    let base = Floor::new(3, 2, vec![0, 0, 0, 0, 0, 1]);
+    let mut table = Table::empty();
+    let rectangle = |column, row, columns, rows| Rectangle { column, row, columns, rows };
+    let map = |table: &Table| {
+        let mut cells = vec![9; 6];
+        table.working_map(&base, &mut cells).map(|()| cells)
+    };
+    tally.equal("request 1, empty", map(&table), Ok(vec![0, 0, 0, 0, 0, 1]));
+    tally.equal("request 1, column 0", table.post(3, 2, rectangle(0, 0, 1, 2)), Ok(0));
+    tally.equal("request 1, cell 2", table.post(3, 2, rectangle(2, 0, 1, 1)), Ok(1));
+    tally.equal("request 1, two held", map(&table), Ok(vec![1, 0, 1, 1, 0, 1]));
+    for bad in [(0, 0, 0, 1), (0, 0, 1, 0), (2, 0, 2, 1), (0, 1, 1, 2), (u32::MAX, 0, 1, 1), (0, 1, 1, u32::MAX)] {
+        let (column, row, columns, rows) = bad;
+        tally.equal("request 1, 12", table.post(3, 2, rectangle(column, row, columns, rows)), Err(12));
+    }
+    tally.equal("request 1, strike", table.strike(3, 2, 0), Ok(()));
+    tally.equal("request 1, strike again", table.strike(3, 2, 0), Err(14));
+    tally.equal("request 1, strike 16", table.strike(3, 2, 16), Err(14));
+    tally.equal("request 1, lowest free", table.post(3, 2, rectangle(1, 1, 1, 1)), Ok(0));
+    tally.equal("request 1, after a strike", map(&table), Ok(vec![0, 0, 1, 0, 1, 1]));
+    for slot in 2..16 {
+        tally.equal("request 1, filled", table.post(3, 2, rectangle(0, 0, 1, 1)), Ok(slot));
+    }
+    tally.equal("request 1, 13", table.post(3, 2, rectangle(0, 0, 1, 1)), Err(13));
+    tally.equal("request 1, 12 before 13", table.post(3, 2, rectangle(3, 0, 1, 1)), Err(12));
+    tally.equal("request 1, 1 before 12", table.post(0, 2, rectangle(0, 0, 0, 0)), Err(1));
+    tally.equal("request 1, 1 before 14", table.strike(3, 128, 16), Err(1));
+    tally.equal("request 1, 6", table.working_map(&base, &mut [9; 5]), Err(6));
 }
 
 /// Document 01, j and k.
