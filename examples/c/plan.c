@@ -1,17 +1,22 @@
-/* Plans a route round a wall, checks its sheet, and thins the route to the vertices that a cart needs. */
+/* Plans a route round a wall, then round a closure that is posted on the floor and struck again. Each sheet is checked,
+ * and each route thinned to the vertices that a cart needs. */
 #include <inttypes.h>
 #include <stdio.h>
 #include "lurfanzi.h"
 
 enum { WIDTH = 7, HEIGHT = 5, COLUMNS = WIDTH + 1, VERTICES = COLUMNS * (HEIGHT + 1), NEIGHBOURHOOD = 8 };
 
-static const uint8_t map[WIDTH * HEIGHT] = {
+static const uint8_t base[WIDTH * HEIGHT] = {
     0, 0, 0, 0, 0, 0, 0,
     0, 0, 0, 1, 0, 0, 0,
     0, 0, 0, 1, 0, 0, 0,
     0, 0, 0, 1, 0, 0, 0,
     0, 0, 0, 1, 0, 0, 0,
 };
+
+/* The closures, none of them held, and the map with them on it. */
+static uint32_t slots[64];
+static uint8_t map[WIDTH * HEIGHT];
 
 /* The sheet, the working memory, and the kept positions. What they hold before a call does not matter. */
 static uint32_t d[VERTICES], e[VERTICES], work[4 * VERTICES];
@@ -23,21 +28,46 @@ static uint32_t vertex(uint32_t x, uint32_t y)
     return x + y * COLUMNS;
 }
 
-static void print_vertex(uint16_t v)
+static void print_vertex(uint32_t v)
 {
-    printf(" (%d,%d)", v % COLUMNS, v / COLUMNS);
+    printf(" (%" PRIu32 ",%" PRIu32 ")", v % COLUMNS, v / COLUMNS);
 }
 
-int main(void)
+/* Says what is in the way from one vertex to another; whether the library took the question. */
+static int show_obstacle(uint32_t a, uint32_t b)
 {
-    const uint32_t a = vertex(0, 4), b = vertex(7, 5);
+    lurfanzi_obstacle_result found = lurfanzi_obstacle(WIDTH, HEIGHT, map, sizeof map, a, b);
+    printf("from");
+    print_vertex(a);
+    printf(" to");
+    print_vertex(b);
+    switch (found.answer) {
+    case LURFANZI_SIGHT_YES:
+        printf(": the way is clear\n");
+        return 1;
+    case LURFANZI_BLOCKED_CELL:
+        printf(": cell (%" PRIu32 ",%" PRIu32 ") is blocked\n", found.place % WIDTH, found.place / WIDTH);
+        return 1;
+    case LURFANZI_SHUT_STEP:
+        printf(": shut from");
+        print_vertex(found.place);
+        printf(" on\n");
+        return 1;
+    default:
+        printf(": refused %d\n", found.answer);
+        return 0;
+    }
+}
 
+/* Plans from vertex a to vertex b, checks the sheet and thins the route; whether all three answered 0. */
+static int show_plan(uint32_t a, uint32_t b)
+{
     lurfanzi_plan_result plan = lurfanzi_plan(
         WIDTH, HEIGHT, map, sizeof map, NEIGHBOURHOOD, a, b,
         d, VERTICES, e, VERTICES, f, VERTICES, back, VERTICES, route, VERTICES, work, 4 * VERTICES);
     if (plan.answer != LURFANZI_OK) {
         printf("the planner refused: %d\n", plan.answer);
-        return 1;
+        return 0;
     }
     printf("cost %" PRIu32 ", cheapest routes %" PRIu64 ", points %zu\n", plan.cost, plan.total, plan.points);
     printf("route:");
@@ -48,16 +78,35 @@ int main(void)
         WIDTH, HEIGHT, map, sizeof map, NEIGHBOURHOOD, a, b,
         d, VERTICES, e, VERTICES, f, VERTICES, back, VERTICES, route, VERTICES, plan.points);
     printf("the checker answers %d\n", verdict);
-    if (verdict != LURFANZI_OK) return 1;
 
     lurfanzi_thin_result thin =
         lurfanzi_thin(WIDTH, HEIGHT, map, sizeof map, route, VERTICES, kept, VERTICES, plan.points);
-    if (thin.answer != LURFANZI_OK) {
-        printf("the thinning refused: %d\n", thin.answer);
-        return 1;
-    }
     printf("kept:");
     for (size_t k = 0; k < thin.kept; k++) print_vertex(route[kept[k]]);
     printf("\n");
+    return verdict == LURFANZI_OK && thin.answer == LURFANZI_OK;
+}
+
+/* Writes the map with the closures on it; whether the library took it. */
+static int draw_map(void)
+{
+    return lurfanzi_working_map(WIDTH, HEIGHT, slots, base, sizeof base, map, sizeof map) == LURFANZI_OK;
+}
+
+int main(void)
+{
+    const uint32_t a = vertex(0, 4), b = vertex(7, 5), corner = vertex(4, 1);
+
+    if (!draw_map() || !show_obstacle(a, b) || !show_plan(a, b)) return 1;
+
+    /* A wet floor of 2 by 2 cells, from column 4 and row 1 on. */
+    lurfanzi_post_result posted = lurfanzi_post(WIDTH, HEIGHT, slots, 4, 1, 2, 2);
+    if (posted.answer != LURFANZI_OK) return 1;
+    printf("posted in slot %" PRIu32 "\n", posted.slot);
+    if (!draw_map() || !show_obstacle(corner, b) || !show_plan(a, b)) return 1;
+
+    if (lurfanzi_strike(WIDTH, HEIGHT, slots, posted.slot) != LURFANZI_OK) return 1;
+    printf("struck slot %" PRIu32 "\n", posted.slot);
+    if (!draw_map() || !show_obstacle(corner, b) || !show_plan(a, b)) return 1;
     return 0;
 }

@@ -76,8 +76,8 @@ pub struct Rectangle {
     pub rows: u32,
 }
 
-/// The sixteen closures of a floor with these sides. Slot `k` has its column, row, columns and rows at `4 * k` and on, and
-/// is free where columns is 0. Any numbers may stand there.
+/// The sixteen closures of a floor with these sides. Slot `k` has its column, row, columns and rows at `4 * k` and
+/// on, and is free where columns is 0. Any numbers may stand there.
 #[derive(Clone, Debug, PartialEq, Eq)]
 pub struct Closures {
     pub width: u32,
@@ -264,10 +264,10 @@ pub fn thin(floor: Floor, list: &[u16], out: &mut [u16], n: usize) -> Result<usi
 
 /// The calls themselves: the only unsafe code.
 ///
-/// Why they are sound: the header asks that a slice's pointer be valid for its length, aligned, and that no written slice
-/// overlap another slice of the call. Each pointer and length are those of one Rust slice or array, shared for `*const`
-/// and exclusive for `*mut`, and the borrows last as long as the call. The library reads and writes nothing else, keeps no
-/// pointer, and every number it may write is a value of the slice's type.
+/// Why they are sound: the header asks that a slice's pointer be valid for its length, aligned, and that no written
+/// slice overlap another slice of the call. Each pointer and length are those of one Rust slice or array, shared for
+/// `*const` and exclusive for `*mut`, and the borrows last as long as the call. The library reads and writes nothing
+/// else, keeps no pointer, and every number it may write is a value of the slice's type.
 mod call {
     use super::{Closures, Floor, Job, Rectangle, Sheet, SheetMut};
 
@@ -318,7 +318,8 @@ mod call {
         fn lurfanzi_plan(
             width: u32, height: u32, map: *const u8, map_length: usize, neighbourhood: u32, a: u32, b: u32,
             d: *mut u32, d_length: usize, e: *mut u32, e_length: usize, f: *mut u64, f_length: usize,
-            back: *mut u64, back_length: usize, route: *mut u16, route_length: usize, work: *mut u32, work_length: usize,
+            back: *mut u64, back_length: usize, route: *mut u16, route_length: usize,
+            work: *mut u32, work_length: usize,
         ) -> PlanResult;
 
         fn lurfanzi_check(

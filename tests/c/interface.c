@@ -1,12 +1,8 @@
-/* Holds lurfanzi.h to the code: planner, checker and thinning, called as a user in C calls them.
- *
- * Every slice is lent between guard bytes. After each call the guards and all that the call may not write are compared
- * byte for byte with what they were. The expected numbers are those of the floors a to l, worked by hand in the rules;
- * where a floor's text leaves a number out, it follows from the rule named beside it.
+/* Holds lurfanzi.h to the code: planner, checker and thinning, called as a user in C calls them, with every slice
+ * between guard bytes. The expected numbers are those of the floors a to l, worked by hand in the rules; where a
+ * floor's text leaves a number out, it follows from the rule named beside it.
  */
-#include <stdio.h>
-#include <stdlib.h>
-#include <string.h>
+#include "lent.h"
 #include "lurfanzi.h"
 
 #define M LURFANZI_UNREACHABLE
@@ -22,95 +18,11 @@ _Static_assert(sizeof(lurfanzi_thin_result) == 16, "size of the thinning's resul
 _Static_assert(offsetof(lurfanzi_thin_result, kept) == 0, "place of kept");
 _Static_assert(offsetof(lurfanzi_thin_result, answer) == 8, "place of the thinning's answer");
 _Static_assert(LURFANZI_OK == 0 && LURFANZI_BAD_SIZE == 1 && LURFANZI_BAD_MAP_LENGTH == 2, "answers 0 to 2");
-_Static_assert(LURFANZI_BAD_MAP_BYTE == 3 && LURFANZI_BAD_NEIGHBOURHOOD == 4 && LURFANZI_BAD_END == 5, "answers 3 to 5");
+_Static_assert(LURFANZI_BAD_MAP_BYTE == 3 && LURFANZI_BAD_NEIGHBOURHOOD == 4, "answers 3 and 4");
+_Static_assert(LURFANZI_BAD_END == 5, "answer 5");
 _Static_assert(LURFANZI_BAD_SLICE_LENGTH == 6 && LURFANZI_NO_ROUTE == 7 && LURFANZI_TOO_MANY == 8, "answers 6 to 8");
 _Static_assert(LURFANZI_FALSE_SHEET == 9 && LURFANZI_NOT_JOINED == 10, "answers 9 and 10");
 _Static_assert(LURFANZI_UNREACHABLE == 4294967295, "the cost of no walk");
-
-static int failures = 0;
-static int provoked[11]; /* how often each answer was given and was the expected one */
-
-static void fail(const char *where, const char *what, const char *fault)
-{
-    printf("%s: %s %s\n", where, what, fault);
-    failures++;
-}
-
-static void expect(const char *where, const char *what, unsigned long long is, unsigned long long wanted)
-{
-    if (is != wanted) {
-        printf("%s: %s is %llu, not %llu\n", where, what, is, wanted);
-        failures++;
-    }
-}
-
-static void expect_answer(const char *where, unsigned answer, unsigned wanted)
-{
-    expect(where, "the answer", answer, wanted);
-    if (answer == wanted && wanted <= 10) provoked[wanted]++;
-}
-
-/* A slice lent to a call: its bytes between two guards, a copy of both guards and bytes, and the pointer that is handed
- * in. With no bytes the pointer is null, or one that no read would survive. */
-enum { GUARD = 64 };
-
-typedef struct {
-    size_t size;
-    unsigned char *block, *copy;
-    void *p;
-} lent;
-
-static lent lend(size_t size, unsigned char fill)
-{
-    lent s = {size, malloc(size + 2 * GUARD), malloc(size + 2 * GUARD), NULL};
-    if (s.block == NULL || s.copy == NULL) abort();
-    for (size_t k = 0; k < GUARD; k++) {
-        s.block[k] = (unsigned char)(0xA0 ^ k);
-        s.block[GUARD + size + k] = (unsigned char)(0x50 ^ k);
-    }
-    memset(s.block + GUARD, fill, size);
-    s.p = size != 0 ? s.block + GUARD : fill % 2 == 0 ? NULL : (void *)64;
-    return s;
-}
-
-static lent lend_copy(const void *from, size_t size)
-{
-    lent s = lend(size, 0);
-    if (size != 0) memcpy(s.p, from, size);
-    return s;
-}
-
-static void before_call(lent *s)
-{
-    memcpy(s->copy, s->block, s->size + 2 * GUARD);
-}
-
-static void expect_guards(const char *where, const char *what, const lent *s)
-{
-    if (memcmp(s->block, s->copy, GUARD) != 0) fail(where, what, "was written before its first byte");
-    if (memcmp(s->block + GUARD + s->size, s->copy + GUARD + s->size, GUARD) != 0)
-        fail(where, what, "was written past its last byte");
-}
-
-static void expect_untouched(const char *where, const char *what, const lent *s)
-{
-    if (memcmp(s->block + GUARD, s->copy + GUARD, s->size) != 0) fail(where, what, "was touched");
-}
-
-static void expect_zeros(const char *where, const char *what, const lent *s)
-{
-    for (size_t k = 0; k < s->size; k++)
-        if (s->block[GUARD + k] != 0) {
-            fail(where, what, "is not all 0");
-            break;
-        }
-}
-
-static void give_back(lent *s)
-{
-    free(s->block);
-    free(s->copy);
-}
 
 /* A job for planner or checker: every number of the call, and the sheet's slices. */
 enum { D, E, F, BACK, ROUTE, WORK, SLICES };
@@ -163,10 +75,9 @@ static planned plan(const char *where, const job *j, unsigned char fill)
         j->width, j->height, map.p, j->map_length, j->neighbourhood, j->a, j->b,
         s[D].p, j->length[D], s[E].p, j->length[E], s[F].p, j->length[F],
         s[BACK].p, j->length[BACK], s[ROUTE].p, j->length[ROUTE], s[WORK].p, j->length[WORK]);
-    expect_guards(where, "the map", &map);
-    expect_untouched(where, "the map", &map);
+    expect_read_only(where, "the map", &map);
     for (int k = 0; k < SLICES; k++) expect_guards(where, slice_name[k], &s[k]);
-    unsigned answer = p.result.answer;
+    const uint8_t answer = p.result.answer;
     if (answer > 8) fail(where, "the planner", "gave an answer above 8");
     if (answer != 0) {
         expect(where, "cost", p.result.cost, 0);
@@ -184,7 +95,7 @@ static planned plan(const char *where, const job *j, unsigned char fill)
     return p;
 }
 
-static void expect_plan(const char *where, const job *j, unsigned wanted)
+static void expect_plan(const char *where, const job *j, uint8_t wanted)
 {
     const unsigned char fills[] = {0x00, 0x01, 0xFF};
     for (size_t k = 0; k < sizeof fills; k++) {
@@ -195,23 +106,22 @@ static void expect_plan(const char *where, const job *j, unsigned wanted)
 }
 
 /* Asks the checker about the sheet as the slices hold it. */
-static unsigned check(const char *where, const job *j, const void *const sheet[5])
+static uint8_t check(const char *where, const job *j, const void *const sheet[5])
 {
     lent s[5], map = lend_copy(j->map, j->map_length);
     before_call(&map);
     for (int k = 0; k < 5; k++) {
-        s[k] = sheet[k] == NULL ? lend(j->length[k] * element[k], 0xFF) : lend_copy(sheet[k], j->length[k] * element[k]);
+        const size_t size = j->length[k] * element[k];
+        s[k] = sheet[k] == NULL ? lend(size, 0xFF) : lend_copy(sheet[k], size);
         before_call(&s[k]);
     }
-    unsigned answer = lurfanzi_check(
+    uint8_t answer = lurfanzi_check(
         j->width, j->height, map.p, j->map_length, j->neighbourhood, j->a, j->b,
         s[D].p, j->length[D], s[E].p, j->length[E], s[F].p, j->length[F],
         s[BACK].p, j->length[BACK], s[ROUTE].p, j->length[ROUTE], j->n);
-    expect_guards(where, "the map", &map);
-    expect_untouched(where, "the map", &map);
+    expect_read_only(where, "the map", &map);
     for (int k = 0; k < 5; k++) {
-        expect_guards(where, slice_name[k], &s[k]);
-        expect_untouched(where, slice_name[k], &s[k]);
+        expect_read_only(where, slice_name[k], &s[k]);
         give_back(&s[k]);
     }
     give_back(&map);
@@ -235,10 +145,8 @@ static lurfanzi_thin_result thin(const char *where, const trail *t, uint16_t *ke
     before_call(&map), before_call(&list), before_call(&out);
     lurfanzi_thin_result r = lurfanzi_thin(
         t->width, t->height, map.p, t->map_length, list.p, t->list_length, out.p, t->out_length, t->n);
-    expect_guards(where, "the map", &map);
-    expect_untouched(where, "the map", &map);
-    expect_guards(where, "the list", &list);
-    expect_untouched(where, "the list", &list);
+    expect_read_only(where, "the map", &map);
+    expect_read_only(where, "the list", &list);
     expect_guards(where, "the output", &out);
     if (r.answer != 0) {
         expect_untouched(where, "the output", &out);
@@ -249,7 +157,7 @@ static lurfanzi_thin_result thin(const char *where, const trail *t, uint16_t *ke
     return r;
 }
 
-static void expect_thin(const char *where, const trail *t, unsigned wanted)
+static void expect_thin(const char *where, const trail *t, uint8_t wanted)
 {
     expect_answer(where, thin(where, t, NULL).answer, wanted);
 }
@@ -258,13 +166,13 @@ static void expect_thin(const char *where, const trail *t, unsigned wanted)
 
 enum { PLACES = 9 };
 
-/* A floor with its whole sheet. A number that the floor's text leaves out follows from the move costs and the counts. */
+/* A floor with its whole sheet. A number that the floor's text leaves out follows from the costs and the counts. */
 typedef struct {
     const char *name;
     uint32_t width, height;
     uint8_t map[4];
     uint32_t neighbourhood, a, b;
-    unsigned answer;
+    uint8_t answer;
     uint32_t cost;
     uint64_t total;
     uint32_t d[PLACES], e[PLACES];
@@ -322,7 +230,66 @@ static void plan_worked(const worked *w)
     }
 }
 
-/* Checks the worked sheet, then each sheet that differs from it in one number or one bit: all of those are false. */
+/* The number at a place of a slice, by the size of its elements. */
+static uint64_t number_at(const void *slice, size_t size, size_t place)
+{
+    if (size == 2) return ((const uint16_t *)slice)[place];
+    if (size == 4) return ((const uint32_t *)slice)[place];
+    return ((const uint64_t *)slice)[place];
+}
+
+static void put_number(void *slice, size_t size, size_t place, uint64_t number)
+{
+    if (size == 2) ((uint16_t *)slice)[place] = (uint16_t)number;
+    else if (size == 4) ((uint32_t *)slice)[place] = (uint32_t)number;
+    else ((uint64_t *)slice)[place] = number;
+}
+
+/* The checker's answer to each sheet that has another number at one place: one more, one less, 0, all ones, or one bit
+ * turned over. All of them are false. */
+static void change_place(
+    const worked *w, const job *j, const void *const sheet[5], size_t size, void *numbers, size_t place)
+{
+    const uint64_t old = number_at(numbers, size, place), ones = UINT64_MAX >> (64 - 8 * size);
+    const uint64_t others[] = {(old + 1) & ones, (old - 1) & ones, 0, ones};
+    for (size_t k = 0; k < 4 + 8 * size; k++) {
+        const uint64_t number = k < 4 ? others[k] : old ^ UINT64_C(1) << (k - 4);
+        if (number == old) continue;
+        put_number(numbers, size, place, number);
+        expect_answer(w->name, check(w->name, j, sheet), LURFANZI_FALSE_SHEET);
+    }
+    put_number(numbers, size, place, old);
+}
+
+/* Sheets without sense. The first has 0 everywhere, though no vertex but A costs 0; every other has more than 0 at A,
+ * which costs 0. */
+static uint64_t nonsense(unsigned k, size_t place)
+{
+    if (k == 0) return 0;
+    if (k == 1) return UINT64_MAX;
+    if (k == 2) return place + 1;
+    return 2 * (place * UINT64_C(2654435761) + k * UINT64_C(40503)) + 1;
+}
+
+static void check_nonsense(const worked *w)
+{
+    worked made = *w;
+    job j = job_of(w);
+    void *const slices[5] = {made.d, made.e, made.f, made.back, made.route};
+    const void *const sheet[5] = {made.d, made.e, made.f, made.back, made.route};
+    for (unsigned k = 0; k < 8; k++) {
+        size_t place = 0;
+        for (int slice = 0; slice < 5; slice++)
+            for (size_t i = 0; i < j.length[slice]; i++)
+                put_number(slices[slice], element[slice], i, nonsense(k, place++));
+        j.n = nonsense(k, 0);
+        expect_answer(w->name, check(w->name, &j, sheet), LURFANZI_FALSE_SHEET);
+        j.n = w->points;
+        expect_answer(w->name, check(w->name, &j, sheet), LURFANZI_FALSE_SHEET);
+    }
+}
+
+/* Checks the worked sheet, then each sheet that differs from it in one number: all of those are false. */
 static void check_worked(const worked *w)
 {
     worked altered = *w;
@@ -332,15 +299,9 @@ static void check_worked(const worked *w)
     const void *const sheet[5] = {altered.d, altered.e, altered.f, altered.back, altered.route};
     expect_answer(w->name, check(w->name, &j, sheet), w->answer);
     for (int k = 0; k < 5; k++)
-        for (size_t byte = 0; byte < j.length[k] * element[k]; byte++)
-            for (int bit = 0; bit < 8; bit += 7) {
-                unsigned char *at = (unsigned char *)slices[k] + byte;
-                *at ^= (unsigned char)(1u << bit);
-                expect_answer(w->name, check(w->name, &j, sheet), LURFANZI_FALSE_SHEET);
-                *at ^= (unsigned char)(1u << bit);
-            }
+        for (size_t place = 0; place < j.length[k]; place++) change_place(w, &j, sheet, element[k], slices[k], place);
     const size_t v = vertices(w->width, w->height);
-    const size_t counts[] = {0, 1, w->points + 1, v, v + 1, 65536 + w->points, SIZE_MAX};
+    const size_t counts[] = {0, 1, w->points - 1, w->points + 1, v, v + 1, 65536 + w->points, SIZE_MAX};
     for (size_t k = 0; k < sizeof counts / sizeof counts[0]; k++) {
         if (counts[k] == w->points) continue;
         j.n = counts[k];
@@ -378,6 +339,7 @@ static void worked_floors(void)
     for (size_t k = 0; k < sizeof floors / sizeof floors[0]; k++) {
         plan_worked(&floors[k]);
         check_worked(&floors[k]);
+        check_nonsense(&floors[k]);
         thin_worked(&floors[k]);
     }
     const worked *h = &floors[7];
@@ -395,6 +357,13 @@ static void expect_unit_steps(const char *where, const lent *s, int width, int h
         }
 }
 
+static void expect_zero_count(const char *where, const planned *p, int slice, size_t wanted)
+{
+    size_t zeros = 0, places = p->slice[slice].size / element[slice];
+    for (size_t place = 0; place < places; place++) zeros += number_at(p->slice[slice].p, element[slice], place) == 0;
+    expect(where, slice_name[slice], zeros, wanted);
+}
+
 static void floor_j(void)
 {
     static const uint8_t map[34 * 34];
@@ -406,6 +375,10 @@ static void floor_j(void)
     expect("floor j, 33 by 34", "points", p.result.points, 68);
     expect_unit_steps("floor j, 33 by 34", &p.slice[D], 33, 34, 0, 0);
     expect_unit_steps("floor j, 33 by 34", &p.slice[E], 33, 34, 33, 34);
+    /* Every vertex is on the way, and of 1190 places the route fills 68, the first with vertex 0. */
+    expect_zero_count("zeros of floor j, 33 by 34", &p, F, 0);
+    expect_zero_count("zeros of floor j, 33 by 34", &p, BACK, 0);
+    expect_zero_count("zeros of floor j, 33 by 34", &p, ROUTE, 1190 - 67);
     const void *const sheet[5] = {p.slice[D].p, p.slice[E].p, p.slice[F].p, p.slice[BACK].p, p.slice[ROUTE].p};
     fits.n = 68;
     expect_answer("floor j, 33 by 34", check("floor j, 33 by 34", &fits, sheet), 0);
@@ -437,6 +410,10 @@ static void floor_k(void)
     expect("floor k", "the second vertex", route[1], 1);
     expect_unit_steps("floor k", &p.slice[D], 127, 127, 0, 0);
     expect_unit_steps("floor k", &p.slice[E], 127, 127, 1, 0);
+    /* Only vertices 0 and 1 are on the way, though far ones have more than 2^64 cheapest walks from 0. */
+    expect_zero_count("zeros of floor k", &p, F, 16384 - 2);
+    expect_zero_count("zeros of floor k", &p, BACK, 16384 - 2);
+    expect_zero_count("zeros of floor k", &p, ROUTE, 16384 - 1);
     const void *const sheet[5] = {p.slice[D].p, p.slice[E].p, p.slice[F].p, p.slice[BACK].p, p.slice[ROUTE].p};
     j.n = 2;
     expect_answer("floor k", check("floor k", &j, sheet), 0);
@@ -449,7 +426,7 @@ static const worked *const e_floor = &floors[4];
 static const void *const anything[5] = {NULL, NULL, NULL, NULL, NULL};
 
 /* Planner and checker refuse the job alike. */
-static void expect_refused(const char *where, const job *j, unsigned wanted)
+static void expect_refused(const char *where, const job *j, uint8_t wanted)
 {
     expect_plan(where, j, wanted);
     expect_answer(where, check(where, j, anything), wanted);
@@ -534,7 +511,7 @@ static void limits_of_slices(void)
 }
 
 /* Of two faults the one with the lower number is answered. */
-static void spoil(job *j, unsigned fault)
+static void spoil(job *j, uint8_t fault)
 {
     static const uint8_t bad_byte[3] = {0, 2, 0};
     if (fault == 1) j->height = 128;
@@ -548,8 +525,8 @@ static void spoil(job *j, unsigned fault)
 static void order_of_refusals(void)
 {
     static const uint8_t open[3];
-    for (unsigned first = 1; first <= 6; first++)
-        for (unsigned second = first; second <= 6; second++) {
+    for (uint8_t first = 1; first <= 6; first++)
+        for (uint8_t second = first; second <= 6; second++) {
             job j = make_job(2, 1, open, 8, 0, 5);
             spoil(&j, second);
             spoil(&j, first);
@@ -567,6 +544,46 @@ static void order_of_refusals(void)
 }
 
 /* ---- The thinning. ---- */
+
+/* Lists on small floors, with the kept positions by the rule. The vertices of the 2 by 2 floor are 0 1 2, 3 4 5 and
+ * 6 7 8 by rows; its cell (0, 0) is blocked. */
+typedef struct {
+    const char *name;
+    uint32_t side;
+    uint8_t map[4];
+    size_t places, n;
+    uint16_t list[7];
+    size_t kept;
+    uint16_t positions[7];
+} thinned;
+
+static const thinned lists[] = {
+    /* 6 sees 3 and 4, not 1, since that segment enters the blocked cell: position 2 is kept. From there, vertex 4, all
+     * that follow are seen. A thinner that thins the first leg and copies the rest would keep 3, 4 and 5 too. */
+    {"round a corner", 2, {1}, 7, 7, {6, 3, 4, 1, 2, 5, 8}, 3, {0, 2, 6}},
+    /* 3 sees 4, not 1: position 1 is kept, though position 3, which is vertex 4 again, is seen. A thinner that takes
+     * the farthest position seen would keep 0 and 3. */
+    {"back again", 2, {1}, 4, 4, {3, 4, 1, 4}, 3, {0, 1, 3}},
+    {"repeated vertices", 1, {0}, 4, 4, {0, 0, 3, 3}, 2, {0, 3}},
+    /* A vertex sees itself, between walls too. */
+    {"one vertex twice", 1, {1}, 2, 2, {0, 0}, 2, {0, 1}},
+    {"the first of two", 1, {0}, 2, 1, {3, 0}, 1, {0}},
+    {"V past n", 1, {0}, 2, 1, {0, 4}, 1, {0}},
+};
+
+static void thinned_lists(void)
+{
+    for (size_t k = 0; k < sizeof lists / sizeof lists[0]; k++) {
+        const thinned *l = &lists[k];
+        const trail t = {l->side, l->side, l->map, (size_t)l->side * l->side, l->list, l->places, l->places, l->n};
+        uint16_t kept[7];
+        lurfanzi_thin_result r = thin(l->name, &t, kept);
+        expect_answer(l->name, r.answer, 0);
+        expect(l->name, "kept", r.kept, l->kept);
+        if (r.answer == 0 && memcmp(kept, l->positions, l->places * sizeof kept[0]) != 0)
+            fail(l->name, "the output", "is not the worked one");
+    }
+}
 
 static void limits_of_thinning(void)
 {
@@ -587,7 +604,7 @@ static void limits_of_thinning(void)
         expect("an open floor", "kept", r.kept, t.n == 1 ? 1 : 2);
         expect("an open floor", "the first position", kept[0], 0);
         expect("an open floor", "the second position", kept[1], t.n - 1);
-        for (size_t place = 2; place < 7; place++) expect("an open floor", "a place past the kept ones", kept[place], 0);
+        for (size_t place = 2; place < 7; place++) expect("an open floor", "a place past the kept", kept[place], 0);
     }
     /* The slice that is used whole, with n = V places. */
     const uint16_t whole[6] = {0, 1, 2, 5, 4, 3};
@@ -606,6 +623,8 @@ static void limits_of_thinning(void)
     const uint16_t apart[2] = {0, 5};
     t = (trail){2, 1, wall, 2, apart, 2, 2, 2};
     expect_thin("two that do not see each other", &t, LURFANZI_NOT_JOINED);
+    t = (trail){2, 1, open, 2, NULL, 0, 0, 1};
+    expect_thin("an empty list, with n = 1", &t, LURFANZI_NOT_JOINED);
 
     const uint32_t sizes[] = {0, 128, 257, 258, 4294967295u};
     for (size_t k = 0; k < sizeof sizes / sizeof sizes[0]; k++) {
@@ -623,8 +642,13 @@ static void limits_of_thinning(void)
         t = good, t.out_length = outputs[k];
         expect_thin("an output of another length", &t, LURFANZI_BAD_SLICE_LENGTH);
     }
+    static uint16_t longest[16384];
     t = (trail){2, 1, open, 2, zeros, 16384, 16384, 16384};
-    expect_thin("the longest list", &t, 0);
+    lurfanzi_thin_result r = thin("the longest list", &t, longest);
+    expect_answer("the longest list", r.answer, 0);
+    expect("the longest list", "kept", r.kept, 2);
+    for (size_t place = 0; place < 16384; place++)
+        expect("the longest list", "a place", longest[place], place == 1 ? 16383 : 0);
     t = (trail){2, 1, open, 2, zeros, 16385, 16385, 1};
     expect_thin("a list that is too long", &t, LURFANZI_BAD_SLICE_LENGTH);
     t = (trail){2, 1, open, 2, NULL, 0, 0, 0};
@@ -635,7 +659,7 @@ static void limits_of_thinning(void)
     expect_thin("nothing at all", &t, LURFANZI_BAD_SIZE);
 }
 
-static void spoil_trail(trail *t, unsigned fault)
+static void spoil_trail(trail *t, uint8_t fault)
 {
     static const uint8_t bad_byte[3] = {0, 2, 0};
     if (fault == 1) t->width = 0;
@@ -649,7 +673,7 @@ static void order_of_thinning_refusals(void)
 {
     static const uint8_t open[3];
     static const uint16_t list[4] = {0, 1, 5};
-    const unsigned faults[] = {1, 2, 3, 6, 10};
+    const uint8_t faults[] = {1, 2, 3, 6, 10};
     for (size_t first = 0; first < 5; first++)
         for (size_t second = first; second < 5; second++) {
             trail t = {2, 1, open, 2, list, 4, 4, 3};
@@ -668,14 +692,9 @@ int main(void)
     limits_of_numbers();
     limits_of_slices();
     order_of_refusals();
+    thinned_lists();
     limits_of_thinning();
     order_of_thinning_refusals();
-    for (int answer = 0; answer <= 10; answer++)
-        if (provoked[answer] == 0) {
-            printf("answer %d was never given\n", answer);
-            failures++;
-        }
-    if (failures != 0) printf("c: interface: %d failed\n", failures);
-    else printf("c: interface as expected\n");
-    return failures != 0;
+    const uint8_t answers[] = {0, 1, 2, 3, 4, 5, 6, 7, 8, 9, 10};
+    return finish("interface", answers, sizeof answers);
 }

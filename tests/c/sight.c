@@ -1,101 +1,161 @@
-/* The sight question from C. The expected answers are read off the rules: floors g, i and l are worked there by hand. */
-#include <stdio.h>
-#include <string.h>
+/* The sight question and what is in the way, from C, with the map between guard bytes. The expected answers are read
+ * off the rules: floors f, g, i and l are worked there by hand.
+ */
+#include "lent.h"
 #include "lurfanzi.h"
 
-static int failures = 0;
+_Static_assert(sizeof(lurfanzi_obstacle_result) == 8, "size of the result");
+_Static_assert(offsetof(lurfanzi_obstacle_result, place) == 0, "place of place");
+_Static_assert(offsetof(lurfanzi_obstacle_result, answer) == 4, "place of answer");
+_Static_assert(LURFANZI_SIGHT_YES == 0 && LURFANZI_SIGHT_NO == 100, "answers of the sight question");
+_Static_assert(LURFANZI_BLOCKED_CELL == 101 && LURFANZI_SHUT_STEP == 102, "what is in the way");
 
-static void expect(const char *what, unsigned answer, unsigned wanted)
+/* What is in the way is `answer` with `place`; the sight question then answers yes where that is 0, and no where it is
+ * a cell or a step, and gives the same refusals. */
+static void expect_obstacle(
+    const char *where, uint32_t w, uint32_t h, const uint8_t *map, size_t length, uint32_t a, uint32_t b,
+    uint8_t answer, uint32_t place)
 {
-    if (answer != wanted) {
-        printf("%s: answered %u, not %u\n", what, answer, wanted);
-        failures++;
-    }
+    lent m = lend_copy(map, length);
+    before_call(&m);
+    lurfanzi_obstacle_result r = lurfanzi_obstacle(w, h, m.p, length, a, b);
+    expect_answer(where, r.answer, answer);
+    expect(where, "the place", r.place, place);
+    uint8_t sight = answer >= LURFANZI_BLOCKED_CELL ? LURFANZI_SIGHT_NO : answer;
+    expect_answer(where, lurfanzi_sight(w, h, m.p, length, a, b), sight);
+    expect_read_only(where, "the map", &m);
+    give_back(&m);
 }
 
-/* The answer; a failure where the question wrote to the map. */
-static unsigned ask(uint32_t w, uint32_t h, const uint8_t *map, size_t length, uint32_t a, uint32_t b)
+static void expect_clear(const char *where, uint32_t w, uint32_t h, const uint8_t *map, uint32_t a, uint32_t b)
 {
-    uint8_t before[127 * 127 + 1];
-    if (length != 0) memcpy(before, map, length);
-    unsigned answer = lurfanzi_sight(w, h, map, length, a, b);
-    if (length != 0 && memcmp(before, map, length) != 0) {
-        printf("the map was written to\n");
-        failures++;
-    }
-    return answer;
+    expect_obstacle(where, w, h, map, (size_t)w * h, a, b, LURFANZI_SIGHT_YES, 0);
+    expect_obstacle(where, w, h, map, (size_t)w * h, b, a, LURFANZI_SIGHT_YES, 0);
+}
+
+static void expect_cells(
+    const char *where, uint32_t w, uint32_t h, const uint8_t *map, uint32_t a, uint32_t b,
+    uint32_t from_a, uint32_t from_b)
+{
+    expect_obstacle(where, w, h, map, (size_t)w * h, a, b, LURFANZI_BLOCKED_CELL, from_a);
+    expect_obstacle(where, w, h, map, (size_t)w * h, b, a, LURFANZI_BLOCKED_CELL, from_b);
+}
+
+static void expect_steps(
+    const char *where, uint32_t w, uint32_t h, const uint8_t *map, uint32_t a, uint32_t b,
+    uint32_t from_a, uint32_t from_b)
+{
+    expect_obstacle(where, w, h, map, (size_t)w * h, a, b, LURFANZI_SHUT_STEP, from_a);
+    expect_obstacle(where, w, h, map, (size_t)w * h, b, a, LURFANZI_SHUT_STEP, from_b);
+}
+
+static void expect_refused(
+    const char *where, uint32_t w, uint32_t h, const uint8_t *map, size_t length, uint32_t a, uint32_t b,
+    uint8_t refusal)
+{
+    expect_obstacle(where, w, h, map, length, a, b, refusal, 0);
 }
 
 /* Floor i: 3 by 2, from (0,0) to (3,2) exactly the cells (0,0), (1,0), (1,1), (2,1) are entered. */
 static void floor_i(void)
 {
     const int entered[6] = {1, 1, 0, 0, 1, 1};
-    uint8_t map[6];
-    for (int cell = 0; cell < 6; cell++) {
-        memset(map, 0, sizeof map);
+    uint8_t map[6] = {0};
+    expect_clear("floor i, open", 3, 2, map, 0, 11);
+    for (uint32_t cell = 0; cell < 6; cell++) {
         map[cell] = 1;
-        unsigned wanted = entered[cell] ? LURFANZI_SIGHT_NO : LURFANZI_SIGHT_YES;
-        expect("floor i", ask(3, 2, map, 6, 0, 11), wanted);
-        expect("floor i, ends swapped", ask(3, 2, map, 6, 11, 0), wanted);
+        if (entered[cell]) expect_cells("floor i, one cell", 3, 2, map, 0, 11, cell, cell);
+        else expect_clear("floor i, a cell beside the segment", 3, 2, map, 0, 11);
+        map[cell] = 0;
     }
-    memset(map, 0, sizeof map);
-    expect("floor i, open", ask(3, 2, map, 6, 0, 11), LURFANZI_SIGHT_YES);
+    /* Cells 1 and 5: the first is nearer to (0,0) in columns, the second to (3,2). */
+    const uint8_t apart[6] = {0, 1, 0, 0, 0, 1};
+    expect_cells("floor i, two columns", 3, 2, apart, 0, 11, 1, 5);
+    /* Cells 1 and 4 stand in one column: the nearer in rows is named. */
+    const uint8_t column[6] = {0, 1, 0, 0, 1, 0};
+    expect_cells("floor i, one column", 3, 2, column, 0, 11, 1, 4);
+    const uint8_t all[6] = {1, 1, 1, 1, 1, 1};
+    expect_cells("floor i, blocked", 3, 2, all, 0, 11, 0, 5);
 }
 
-/* Floor g: 2 by 2 with cells 0 and 3 blocked. Passing between two cells that touch at a corner is allowed, entering is not. */
+/* The same floor upright and mirrored: 2 by 3, from (2,0) to (0,3). The cells entered are (1,0), (1,1), (0,1), (0,2),
+ * which have numbers 1, 3, 2 and 4. */
+static void mirrored(void)
+{
+    const uint8_t row[6] = {0, 0, 1, 1, 0, 0};
+    expect_cells("mirrored, two columns of a row", 2, 3, row, 2, 9, 3, 2);
+    const uint8_t column[6] = {0, 1, 0, 1, 0, 0};
+    expect_cells("mirrored, two rows of a column", 2, 3, column, 2, 9, 1, 3);
+    const uint8_t beside[6] = {1, 0, 0, 0, 0, 1};
+    expect_clear("mirrored, cells beside the segment", 2, 3, beside, 2, 9);
+}
+
+/* Floor g: 2 by 2 with cells 0 and 3 blocked. Passing between two cells that touch at a corner is allowed, entering is
+ * not. */
 static void floor_g(void)
 {
     const uint8_t map[4] = {1, 0, 0, 1};
-    expect("floor g, between the touching cells", ask(2, 2, map, 4, 2, 6), LURFANZI_SIGHT_YES);
-    expect("floor g, through the blocked cells", ask(2, 2, map, 4, 0, 8), LURFANZI_SIGHT_NO);
-    expect("floor g, to the corner they share", ask(2, 2, map, 4, 2, 4), LURFANZI_SIGHT_YES);
-    expect("floor g, along a blocked border", ask(2, 2, map, 4, 0, 1), LURFANZI_SIGHT_NO);
-    expect("floor g, along an open border", ask(2, 2, map, 4, 1, 2), LURFANZI_SIGHT_YES);
-    expect("floor g, a vertex sees itself", ask(2, 2, map, 4, 0, 0), LURFANZI_SIGHT_YES);
+    expect_clear("floor g, between the touching cells", 2, 2, map, 2, 6);
+    expect_cells("floor g, through the blocked cells", 2, 2, map, 0, 8, 0, 3);
+    expect_clear("floor g, to the corner they share", 2, 2, map, 2, 4);
+    expect_steps("floor g, along a blocked border", 2, 2, map, 0, 1, 0, 1);
+    expect_steps("floor g, along the left border", 2, 2, map, 0, 6, 0, 3);
+    expect_clear("floor g, along an open border", 2, 2, map, 1, 2);
+    expect_clear("floor g, a vertex sees itself", 2, 2, map, 0, 0);
 }
 
-/* Along a grid line between two blocked cells. */
-static void shut_step(void)
+/* Along a grid line between two blocked cells, and along the border of floor f. */
+static void shut_steps(void)
 {
+    const uint8_t f[2] = {0, 1};
+    expect_steps("floor f, along its upper border", 2, 1, f, 0, 2, 1, 2);
     const uint8_t beside[6] = {0, 1, 0, 0, 1, 0};
-    expect("a step between two blocked cells", ask(3, 2, beside, 6, 4, 7), LURFANZI_SIGHT_NO);
+    expect_steps("a step between two blocked cells", 3, 2, beside, 4, 7, 5, 6);
     const uint8_t one[6] = {0, 1, 0, 0, 0, 0};
-    expect("a step beside one blocked cell", ask(3, 2, one, 6, 4, 7), LURFANZI_SIGHT_YES);
+    expect_clear("a step beside one blocked cell", 3, 2, one, 4, 7);
+    /* Column line 1 of 2 by 4, with two steps shut: from the top the one from row 1 to 2, from below from 4 to 3. */
+    const uint8_t upright[8] = {0, 0, 1, 1, 0, 0, 1, 1};
+    expect_steps("two shut steps of a column line", 2, 4, upright, 1, 13, 4, 13);
 }
 
-/* Floor l: sizes, map lengths and ends at their limits; numbers that would pass if they were cut down to 8 or 16 bits. */
+/* Floor l: sizes, map lengths and ends at their limits; numbers that would pass if cut down to 8 or 16 bits. */
 static void floor_l(void)
 {
     static uint8_t map[127 * 127 + 1];
     const uint8_t cell[1] = {0};
     const uint32_t sizes[] = {0, 128, 257, 65537, 4294967295u};
     for (size_t k = 0; k < sizeof sizes / sizeof sizes[0]; k++) {
-        expect("a bad width", ask(sizes[k], 1, cell, 1, 0, 0), LURFANZI_BAD_SIZE);
-        expect("a bad height", ask(1, sizes[k], cell, 1, 0, 0), LURFANZI_BAD_SIZE);
+        expect_refused("a bad width", sizes[k], 1, cell, 1, 0, 0, LURFANZI_BAD_SIZE);
+        expect_refused("a bad height", 1, sizes[k], cell, 1, 0, 0, LURFANZI_BAD_SIZE);
     }
-    expect("a null map on a bad size", ask(0, 0, NULL, 0, 0, 0), LURFANZI_BAD_SIZE);
-    expect("a null map of length 0", ask(1, 1, NULL, 0, 0, 0), LURFANZI_BAD_MAP_LENGTH);
-    expect("the largest floor", ask(127, 127, map, 127 * 127, 0, 16383), LURFANZI_SIGHT_YES);
-    expect("one byte short", ask(127, 127, map, 127 * 127 - 1, 0, 16383), LURFANZI_BAD_MAP_LENGTH);
-    expect("one byte more", ask(127, 127, map, 127 * 127 + 1, 0, 16383), LURFANZI_BAD_MAP_LENGTH);
+    expect_refused("a null map on a bad size", 0, 0, NULL, 0, 0, 0, LURFANZI_BAD_SIZE);
+    expect_refused("a null map of length 0", 1, 1, NULL, 0, 0, 0, LURFANZI_BAD_MAP_LENGTH);
+    expect_clear("the largest floor", 127, 127, map, 0, 16383);
+    expect_refused("one byte short", 127, 127, map, 127 * 127 - 1, 0, 16383, LURFANZI_BAD_MAP_LENGTH);
+    expect_refused("one byte more", 127, 127, map, 127 * 127 + 1, 0, 16383, LURFANZI_BAD_MAP_LENGTH);
     map[127 * 127 - 1] = 2;
-    expect("a byte above 1", ask(127, 127, map, 127 * 127, 0, 16384), LURFANZI_BAD_MAP_BYTE);
+    expect_refused("a byte above 1", 127, 127, map, 127 * 127, 0, 16384, LURFANZI_BAD_MAP_BYTE);
+    map[127 * 127 - 1] = 1;
+    expect_cells("the last cell of the largest floor", 127, 127, map, 0, 16383, 16128, 16128);
+    expect_steps("the last step of the largest floor", 127, 127, map, 127, 16383, 16255, 16383);
     map[127 * 127 - 1] = 0;
     const uint32_t ends[] = {16384, 65536, 65536 + 5, 4294967295u};
     for (size_t k = 0; k < sizeof ends / sizeof ends[0]; k++) {
-        expect("a bad first end", ask(127, 127, map, 127 * 127, ends[k], 0), LURFANZI_BAD_END);
-        expect("a bad second end", ask(127, 127, map, 127 * 127, 0, ends[k]), LURFANZI_BAD_END);
+        expect_refused("a bad first end", 127, 127, map, 127 * 127, ends[k], 0, LURFANZI_BAD_END);
+        expect_refused("a bad second end", 127, 127, map, 127 * 127, 0, ends[k], LURFANZI_BAD_END);
     }
-    expect("the last vertex of 1 by 1", ask(1, 1, cell, 1, 3, 0), LURFANZI_SIGHT_YES);
-    expect("V of 1 by 1", ask(1, 1, cell, 1, 4, 0), LURFANZI_BAD_END);
+    expect_clear("the last vertex of 1 by 1", 1, 1, cell, 3, 0);
+    expect_refused("V of 1 by 1", 1, 1, cell, 1, 4, 0, LURFANZI_BAD_END);
 }
 
 int main(void)
 {
+    setbuf(stdout, NULL); /* so that a crash loses no line */
     floor_i();
+    mirrored();
     floor_g();
-    shut_step();
+    shut_steps();
     floor_l();
-    printf(failures == 0 ? "c: sight as expected\n" : "c: %d failed\n", failures);
-    return failures != 0;
+    const uint8_t answers[] = {0, 1, 2, 3, 5, LURFANZI_SIGHT_NO, LURFANZI_BLOCKED_CELL, LURFANZI_SHUT_STEP};
+    return finish("sight", answers, sizeof answers);
 }

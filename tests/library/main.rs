@@ -1,5 +1,6 @@
-//! Runs a job stream (tests/reference/FORMAT.md) through the static library, by the wrapper of examples/rust, and writes
-//! the line that each record asks for. It works nothing out: an answer is that of a call, a digest that of a lent slice.
+//! Runs a job stream (tests/reference/FORMAT.md) through the static library, by the wrapper of examples/rust, and
+//! writes the line that each record asks for. It works nothing out: an answer is that of a call, a digest that of a
+//! lent slice.
 
 #[allow(dead_code)]
 #[path = "../../examples/rust/lurfanzi.rs"]

@@ -18,7 +18,10 @@ pub struct Rectangle {
 
 impl Rectangle {
     pub fn has(&self, i: u64, j: u64) -> bool {
-        let along = |at: u64, first: u32, length: u32| (first.into()..u64::from(first) + u64::from(length)).contains(&at);
+        let along = |at: u64, first: u32, length: u32| {
+            let first = u64::from(first);
+            (first..first + u64::from(length)).contains(&at)
+        };
         along(i, self.column, self.columns) && along(j, self.row, self.rows)
     }
 
