@@ -48,7 +48,7 @@ pub fn run() -> bool {
     source_003(&mut tally);
     programs(&mut tally);
     self_checks::run(&mut tally);
-    println!("{} passed, {} failed", tally.passed, tally.failed);
+    println!("reference: {} answers hold, {} do not", tally.passed, tally.failed);
     tally.failed == 0
 }
 
