@@ -99,6 +99,7 @@ static void floor_g(void)
     expect_cells("floor g, through the blocked cells", 2, 2, map, 0, 8, 0, 3);
     expect_clear("floor g, to the corner they share", 2, 2, map, 2, 4);
     expect_steps("floor g, along a blocked border", 2, 2, map, 0, 1, 0, 1);
+    expect_steps("floor g, down a blocked border", 2, 2, map, 0, 3, 0, 3);
     expect_steps("floor g, along the left border", 2, 2, map, 0, 6, 0, 3);
     expect_clear("floor g, along an open border", 2, 2, map, 1, 2);
     expect_clear("floor g, a vertex sees itself", 2, 2, map, 0, 0);

@@ -297,11 +297,13 @@ impl Driver {
     fn working(&mut self, record: &Record) -> String {
         let table = self.closures();
         let base = if record.word(2) == 1 { &record.payload } else { &self.ground.map };
-        let map = patterned(&mut self.working, record.length(0), record.word(1));
+        let room = self.working.len();
+        let map = &mut patterned(&mut self.working, room, record.word(1))[..record.length(0)];
         let written = table.working_map(base, map);
-        let digests = (digest(&table.slots), digest(base), digest(map));
+        let drawn = map.to_vec();
+        let digests = (digest(&table.slots), digest(base), digest(&self.working));
         if written.is_ok() && record.word(3) == 1 {
-            self.ground.map = map.to_vec();
+            self.ground.map = drawn;
         }
         format!("working {} {} {} {}", answer(written), digests.0, digests.1, digests.2)
     }

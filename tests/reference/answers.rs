@@ -255,24 +255,19 @@ impl Runner {
 
     fn working(&mut self, record: &Record) -> String {
         let at = &mut self.buffers;
+        fill8(&mut at.working, record.words[1]);
         let working = &mut at.working[..record.word(0)];
-        fill8(working, record.words[1]);
         let mut base = self.solver.floor.clone();
         if record.words[2] == 1 {
             base.cells.clone_from(&record.payload);
         }
         let written = at.table.working_map(&base, working);
-        let answer = written.err().unwrap_or(0);
-        let line = format!(
-            "working {answer} {} {} {}",
-            digest32(&at.table.numbers),
-            digest8(&base.cells),
-            digest8(working)
-        );
-        if answer == 0 && record.words[3] == 1 {
-            self.solver = Solver::new(Floor { cells: working.to_vec(), ..base });
+        let cells = working.to_vec();
+        let digests = (digest32(&at.table.numbers), digest8(&base.cells), digest8(&at.working));
+        if written.is_ok() && record.words[3] == 1 {
+            self.solver = Solver::new(Floor { cells, ..base });
         }
-        line
+        format!("working {} {} {} {}", written.err().unwrap_or(0), digests.0, digests.1, digests.2)
     }
 }
 

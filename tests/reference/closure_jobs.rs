@@ -2,7 +2,7 @@
 //! tables that hold any numbers.
 
 use crate::closures::{Rectangle, Table, NUMBERS, SLOTS};
-use crate::floor::Floor;
+use crate::floor::{self, Floor};
 use crate::format;
 use crate::jobs::Maker;
 use crate::sheet::Solver;
@@ -60,7 +60,7 @@ impl Maker {
     /// On the floor, empty, leaving it by one, or with numbers whose sum passes 32 bits.
     fn any_rectangle(&mut self) -> Rectangle {
         let (width, height) = self.sides();
-        if !(1..=127).contains(&width) || !(1..=127).contains(&height) {
+        if !floor::sides_are_good(width.into(), height.into()) {
             return self.inner_rectangle(3, 3);
         }
         let inner = self.inner_rectangle(width, height);
@@ -216,9 +216,10 @@ impl Maker {
     pub fn closures_on_bad_floor(&mut self) {
         let pairs = self.small_pairs();
         self.pairs_record(format::OBSTACLE, &pairs);
-        let (floor, filled) = (&self.solver.floor, Table::empty());
-        let (length, cells) = (floor.cells.len(), floor.width.saturating_mul(floor.height).min(16_129) as usize);
-        self.table_record(filled);
+        let floor = &self.solver.floor;
+        let length = floor.cells.len();
+        let cells = floor.width.saturating_mul(floor.height).min(format::MAP_ROOM as u64) as usize;
+        self.table_record(Table::empty());
         self.any_calls(4);
         self.working_record(Base::Floor, length, true);
         let filled = self.any_table();
