@@ -198,6 +198,11 @@ static const worked floors[] = {
     {"floor h", 2, 2, {0, 0, 0, 0}, 4, 0, 8, 0, 1632, 6, {0, 408, 816, 408, 816, 1224, 816, 1224, 1632},
      {1632, 1224, 816, 1224, 816, 408, 816, 408, 0}, {1, 1, 1, 1, 2, 3, 1, 3, 6}, {6, 3, 1, 3, 2, 1, 1, 1, 1},
      5, {0, 1, 4, 5, 8}, 2, {0, 4}},
+    /* Not of the rules' letters: walked by f alone, the route would go from 1 to 5, where f is 2, and not to 2, where
+     * it is 1; the traversal counts are 2 at both. */
+    {"three cells in a row", 3, 1, {0, 0, 0}, 4, 0, 7, 0, 1632, 4, {0, 408, 816, 1224, 408, 816, 1224, 1632},
+     {1632, 1224, 816, 408, 1224, 816, 408, 0}, {1, 1, 1, 1, 1, 2, 3, 4}, {4, 3, 2, 1, 1, 1, 1, 1},
+     5, {0, 1, 2, 6, 7}, 2, {0, 4}},
 };
 
 static job job_of(const worked *w)
