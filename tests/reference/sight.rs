@@ -117,23 +117,24 @@ fn nearest_cell(floor: &Floor, from: Point, to: Point) -> Obstacle {
     entered.min_by_key(far).map_or(Obstacle::Clear, |(i, j)| Obstacle::Cell(j as u64 * floor.width + i as u64))
 }
 
-/// Walks from the first end, vertex by vertex, to the first step that is shut.
-fn first_step(floor: &Floor, from: Point, to: Point) -> Obstacle {
+/// Of all vertices where a shut step of the segment begins, the one nearest to the
+/// first end.
+fn nearest_step(floor: &Floor, from: Point, to: Point) -> Obstacle {
     let (dx, dy) = ((to.0 - from.0).signum(), (to.1 - from.1).signum());
-    let mut at = from;
-    while at != to {
-        let next = (at.0 + dx, at.1 + dy);
-        if !sees(floor, at, next) {
-            return Obstacle::Step(floor.vertex(at.0, at.1).expect("between two vertices") as u64);
-        }
-        at = next;
-    }
-    Obstacle::Clear
+    let between = |at: i64, a: i64, b: i64| a.min(b) <= at && at <= a.max(b);
+    let begins = |&v: &usize| {
+        let (x, y) = floor.point(v);
+        let on_segment = between(x, from.0, to.0) && between(y, from.1, to.1) && (x, y) != to;
+        on_segment && !sees(floor, (x, y), (x + dx, y + dy))
+    };
+    let far = |&v: &usize| (floor.point(v).0 - from.0).abs() + (floor.point(v).1 - from.1).abs();
+    let nearest = (0..floor.vertex_count()).filter(begins).min_by_key(far);
+    nearest.map_or(Obstacle::Clear, |v| Obstacle::Step(v as u64))
 }
 
 /// What is in the way between two points of a floor of good shape.
 pub fn obstacle(floor: &Floor, from: Point, to: Point) -> Obstacle {
-    if from.0 == to.0 || from.1 == to.1 { first_step(floor, from, to) } else { nearest_cell(floor, from, to) }
+    if from.0 == to.0 || from.1 == to.1 { nearest_step(floor, from, to) } else { nearest_cell(floor, from, to) }
 }
 
 /// What is in the way between two vertices, or a refusal 1, 2, 3 or 5.
