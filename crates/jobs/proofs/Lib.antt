@@ -5,4 +5,3 @@ pub mod Telling
 pub mod Program
 pub mod Turns
 pub mod Cells
-pub mod Example

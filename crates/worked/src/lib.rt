@@ -1,2 +1,2 @@
 // The floors that document 01 works by hand, as one proved table: specs/Floors.antt has the numbers and the statement,
-// proofs/Worked.antt the proof. There is no code here.
+// proofs/Worked.antt the proof. proofs/Example.antt has the whole example of the program. There is no code here.

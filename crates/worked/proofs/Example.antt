@@ -1,5 +1,5 @@
--- Document 01's whole example: what the definition of the program's text comes to for its input. Its floor is one of
--- the worked floors, whose costs, counts and kept positions are proved there.
+-- Document 01's whole example: what the definition of the program's text comes to for its input. Its floor is floor b,
+-- whose costs, counts and kept positions `worked` has.
 --
 --   case-text  == the lines of a job whose true route sheet is known
 --   example    == the text of the example
@@ -13,14 +13,14 @@ use Rattle.paths.specs.Route.{centralRoute}
 use Rattle.paths.specs.Sheet.{Sheet, routeSheet}
 use Rattle.planner.specs.Plan.{routeAnswer}
 use Rattle.planner.specs.declared.Planned.the-variants.{Found}
-use Rattle.worked.specs.Floors.{Case, planOf, graphOf, floorB, RouteHolds}
-use Rattle.worked.proofs.Worked.{worked}
 use Rattle.records.specs.Lines.{ascii, routeLine, atLine, keptOf}
 use Rattle.records.specs.declared.stream.JobRecord.{JobRecord}
 use Rattle.records.proofs.Example.{input, example-read, example-lines}
 use Rattle.jobs.specs.Text.{routeText, answerText, answerOf, pointsOf, jobText}
 use Rattle.jobs.specs.Text.{jobsText, restText, floorText, programText}
 use Rattle.jobs.proofs.Central.{route-padded}
+use Rattle.worked.specs.Floors.{Case, planOf, graphOf, floorB, RouteHolds}
+use Rattle.worked.proofs.Worked.{worked}
 
 -- Job n of a case.
 abbrev caseJob : ℕ → Case → JobRecord
