@@ -1,11 +1,11 @@
 -- What the C interface answers fits its numbers: the place of what is in the way is a cell or a vertex of the floor,
 -- and the slot of post is one of the sixteen.
-use Prim.Native.Nat.{ℕ, suc, _*_, _≤_, _<_}
-use mathlib.Core.Path.{_≡_, refl, sym, _∙_}
+use Prim.Native.Nat.{ℕ, _≤_, _<_}
+use mathlib.Core.Path.{_≡_, refl}
 use mathlib.Core.Logic.{⊎-elim}
 use mathlib.Core.List.{List}
 use native.Mathlib.Omega.{arith}
-use Rattle.floor.specs.Floor.{Sized, floorOf, vertices, number, column, row}
+use Rattle.floor.specs.Floor.{floorOf, vertices, column, row}
 use Rattle.floor.specs.declared.Shape.{Shape}
 use Rattle.floor.specs.declared.Shape.the-variants.{Good, Refused}
 use Rattle.floor.proofs.Numbers.{vertices-le, column-le, row-le, number-lt, cell-lt}
@@ -15,8 +15,7 @@ use Rattle.sight.specs.Question.{orRefused, sightAnswer}
 use Rattle.sight.specs.Travel.{Ends}
 use Rattle.sight.specs.declared.Obstacle.{Obstacle}
 use Rattle.sight.specs.declared.Obstacle.the-variants.{Clear, Cell, Step}
-use Rattle.sight.specs.declared.Sight.{Sight}
-use Rattle.sight.specs.declared.Sight.the-variants.{Answered, Unasked}
+use Rattle.sight.specs.declared.Sight.the-variants.{Answered}
 use Rattle.sight.proofs.Travel.{start-le}
 use Rattle.sight.proofs.Named.{cell-named, step-named}
 use Rattle.sight.proofs.Question.{Asked, question, asked}

@@ -5,7 +5,7 @@
 --   stored-past                == past the sixteen slots nothing is held
 --   stored-free, stored-held   == what the test of a slot's columns says
 use Prim.Native.Nat.{ℕ, _+_, _*_, _≤_, _<_}
-use mathlib.Core.Path.{_≡_, refl, sym, ap, _∙_}
+use mathlib.Core.Path.{_≡_, ap, _∙_}
 use mathlib.Core.Logic.{⊎-elim, _≢_}
 use mathlib.Core.List.{List}
 use mathlib.Core.Option.{none, some}

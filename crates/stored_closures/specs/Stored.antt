@@ -6,7 +6,7 @@
 --   rectangleOf c r m n  == the rectangle with first column c and first row r, of m columns and n rows
 --   rectangleAt l k      == the rectangle that the four numbers of slot k give
 --   holdOf r             == what a slot holds whose four numbers give the rectangle r
---   storedIn l           == the plain map that the numbers l stand for
+--   storedIn l           == the plain map that the numbers l stand for; a slot above 15 holds nothing
 --   withNumbers l k r    == the numbers l, with the four of slot k set to those of the rectangle r
 --   noNumbers            == four times 0
 --   postStored w h l r   == the numbers l once r is posted on a floor of width w and height h; the same at a refusal

@@ -14,7 +14,7 @@ use closures::Slot;
 use closures::Striking;
 use closures::Writing;
 
-// The rectangle with these numbers, which are as wide as a table's, so that no sum of them wraps.
+// The rectangle with these numbers, widened as `closures` takes them.
 fn rectangle(column: u32, row: u32, columns: u32, rows: u32) -> Rectangle
     ensures { λ r. ⌜ r ≡ rectangleOf column row columns rows ⌝ }
 {
