@@ -16,7 +16,7 @@ use Prim.Native.Nat.{ℕ}
 use mathlib.Core.List.{List, [], _∷_, _++_}
 use mathlib.Core.Option.{Option, some, none}
 use lib.ListN.{length}
-use Rattle.floor.specs.Floor.{Floor, floorOf}
+use Rattle.floor.specs.Floor.{Floor, floorOf, storedCells}
 use Rattle.floor.specs.Refusals.{refusalNumber}
 use Rattle.paths.specs.Route.{centralRoute}
 use Rattle.grid.specs.Grid.{floorGraph, jobOf}
@@ -68,7 +68,7 @@ restText w h map t = jobsText w h map (t .jobs) ++ badText (t .bad)
 
 abbrev pub floorText : List ℕ → Option MapRecord → Stream → List ℕ
 floorText s none t = badText (t .bad)
-floorText s (some m) t = restText (m .wide) (m .high) (cellsOf s m) t
+floorText s (some m) t = restText (m .wide) (m .high) (storedCells (cellsOf s m)) t
 
 unfoldable pub programText : List ℕ → List ℕ
 programText s = floorText s (streamOf s .map) (streamOf s)
