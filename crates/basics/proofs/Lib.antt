@@ -6,3 +6,4 @@ pub mod Sums
 pub mod Lists
 pub mod Scan
 pub mod Fill
+pub mod Bits

@@ -16,6 +16,8 @@ use native.Mathlib.Omega.{arith}
 use borrow.Author.Tests.{lt-ltb}
 use mathlib.Core.Option.{Option, none, some}
 use Rattle.basics.specs.Bounded.{pick}
+use Rattle.basics.specs.Bits.{bit, bitsOf}
+use Rattle.basics.proofs.Bits.{bits-at}
 use lib.Bits.{bitOr, or-zero-l}
 use lib.IntN.{ℤ}
 use lib.ListN.{length, set, length-set, getD}
@@ -30,8 +32,7 @@ use Rattle.moves.specs.declared.Step.the-variants.{To, Off}
 use Rattle.moves.specs.Table.{Short}
 use Rattle.moves.proofs.Table.{table-short}
 use Rattle.moves.specs.Steps.{farEndAt, openEndAt, stepOf}
-use Rattle.masks.specs.Masks.{bit, bitsOf, isSome, rowOpen, OpenMask, OpenAt, MasksTo, OpenMasks}
-use Rattle.masks.proofs.Bits.{bits-at}
+use Rattle.masks.specs.Masks.{isSome, rowOpen, OpenMask, OpenAt, MasksTo, OpenMasks}
 
 pub same-offsets : (f : Floor) (m n : Move) (x y : ℕ) → m .dx ≡ n .dx → m .dy ≡ n .dy
     → openEndAt f m x y ≡ openEndAt f n x y

@@ -1,31 +1,20 @@
 -- The mask of a vertex's open moves. Nobody has to believe these: laws in proofs/ tie them to `openEnd`.
 --
---   bit n k                == bit k of n is set
---   bitsOf n p             == the number whose bits below n are those that p has
 --   rowOpen f x y k        == the move of the table's row k is open from (x, y)
 --   OpenMask f x y n       == bit k of n says so, for each row k
 --   OpenAt f v n           == the same from the vertex with number v
 --   MasksTo f n l          == the list l, of V places, has the mask of each vertex before n
 --   OpenMasks f l          == the list l has the mask of each vertex
-use Prim.Native.Nat.{ℕ, zero, suc, _/_, _%_, _^_, _<_}
+use Prim.Native.Nat.{ℕ, _<_}
 use mathlib.Core.Path.{_≡_}
 use mathlib.Core.Bool.{Bool, true, false}
 use mathlib.Core.List.{List}
 use mathlib.Core.Option.{Option, none, some}
-use lib.Bits.{bitOr}
-use lib.Dec.{eqb}
 use lib.ListN.{length, getD}
-use Rattle.basics.specs.Bounded.{pick}
+use Rattle.basics.specs.Bits.{bit}
 use Rattle.floor.specs.Floor.{Floor, vertices, column, row}
 use Rattle.moves.specs.Moves.{moves, rowMove}
 use Rattle.moves.specs.Steps.{openEndAt}
-
-abbrev pub bit : ℕ → ℕ → Bool
-bit n k = eqb (n / 2 ^ k % 2) 1
-
-unfoldable pub bitsOf : ℕ → (ℕ → Bool) → ℕ
-bitsOf zero p = 0
-bitsOf (suc n) p = bitOr (bitsOf n p) (pick (p n) (2 ^ n) 0)
 
 unfoldable pub isSome : Option ℕ → Bool
 isSome none = false

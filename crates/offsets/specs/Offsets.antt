@@ -17,7 +17,7 @@ use Rattle.moves.specs.declared.Move.{Move}
 use Rattle.moves.specs.declared.Offset.{Offset}
 use Rattle.moves.specs.Moves.{moves, rowMove}
 use Rattle.moves.specs.Steps.{up, down}
-use Rattle.masks.specs.Masks.{bit}
+use Rattle.basics.specs.Bits.{bit}
 
 abbrev pub offsetOf : ℕ → Move → Offset
 offsetOf w m = record { up = up (m .dy) * suc w + up (m .dx); down = down (m .dy) * suc w + down (m .dx) }

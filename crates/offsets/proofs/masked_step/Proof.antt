@@ -6,7 +6,7 @@ use native.Mathlib.Omega.{arith}
 use borrow.Author.Tests.{eq-eqb, ne-eqb}
 use Rattle.moves.specs.declared.Step.the-variants.{To}
 use Rattle.moves.specs.Steps.{stepOf}
-use Rattle.masks.specs.Masks.{bit}
+use Rattle.basics.specs.Bits.{bit}
 use borrow.Author.Needs.{needs}
 use Rattle.offsets.proofs.masked_step.Statement.{statement}
 use Rattle.offsets.proofs.masked_step.Tie as tie

@@ -11,9 +11,9 @@ use native.Mathlib.Nat.{div-one, div-div-eq-div-mul, pow-suc, zero-div}
 use borrow.Author.Tests.{eq-eqb, ne-eqb, lt-ltb, le-ltb}
 use lib.Bits.{bitOr, or-shr, or-mod}
 use lib.Dec.{eqb, ltb}
 use Rattle.basics.specs.Bounded.{pick}
 use Rattle.basics.proofs.Order.{le-or-lt, eq-or-ne}
-use Rattle.masks.specs.Masks.{bit, bitsOf}
+use Rattle.basics.specs.Bits.{bit, bitsOf}
 
 -- Digit k of n.
 abbrev digit : ℕ → ℕ → ℕ
@@ -36,7 +36,7 @@ or-small (suc (suc x)) y p q = absurd (omega arith)
 or-small zero (suc (suc y)) p q = absurd (omega arith)
 or-small (suc zero) (suc (suc y)) p q = absurd (omega arith)
 
-bit-or : (a b k : ℕ) → bit (bitOr a b) k ≡ (bit a k || bit b k)
+pub bit-or : (a b k : ℕ) → bit (bitOr a b) k ≡ (bit a k || bit b k)
 bit-or a b k =
     ap (λ x. eqb x 1) (ap (λ (x : ℕ). x % 2) (or-shr a b k) ∙ or-mod (a / 2 ^ k) (b / 2 ^ k) 1)
     ∙ or-small (digit a k) (digit b k) (omega arith) (omega arith)
