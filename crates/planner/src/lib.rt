@@ -2,7 +2,7 @@
 //
 //     plan               the operation of document 01, for every input
 //     plan_job           the same where none of refusals 1 to 5 applies
-//     finish             the same from given costs from the start: answers 0, 7 and 8
+//     finish_job         the same from given costs from the start: answers 0, 7 and 8
 //     finish_over_masks  the same where the working slice has the masks of the open moves
 //     find_route         the same where a walk joins the ends: answers 0 and 8
 //
@@ -189,7 +189,7 @@ fn find_route(
     }
 }
 
-// `finish`, where the working slice has the masks.
+// `finish_job`, where the working slice has the masks.
 fn finish_over_masks(
     w: usize,
     h: usize,
@@ -228,7 +228,7 @@ fn finish_over_masks(
 // Finishes a job of good shape from the costs d from a: answers 0, 7 or 8, and leaves the other slices as document 01
 // says. With `distances::fill_costs` one of the planner's two inner operations, whole by itself: it relies on nothing
 // that stands in the other slices. A whole plan has the masks already and calls `finish_over_masks` instead.
-pub fn finish(
+pub fn finish_job(
     w: usize,
     h: usize,
     map: &[u8],

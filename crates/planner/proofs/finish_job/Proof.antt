@@ -1,9 +1,9 @@
--- `planner::finish` meets its contract: the masks are stored, and then the job is finished over them. Assumes nothing.
+-- `planner::finish_job` meets its contract: the masks are stored, and then the job is finished over them. Assumes nothing.
 use mathlib.Core.Path.{_∙_}
 use Rattle.planner.proofs.Shaped.{finishable-of}
 use borrow.Author.Needs.{needs}
-use Rattle.planner.proofs.finish.Statement.{statement}
-use Rattle.planner.proofs.finish.Tie as tie
+use Rattle.planner.proofs.finish_job.Statement.{statement}
+use Rattle.planner.proofs.finish_job.Tie as tie
 
 -- The two calls, from the return.
 abbrev masked : tie.After-finish-over-masks-arg5 → tie.After-fill-masks
@@ -43,8 +43,8 @@ same-length-5 c =
 returns : tie.Need-returns
 returns c = search needs
 
-pub finish-spec : {M : Type 1} → statement M
-finish-spec =
+pub finish-job-spec : {M : Type 1} → statement M
+finish-job-spec =
     tie.close
     (tie.spec
     fill-masks-requires
