@@ -17,7 +17,7 @@ use Rattle.moves.specs.declared.Rows.{Rows}
 use Rattle.offsets.specs.declared.Class.{Class}
 use Rattle.moves.specs.Moves.{rowsOf, rowAt, moveAt}
 use Rattle.moves.specs.Table.{Listed}
-use Rattle.offsets.specs.Classes.{classAt, classRow, CostClass, Classes, classFor}
+use Rattle.offsets.specs.Classes.{classCount, classAt, classRow, CostClass, Classes, classFor}
 use Rattle.moves.proofs.Table.{listed-found}
 
 -- ---- the test
@@ -35,7 +35,7 @@ abbrev memberTest : Rows → Class → ℕ → Bool
 memberTest r c m = any 4 (λ j. rowTest r c j m)
 
 abbrev coverTest : Rows → List Class → ℕ → Bool
-coverTest r l m = any 2 (λ k. memberTest r (classAt l k) m)
+coverTest r l m = any classCount (λ k. memberTest r (classAt l k) m)
 
 class-true : (r : Rows) (c : Class) → classTest r c ≡ true → CostClass r c
 class-true r c e =
@@ -52,14 +52,14 @@ class-true r c e =
 
 -- The two classes pass.
 record Tested (r : Rows) (l : List Class) : Type 0 where
-  pub each : every 2 (λ k. classTest r (classAt l k)) ≡ true
+  pub each : every classCount (λ k. classTest r (classAt l k)) ≡ true
   pub covers : every (r .count) (coverTest r l) ≡ true
 
 tested : (r : Rows) (l : List Class) → Tested r l → Classes r l
 tested r l t = record {
-  each = λ k h. class-true r (classAt l k) (every-at 2 (λ k. classTest r (classAt l k)) (t .each) k h);
+  each = λ k h. class-true r (classAt l k) (every-at classCount (λ k. classTest r (classAt l k)) (t .each) k h);
   covers = λ m h.
-      let k = any-cases 2 (λ k. memberTest r (classAt l k) m) (every-at (r .count) (coverTest r l) (t .covers) m h) in
+      let k = any-cases classCount (λ k. memberTest r (classAt l k) m) (every-at (r .count) (coverTest r l) (t .covers) m h) in
       let c = classAt l (k .0) in
       let j = any-cases 4 (λ j. rowTest r c j m) (k .2) in
       let u = and-both (eqb (rowAt r m) (classRow c (j .0))) (eqb (moveAt r m .cost) (c .cost)) (j .2) in

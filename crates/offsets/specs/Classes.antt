@@ -1,12 +1,13 @@
 -- A neighbourhood's moves by cost. Nobody has to believe these: the laws of a table are tested by computing.
 --
+--   classCount     == how many classes a neighbourhood has; one of no move stands for a class that it lacks
 --   quarter        == how many rows of the table, which is in order of angle, make a quarter turn
 --   classOf, classAt == a class by its parts, and class k of a list; cost 0: a class of no move
 --   classRow c j   == row j of class c: a quarter turn after the row before it
 --   Member r c m   == move m of the rows r is one of class c
 --   CostClass r c  == the cost is at most 4,095; where class c has moves, each of its four rows is that of a move of r
 --                     that has its cost
---   Classes r l    == the first two classes of l have every move of the rows r
+--   Classes r l    == the classes of l have every move of the rows r
 --   classFor r m   == the class of move m and its turns, where m is among the first quarter of the moves of r, which
 --                     stand in order of angle; else m is a turn of one of these, and the class has no move
 use Prim.Native.Nat.{ℕ, _+_, _*_, _/_, _≤_, _<_}
@@ -18,6 +19,9 @@ use Rattle.basics.specs.Bounded.{pick}
 use Rattle.moves.specs.declared.Rows.{Rows}
 use Rattle.offsets.specs.declared.Class.{Class}
 use Rattle.moves.specs.Moves.{rowAt, moveAt}
+
+abbrev pub classCount : ℕ
+classCount = 2
 
 abbrev pub quarter : ℕ
 quarter = 2
@@ -40,9 +44,9 @@ pub record CostClass (r : Rows) (c : Class) : Type 0 where
       → (m : ℕ) × (m < r .count) × (rowAt r m ≡ classRow c j) × (moveAt r m .cost ≡ c .cost)
 
 pub record Classes (r : Rows) (l : List Class) : Type 0 where
-  pub each : (k : ℕ) → k < 2 → CostClass r (classAt l k)
+  pub each : (k : ℕ) → k < classCount → CostClass r (classAt l k)
   pub covers : (m : ℕ) → m < r .count
-      → (k : ℕ) × (k < 2) × Member r (classAt l k) m × (moveAt r m .cost ≡ classAt l k .cost)
+      → (k : ℕ) × (k < classCount) × Member r (classAt l k) m × (moveAt r m .cost ≡ classAt l k .cost)
 
 -- ---- the classes, read off the table
 
