@@ -1,9 +1,10 @@
 -- Laws of `pick`, `every`, `any` and `seek`.
-use Prim.Native.Nat.{ℕ, zero, suc, _+_, _≤_, _<_}
+use Prim.Native.Nat.{ℕ, zero, suc, _+_, _*_, _≤_, _<_}
 use mathlib.Core.Path.{_≡_, refl, sym, ap, ap₂, _∙_}
 use mathlib.Core.Logic.{_⊎_, inl, inr, ⊎-elim}
-use mathlib.Core.Bool.{Bool, true, false, _&&_, _||_, true≢false}
+use mathlib.Core.Bool.{Bool, true, false, _&&_, _||_, true≢false, and-true, and-assoc}
 use native.Mathlib.Omega.{arith}
+use native.Mathlib.Nat.{zero-mul, suc-mul}
 use Rattle.basics.specs.Bounded.{pick, every, any, seek}
 use Rattle.basics.proofs.Order.{le-or-lt, eq-or-ne}
 use Rattle.basics.proofs.Bools.{and-intro, and-left, and-right, or-left, or-right, or-cases}
@@ -39,6 +40,23 @@ pub every-cong : (n : ℕ) (p q : ℕ → Bool) → ((k : ℕ) → k < n → p k
 unfolding every
 every-cong zero p q h = refl
 every-cong (suc n) p q h = ap₂ _&&_ (every-cong n p q (λ k l. h k (omega arith))) (h n (omega arith))
+
+-- A test of every number below m + n, as that of the first m and of the next n.
+every-sum : (m n : ℕ) (p : ℕ → Bool) → every (m + n) p ≡ (every m p && every n (λ k. p (m + k)))
+unfolding every
+every-sum m zero p = let e : m + 0 ≡ m = omega arith in ap (λ n. every n p) e ∙ sym (and-true (every m p))
+every-sum m (suc n) p =
+    let e : m + suc n ≡ suc (m + n) = omega arith in
+    ap (λ n. every n p) e ∙ ap (λ b. b && p (m + n)) (every-sum m n p)
+    ∙ and-assoc (every m p) (every n (λ k. p (m + k))) (p (m + n))
+
+-- A test of every number below h * w, as w tests in each of h rows.
+pub every-rows : (h w : ℕ) (p : ℕ → Bool) → every (h * w) p ≡ every h (λ y. every w (λ x. p (y * w + x)))
+unfolding every
+every-rows zero w p = ap (λ n. every n p) (zero-mul w)
+every-rows (suc h) w p =
+    ap (λ n. every n p) (suc-mul h w) ∙ every-sum (h * w) w p
+    ∙ ap (λ b. b && every w (λ x. p (h * w + x))) (every-rows h w p)
 
 pub any-cases : (n : ℕ) (p : ℕ → Bool) → any n p ≡ true → (k : ℕ) × (k < n) × (p k ≡ true)
 unfolding any

@@ -9,7 +9,7 @@ use Rattle.paths.specs.Graph.{Graph}
 use Rattle.paths.specs.Local.{inflow, countAt}
 use Rattle.paths.proofs.CountTest.{countAt-start, countAt-other, countAt-off}
 use Rattle.neighbours.specs.declared.Sum.the-variants.{Is, Over}
-use Rattle.neighbours.specs.Reach.{sumOf}
+use Rattle.neighbours.specs.Reading.{sumOf}
 use Rattle.neighbours.proofs.Sums.{sumOf-is, sumOf-passes}
 
 module _ (g : Graph) (a : ℕ) (on : Bool) (D F : ℕ → ℕ) (v : ℕ) where

@@ -12,20 +12,20 @@ use mathlib.Core.List.{List}
 use native.Mathlib.Omega.{arith}
 use borrow.Author.Tests.{lt-ltb, le-ltb, eq-eqb, ne-eqb, not-false}
 use lib.Dec.{ltb, eqb}
+use lib.ListN.{length}
 use Rattle.basics.specs.Bounded.{every}
 use Rattle.basics.proofs.Bools.{iff-eq, and-intro, and-left, and-right}
 use Rattle.basics.proofs.Bounded.{every-all, every-at}
-use Rattle.moves.specs.declared.Rows.{Rows}
 use Rattle.paths.specs.Graph.{Graph, Lawful}
 use Rattle.paths.specs.Distance.{unreachable}
 use Rattle.paths.specs.Sheet.{Sheet, sheetOf}
 use Rattle.paths.specs.Local.{rightCost, rightCosts, countAt, rightCounts, entry, localOn, localNumbers}
-use Rattle.paths.specs.Local.{localRoute, blankAt, localNoRoute}
+use Rattle.paths.specs.Local.{Shaped, localRoute, blankAt, localNoRoute}
 use Rattle.paths.proofs.SheetTest.{numbers-true, numbers-fit}
 use Rattle.neighbours.specs.Least.{rightCostIn}
+use Rattle.neighbours.specs.Choice.{Counted}
 use Rattle.neighbours.proofs.Incoming.{costs-in}
 use Rattle.checker.specs.Tests.{countsTest, vertexTest, verticesTest, pointsTest, routeTest, noRouteTest}
-use Rattle.checker.specs.Tests.{Posed, FitCounts}
 use Rattle.checker.proofs.Chains.{fails, holds, fact-fails, fact-holds}
 
 -- ---- one vertex, and every vertex
@@ -193,13 +193,17 @@ module _ (g : Graph) (a b : ℕ) (s : Sheet) where
               fact-holds (lt-ltb _ _ near) (fact-holds (eq-eqb _ _ start)
               (fact-holds (eq-eqb _ _ end) (holds all f q)))
 
-          pub counts-fit : Lawful g → a < g .size → b < g .size → entry (s .f) b < 2 ^ 64 → FitCounts (g .size) (s .f)
-              (s .b)
-          counts-fit L in-a in-b total =
+          pub counts-fit : Lawful g → a < g .size → b < g .size → Shaped (g .size) s → entry (s .f) b < 2 ^ 64
+              → Counted (length (s .d)) (s .f) (s .b)
+          counts-fit L in-a in-b shape total =
               let v = sym all ∙ not-false k f in
               let t = tests-numbers L (lt-ltb _ _ near) (eq-eqb _ _ start) (eq-eqb _ _ end) v in
               let N = numbers-true g L a b in-a in-b s t in
-              record { fit = λ v i. omega (arith, numbers-fit g L a b in-a in-b s N v i) }
+              record {
+                f-len = shape .f ∙ sym (shape .d);
+                b-len = shape .b ∙ sym (shape .d);
+                fit = λ v i. omega (arith, numbers-fit g L a b in-a in-b s N v (omega (arith, shape .d)));
+              }
 
   pub noRoute-reached : (entry (s .d) b ≡ unreachable → ⊥) → false ≡ noRouteTest g a b s
   unfolding noRouteTest
@@ -222,15 +226,7 @@ module _ (g : Graph) (a b : ℕ) (s : Sheet) where
           fact-holds (eq-eqb _ _ far) (fact-holds (eq-eqb _ _ none) (fact-holds (eq-eqb _ _ start) q))
 
 -- The tests of the vertices do not look at the point count.
-module _ (d e f back route : List ℕ) (n : ℕ) where
-  pub vertices-uncounted : (j : Bool) (g : Graph) (a b : ℕ)
-      → verticesTest j g a b (sheetOf d e f back route 0) ≡ verticesTest j g a b (sheetOf d e f back route n)
-  unfolding verticesTest vertexTest countsTest localOn blankAt
-  vertices-uncounted j g a b = refl
-
-  pub posed-uncounted : {w h : ℕ} {l : List ℕ} {r : Rows} {a b : ℕ} → Posed w h l r a b (sheetOf d e f back route n)
-      → Posed w h l r a b (sheetOf d e f back route 0)
-  posed-uncounted p = record {
-    job = p .job;
-    shape = record { d = p .shape .d; e = p .shape .e; f = p .shape .f; b = p .shape .b; route = p .shape .route };
-  }
+pub vertices-uncounted : (d e f back route : List ℕ) (n : ℕ) (j : Bool) (g : Graph) (a b : ℕ)
+    → verticesTest j g a b (sheetOf d e f back route 0) ≡ verticesTest j g a b (sheetOf d e f back route n)
+unfolding verticesTest vertexTest countsTest localOn blankAt
+vertices-uncounted d e f back route n j g a b = refl

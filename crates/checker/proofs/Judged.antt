@@ -16,19 +16,16 @@ use Rattle.paths.specs.Graph.{Graph}
 use Rattle.paths.specs.Sheet.{Sheet, sheetOf}
 use Rattle.paths.specs.Local.{entry, Shaped}
 use Rattle.grid.specs.Grid.{floorGraph}
+use Rattle.grid.specs.Known.{GoodJob}
 use Rattle.grid.specs.declared.Job.the-variants.{Fit}
-use Rattle.grid.proofs.Jobs.{FitJob}
 use Rattle.grid.proofs.Lawful.{floor-lawful}
 use Rattle.checker.specs.declared.Checked.the-variants.{Route, NoRoute, Refused}
 use Rattle.checker.specs.Answer.{sheetSized, judged}
-use Rattle.checker.specs.Tests.{routeTest, noRouteTest, Fitting, Posed}
+use Rattle.checker.specs.Tests.{routeTest, noRouteTest, Posed}
 use Rattle.checker.proofs.Verdict.{verdict-tests}
 
-pub fit-fitting : {w h : ℕ} {l : List ℕ} {nb a b : ℕ} {r : Rows} → FitJob w h l nb a b r → Fitting w h l r a b
-fit-fitting j = record { floor = j .floor .sized; listed = j .listed; start = j .start; end = j .end }
-
 -- The slices of a sheet that passes the test of their lengths.
-pub sized-shaped : (g : Graph) (s : Sheet) → sheetSized (g .size) s ≡ true → Shaped g s
+pub sized-shaped : (g : Graph) (s : Sheet) → sheetSized (g .size) s ≡ true → Shaped (g .size) s
 unfolding sheetSized
 sized-shaped g s t =
     let n = g .size in
@@ -69,7 +66,7 @@ module _ (w h : ℕ) (l : List ℕ) (r : Rows) (a b : ℕ) (d e f back route : L
     fits : sheetSized (vertices w h) s ≡ true
     fits = sym sized-is ∙ not-false k good
 
-    module _ (job : Fitting w h l r a b) where
+    module _ (job : GoodJob w h l r a b) where
       pub judged-posed : Posed w h l r a b s
       judged-posed = record { job = job; shape = sized-shaped g s fits }
 
@@ -78,9 +75,8 @@ module _ (w h : ℕ) (l : List ℕ) (r : Rows) (a b : ℕ) (d e f back route : L
             (pick (noRouteTest g a b s) NoRoute (Refused FalseSheet))
         is-verdict =
             rw (fits, route-is)
-            (verdict-tests g a b s (floor-lawful (floorOf w h l) r (listed-lawful (job .listed))) (job .start)
-            (job .end)
-            (sized-shaped g s fits) total)
+            (verdict-tests g a b s (floor-lawful (floorOf w h l) r (listed-lawful (job .listed))) (job .start-in)
+            (job .goal-in) (sized-shaped g s fits) total)
 
         pub judged-route : p ≡ true → Route ≡ judged w h l a b s (Fit r)
         judged-route e = sym (is-verdict ∙ rw e)

@@ -2,6 +2,7 @@ pub mod Chains
 pub mod Exact
 pub mod Counts
 pub mod Vertex
+pub mod Posed
 pub mod Passes
 pub mod Points
 pub mod Verdict

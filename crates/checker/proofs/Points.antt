@@ -5,29 +5,20 @@
 --   points-..     == the same of the whole route, said of `pointsTest`
 use Prim.Native.Nat.{ℕ, suc, _+_, _≤_, _<_}
 use mathlib.Core.Path.{_≡_, sym, _∙_}
-use mathlib.Core.Bool.{Bool, true, false, not}
-use mathlib.Core.List.{List}
+use mathlib.Core.Bool.{Bool, true, false}
 use mathlib.Core.Option.{none, some}
 use native.Mathlib.Omega.{arith}
 use native.Mathlib.Numerals.{add-one}
 use borrow.Author.Tests.{lt-ltb, le-ltb, le-leb, lt-leb, eq-eqb, ne-eqb}
 use lib.Dec.{ltb, eqb}
-use lib.ListN.{length}
 use Rattle.basics.specs.Bounded.{every}
-use Rattle.basics.proofs.Scan.{Passed, passed-none, passed-stop, passed-more, passed-all}
-use Rattle.floor.specs.Floor.{floorOf, vertices}
-use Rattle.moves.specs.declared.Rows.{Rows}
 use Rattle.paths.specs.Graph.{Graph}
-use Rattle.paths.specs.Sheet.{Sheet, sheetOf}
+use Rattle.paths.specs.Route.{onShortest, nextVertex}
+use Rattle.paths.specs.Sheet.{Sheet}
 use Rattle.paths.specs.Local.{is-there, rightPoint, rightRoute, entry, localOn, localNext}
-use Rattle.grid.specs.Grid.{floorGraph}
-use Rattle.neighbours.specs.declared.Reach.{Reach}
-use Rattle.neighbours.specs.Reach.{Built}
-use Rattle.neighbours.specs.Choice.{nextOf, traversalOf, Choosing, Counted}
-use Rattle.neighbours.proofs.Agree.{nextVertex-agrees}
-use Rattle.neighbours.proofs.Built.{Faces}
-use Rattle.checker.specs.Tests.{pointTest, pointsTest, Posed, FitCounts, Routing}
-use Rattle.checker.proofs.Passes.{posed-here}
+use Rattle.neighbours.specs.Choice.{traversalOf}
+use Rattle.neighbours.proofs.Agree.{Agrees, nextVertex-agrees}
+use Rattle.checker.specs.Tests.{pointTest, pointsTest}
 
 -- ---- one place
 
@@ -73,46 +64,11 @@ module _ (g : Graph) (b : ℕ) (s : Sheet) (i at : ℕ) (is : at ≡ entry (s .r
 
 -- ---- the next vertex
 
-pub routing-of : {w h : ℕ} {l : List ℕ} {r : Rows} {t : Reach} {a b : ℕ} {s : Sheet} → Posed w h l r a b s
-    → Built w r t
-    → FitCounts (length (s .d)) (s .f) (s .b) → s .n ≤ length (s .route) → Routing w h l r t b s
-routing-of p built counts points = record {
-  posed = record {
-    job = record { floor = p .job .floor; listed = p .job .listed; start = p .job .end; end = p .job .end };
-    shape = p .shape;
-  };
-  built = built;
-  counts = counts;
-  points = points;
-}
-
-module _ {w h : ℕ} {l : List ℕ} {r : Rows} {t : Reach} {b n : ℕ} {d e f back route : List ℕ}
-    (p : Routing w h l r t b (sheetOf d e f back route n)) where
-  pub routing-in : {v : ℕ} → v < length d → v < vertices w h
-  routing-in i = omega (arith, p .posed .shape .d)
-
-  pub routing-chooses : {mask v : ℕ} → Faces (floorGraph (floorOf w h l) r) t mask v → Choosing t mask d e b v
-  routing-chooses k = record {
-    lent = p .built .lent;
-    here = posed-here (p .posed) k;
-    goal-in = omega (arith, p .posed .job .end, p .posed .shape .d);
-    e-len = p .posed .shape .e ∙ sym (p .posed .shape .d);
-  }
-
-  pub routing-counted : Counted (length d) f back
-  routing-counted = record {
-    f-len = p .posed .shape .f ∙ sym (p .posed .shape .d);
-    b-len = p .posed .shape .b ∙ sym (p .posed .shape .d);
-    fit = p .counts .fit;
-  }
-
-  pub next-local : {mask v : ℕ} → Faces (floorGraph (floorOf w h l) r) t mask v
-      → nextOf t mask d e f back b v ≡ localNext (floorGraph (floorOf w h l) r) b (sheetOf d e f back route n) v
-  unfolding localNext localOn
-  next-local k =
-      nextVertex-agrees (record { moves = k .agrees .moves; cost = k .agrees .cost; step = k .agrees .step })
-      (entry d)
-      (localOn b (sheetOf d e f back route n)) (traversalOf f back)
+pub next-local : {g h : Graph} {v : ℕ} → Agrees g h v → (b : ℕ) (s : Sheet)
+    → nextVertex g (onShortest (entry (s .d)) (entry (s .e)) b) (entry (s .d)) (traversalOf (s .f) (s .b)) v
+    ≡ localNext h b s v
+unfolding localNext localOn
+next-local q b s = nextVertex-agrees q (entry (s .d)) (localOn b s) (traversalOf (s .f) (s .b))
 
 -- ---- the whole route
 
@@ -143,25 +99,3 @@ module _ (g : Graph) (a b : ℕ) (s : Sheet) where
         le-leb (s .n) (g .size) m,
         eq-eqb (entry (s .route) 0) a e,
       ) q
-
--- The places before i of the route pass the test.
-pub record PointScan (w h : ℕ) (l : List ℕ) (t : Reach) (b : ℕ) (s : Sheet) (i : ℕ) : Type 0 where
-  pub passed : (r : Rows) → Routing w h l r t b s → Passed (vertices w h) i
-      (pointTest (floorGraph (floorOf w h l) r) b s)
-
-module _ {w h : ℕ} {l : List ℕ} {t : Reach} {b : ℕ} {s : Sheet} where
-  pub points-start : PointScan w h l t b s 0
-  points-start = record { passed = λ r p. passed-none (vertices w h) (pointTest (floorGraph (floorOf w h l) r) b s) }
-
-  module _ {i : ℕ} (c : PointScan w h l t b s i) (o : i < vertices w h) (k : Bool)
-      (is : (r : Rows) → Routing w h l r t b s → k ≡ pointTest (floorGraph (floorOf w h l) r) b s i) where
-    pub points-stop : {r : Rows} → Routing w h l r t b s → not k ≡ true
-        → false ≡ every (vertices w h) (pointTest (floorGraph (floorOf w h l) r) b s)
-    points-stop {r} p f = passed-stop k (c .passed r p) o (is r p) f
-
-    pub points-more : not k ≡ false → PointScan w h l t b s (i + 1)
-    points-more f = record { passed = λ r p. passed-more k (c .passed r p) o (is r p) f }
-
-  pub points-done : {i : ℕ} {r : Rows} → PointScan w h l t b s i → vertices w h ≤ i → Routing w h l r t b s
-      → true ≡ every (vertices w h) (pointTest (floorGraph (floorOf w h l) r) b s)
-  points-done {r = r} c o p = passed-all (c .passed r p) o

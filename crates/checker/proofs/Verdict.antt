@@ -72,7 +72,7 @@ module _ (g : Graph) (a b : ℕ) (s : Sheet) where
 
   -- ---- the checker's tests
 
-  module _ (L : Lawful g) (in-a : a < g .size) (in-b : b < g .size) (shape : Shaped g s)
+  module _ (L : Lawful g) (in-a : a < g .size) (in-b : b < g .size) (shape : Shaped (g .size) s)
       (total : entry (s .f) b < 2 ^ 64) where
     pub verdict-tests : verdict g a b s ≡ answer (routeTest g a b s) (noRouteTest g a b s)
     unfolding verdict

@@ -6,9 +6,10 @@ ghost use mathlib.Core.Path.{_≡_};
 ghost use Rattle.floor.specs.Floor.{floorOf};
 ghost use Rattle.paths.specs.Sheet.{sheetOf};
 ghost use Rattle.grid.specs.Grid.{floorGraph};
+ghost use Rattle.grid.specs.Known.{GoodJob};
 ghost use Rattle.grid.specs.declared.Job.the-variants.{Fit};
 ghost use Rattle.checker.specs.Answer.{sheetSized, judged, checkAnswer, checkNumber};
-ghost use Rattle.checker.specs.Tests.{routeTest, noRouteTest, Fitting, Posed};
+ghost use Rattle.checker.specs.Tests.{routeTest, noRouteTest, Posed};
 use floor::Refusal;
 use floor::Vertex;
 use grid::Job;
@@ -138,7 +139,7 @@ fn judge(
     route: &[u16],
     n: usize,
 ) -> Checked
-    requires { ⌜ Fitting w h (now map) rows (a .0) (b .0) ⌝ }
+    requires { ⌜ GoodJob w h (now map) rows (a .0) (b .0) ⌝ }
     ensures { λ r. ⌜ r ≡ judged w h (now (map .entry)) (a .0) (b .0)
         (sheetOf (now (d .entry)) (now (e .entry)) (now (f .entry)) (now (back .entry)) (now (route .entry)) n)
         (Fit rows) ⌝ }

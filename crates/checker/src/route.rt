@@ -1,16 +1,16 @@
 // The test of the route: one walk of its points.
 ghost use mathlib.Core.Path.{_≡_};
-ghost use Prim.Native.Nat.{_<_};
+ghost use Prim.Native.Nat.{_≤_, _<_};
 ghost use lib.ListN.{length};
 ghost use Rattle.floor.specs.Floor.{floorOf};
-ghost use Rattle.moves.specs.declared.Rows.{Rows};
+ghost use Rattle.offsets.specs.Offsets.{Shifts};
 ghost use Rattle.paths.specs.Sheet.{sheetOf};
 ghost use Rattle.grid.specs.Grid.{floorGraph};
-ghost use Rattle.neighbours.specs.Reach.{tableOf};
-ghost use Rattle.checker.specs.Tests.{pointTest, pointsTest, Posed, FitCounts, Routing};
+ghost use Rattle.neighbours.specs.Choice.{Counted};
+ghost use Rattle.checker.specs.Tests.{pointTest, pointsTest, Posed};
 use floor::Vertex;
 use moves::Rows;
-use moves::Step;
+use neighbours::Next;
 
 // A route's point as a vertex.
 fn point(x: u16) -> Vertex
@@ -25,11 +25,8 @@ fn point_right(
     w: usize,
     h: usize,
     map: &[u8],
-    count: usize,
-    row: &[usize],
-    up: &[usize],
-    down: &[usize],
-    cost: &[u32],
+    rows: Rows,
+    shifts: &[usize],
     b: Vertex,
     d: &[u32],
     e: &[u32],
@@ -39,13 +36,11 @@ fn point_right(
     n: usize,
     i: usize,
 ) -> bool
-    requires { ⌜ ((q : Rows) × Routing w h (now map) q (tableOf count (now row) (now up) (now down) (now cost)) (b .0)
-        (sheetOf (now d) (now e) (now f) (now back) (now route) n)) × (i < length (now route)) ⌝ }
-    ensures { λ r. ⌜ ((q : Rows) → Routing w h (now (map .entry)) q
-        (tableOf count (now (row .entry)) (now (up .entry)) (now (down .entry)) (now (cost .entry))) (b .0)
-        (sheetOf (now (d .entry)) (now (e .entry)) (now (f .entry)) (now (back .entry)) (now (route .entry)) n)
-        → r ≡ pointTest (floorGraph (floorOf w h (now (map .entry))) q) (b .0)
-        (sheetOf (now (d .entry)) (now (e .entry)) (now (f .entry)) (now (back .entry)) (now (route .entry)) n) i) ⌝ }
+    requires { ⌜ Posed w h (now map) rows (b .0) (b .0)
+        (sheetOf (now d) (now e) (now f) (now back) (now route) n) × Shifts w (now shifts)
+        × Counted (length (now d)) (now f) (now back) × (n ≤ length (now route)) × (i < length (now route)) ⌝ }
+    ensures { λ r. ⌜ r ≡ pointTest (floorGraph (floorOf w h (now (map .entry))) rows) (b .0)
+        (sheetOf (now (d .entry)) (now (e .entry)) (now (f .entry)) (now (back .entry)) (now (route .entry)) n) i ⌝ }
 {
     let at = point(route[i]);
     if n <= i {
@@ -61,20 +56,7 @@ fn point_right(
         return false;
     }
     let mask = masks::open_moves(w, h, map, at);
-    let Step::To(u) = neighbours::next_at(
-        count,
-        row,
-        up,
-        down,
-        cost,
-        mask,
-        d,
-        e,
-        f,
-        back,
-        b.0,
-        at.0,
-    ) else {
+    let Next::To(u) = neighbours::next_at(rows, shifts, mask, d, e, f, back, b.0, at.0) else {
         return false;
     };
     u.0 == point(route[i + 1]).0
@@ -96,7 +78,7 @@ pub fn route_right(
     n: usize,
 ) -> bool
     requires { ⌜ Posed w h (now map) rows (a .0) (b .0)
-        (sheetOf (now d) (now e) (now f) (now back) (now route) n) × FitCounts (length (now d)) (now f) (now back) ⌝ }
+        (sheetOf (now d) (now e) (now f) (now back) (now route) n) × Counted (length (now d)) (now f) (now back) ⌝ }
     ensures { λ r. ⌜ r ≡ pointsTest (floorGraph (floorOf w h (now (map .entry))) rows) (a .0) (b .0)
         (sheetOf (now (d .entry)) (now (e .entry)) (now (f .entry)) (now (back .entry)) (now (route .entry)) n) ⌝ }
 {
@@ -109,31 +91,9 @@ pub fn route_right(
     if point(route[0]).0 != a.0 {
         return false;
     }
-    let t = neighbours::reach_of(w, rows);
-    let count = t.count;
-    let row = t.row;
-    let up = t.up;
-    let down = t.down;
-    let cost = t.cost;
+    let shifts = offsets::shifts_of(w);
     for i in 0..route.len() {
-        if !point_right(
-            w,
-            h,
-            map,
-            count,
-            &row,
-            &up,
-            &down,
-            &cost,
-            b,
-            d,
-            e,
-            f,
-            back,
-            route,
-            n,
-            i,
-        ) {
+        if !point_right(w, h, map, rows, &shifts, b, d, e, f, back, route, n, i) {
             return false;
         }
     }

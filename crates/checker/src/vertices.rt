@@ -1,16 +1,15 @@
 // The tests of the vertices: the costs and counts of each, by its neighbours, in one pass over the floor.
 ghost use mathlib.Core.Path.{_≡_};
-ghost use Prim.Native.Nat.{_+_, _<_};
+ghost use Prim.Native.Nat.{_≤_, _<_};
 ghost use lib.Dec.{eqb};
 ghost use lib.ListN.{length};
 ghost use Rattle.floor.specs.Floor.{floorOf};
-ghost use Rattle.paths.specs.Local.{entry, countAt, blankAt};
+ghost use Rattle.offsets.specs.Classes.{Classes};
+ghost use Rattle.paths.specs.Local.{entry, countAt, Shaped, blankAt};
 ghost use Rattle.paths.specs.Sheet.{sheetOf};
 ghost use Rattle.grid.specs.Grid.{floorGraph};
-ghost use Rattle.neighbours.specs.Reach.{tableOf, star, Lent, Here};
-ghost use Rattle.neighbours.specs.Least.{Near, ClassMoves};
-ghost use Rattle.checker.specs.Tests.{numbersOf, blankOf, countsTest, vertexTest, verticesTest};
-ghost use Rattle.checker.specs.Tests.{Posed, AtVertex, AtRow, RowTested};
+ghost use Rattle.neighbours.specs.Reading.{maskGraph, Readable};
+ghost use Rattle.checker.specs.Tests.{numbersOf, blankOf, countsTest, vertexTest, rowTest, verticesTest, Posed};
 use floor::Vertex;
 use moves::Rows;
 use neighbours::Sum;
@@ -19,11 +18,8 @@ use offsets::Class;
 // The count f(v) from the source is right, as far as v and its neighbours can tell; `on` says whether v is on the way.
 // A sum that does not fit 64 bits is no number of the sheet.
 fn count_right(
-    count: usize,
-    row: &[usize],
-    up: &[usize],
-    down: &[usize],
-    cost: &[u32],
+    rows: Rows,
+    shifts: &[usize],
     mask: u32,
     source: usize,
     on: bool,
@@ -31,12 +27,9 @@ fn count_right(
     f: &[u64],
     v: usize,
 ) -> bool
-    requires { ⌜ Lent (tableOf count (now row) (now up) (now down) (now cost))
-        × Here (length (now d)) (tableOf count (now row) (now up) (now down) (now cost)) mask v
-        × (length (now f) ≡ length (now d)) ⌝ }
+    requires { ⌜ Readable (length (now d)) rows (now shifts) mask v × (length (now f) ≡ length (now d)) ⌝ }
     ensures { λ r. ⌜ r ≡ eqb (entry (now (f .entry)) v) (countAt
-        (star (length (now (d .entry)))
-        (tableOf count (now (row .entry)) (now (up .entry)) (now (down .entry)) (now (cost .entry))) mask)
+        (maskGraph (length (now (d .entry))) rows (now (shifts .entry)) mask)
         source (λ u. on) (entry (now (d .entry))) (entry (now (f .entry))) v) ⌝ }
 {
     let x = f[v];
@@ -46,7 +39,7 @@ fn count_right(
     if v == source {
         return x == 1;
     }
-    let Sum::Is(s) = neighbours::inflow_at(count, row, up, down, cost, mask, d, f, v) else {
+    let Sum::Is(s) = neighbours::inflow_at(rows, shifts, mask, d, f, v) else {
         return false;
     };
     x == s
@@ -54,11 +47,8 @@ fn count_right(
 
 // Both counts of v are those of a route sheet.
 fn counts_right(
-    count: usize,
-    row: &[usize],
-    up: &[usize],
-    down: &[usize],
-    cost: &[u32],
+    rows: Rows,
+    shifts: &[usize],
     mask: u32,
     a: usize,
     b: usize,
@@ -68,18 +58,17 @@ fn counts_right(
     back: &[u64],
     v: usize,
 ) -> bool
-    requires { ⌜ AtVertex (tableOf count (now row) (now up) (now down) (now cost)) mask b
-        (numbersOf (now d) (now e) (now f) (now back)) v ⌝ }
-    ensures { λ r. ⌜ r ≡ countsTest
-        (star (length (now (d .entry)))
-        (tableOf count (now (row .entry)) (now (up .entry)) (now (down .entry)) (now (cost .entry))) mask) a b
+    requires { ⌜ Readable (length (now d)) rows (now shifts) mask v × (b < length (now d))
+        × (length (now e) ≡ length (now d)) × (length (now f) ≡ length (now d))
+        × (length (now back) ≡ length (now d)) ⌝ }
+    ensures { λ r. ⌜ r ≡ countsTest (maskGraph (length (now (d .entry))) rows (now (shifts .entry)) mask) a b
         (numbersOf (now (d .entry)) (now (e .entry)) (now (f .entry)) (now (back .entry))) v ⌝ }
 {
     let on = neighbours::on_way(d, e, b, v);
-    if !count_right(count, row, up, down, cost, mask, a, on, d, f, v) {
+    if !count_right(rows, shifts, mask, a, on, d, f, v) {
         return false;
     }
-    count_right(count, row, up, down, cost, mask, b, on, e, back, v)
+    count_right(rows, shifts, mask, b, on, e, back, v)
 }
 
 // The numbers of v beside its cost from a are those of a no-route sheet: 0.
@@ -101,15 +90,11 @@ fn blank_at(e: &[u32], f: &[u64], back: &[u64], route: &[u16], v: usize) -> bool
 }
 
 // The numbers of v are right, by the kind of the sheet, with a route where `joined` holds. A sheet without one has the
-// cost from a alone. The costs are tested by the shifts and classes of the moves, and the counts by their table.
+// cost from a alone. The costs are tested by the classes of the moves, and the counts move by move.
 fn vertex_right(
+    rows: Rows,
     shifts: &[usize],
-    classes: [Class; 2],
-    count: usize,
-    row: &[usize],
-    up: &[usize],
-    down: &[usize],
-    cost: &[u32],
+    classes: [Class; offsets::CLASSES],
     mask: u32,
     joined: bool,
     a: usize,
@@ -121,21 +106,16 @@ fn vertex_right(
     route: &[u16],
     v: usize,
 ) -> bool
-    requires { ⌜ AtVertex (tableOf count (now row) (now up) (now down) (now cost)) mask b
-        (numbersOf (now d) (now e) (now f) (now back)) v
-        × Near (length (now d)) (now shifts) classes mask v
-        × ClassMoves (star (length (now d)) (tableOf count (now row) (now up) (now down) (now cost)) mask)
-        (now shifts) classes mask v × (length (now route) ≡ length (now d)) ⌝ }
-    ensures { λ r. ⌜ r ≡ vertexTest joined
-        (star (length (now (d .entry)))
-        (tableOf count (now (row .entry)) (now (up .entry)) (now (down .entry)) (now (cost .entry))) mask) a b
+    requires { ⌜ Readable (length (now d)) rows (now shifts) mask v × Classes rows classes × (b < length (now d))
+        × Shaped (length (now d)) (sheetOf (now d) (now e) (now f) (now back) (now route) 0) ⌝ }
+    ensures { λ r. ⌜ r ≡ vertexTest joined (maskGraph (length (now (d .entry))) rows (now (shifts .entry)) mask) a b
         (sheetOf (now (d .entry)) (now (e .entry)) (now (f .entry)) (now (back .entry)) (now (route .entry)) 0) v ⌝ }
 {
     if joined {
         if !neighbours::costs_right(shifts, classes, mask, a, b, d, e, v) {
             return false;
         }
-        return counts_right(count, row, up, down, cost, mask, a, b, d, e, f, back, v);
+        return counts_right(rows, shifts, mask, a, b, d, e, f, back, v);
     }
     if !neighbours::cost_right(shifts, classes, mask, a, d, v) {
         return false;
@@ -143,19 +123,13 @@ fn vertex_right(
     blank_at(e, f, back, route, v)
 }
 
-// The numbers of the vertices of row y are right. Each is looked at, also after one that is false: a way out of the loop
-// makes every turn slower.
+// The numbers of the vertices of row y are right. Each is looked at, also after one that is false: a way out of the
+// loop makes every turn slower.
 fn row_right(
-    shifts: &[usize],
-    classes: [Class; 2],
-    count: usize,
-    row: &[usize],
-    up: &[usize],
-    down: &[usize],
-    cost: &[u32],
     w: usize,
     h: usize,
     map: &[u8],
+    rows: Rows,
     joined: bool,
     a: usize,
     b: usize,
@@ -166,25 +140,20 @@ fn row_right(
     route: &[u16],
     y: usize,
 ) -> bool
-    requires { ⌜ AtRow w h (now map) (tableOf count (now row) (now up) (now down) (now cost)) (now shifts) classes a b
-        (sheetOf (now d) (now e) (now f) (now back) (now route) 0) y ⌝ }
-    ensures { λ r. ⌜ RowTested w h (now (map .entry))
-        (tableOf count (now (row .entry)) (now (up .entry)) (now (down .entry)) (now (cost .entry))) joined a b
-        (sheetOf (now (d .entry)) (now (e .entry)) (now (f .entry)) (now (back .entry)) (now (route .entry)) 0) y
-        (w + 1) r ⌝ }
+    requires { ⌜ Posed w h (now map) rows a b (sheetOf (now d) (now e) (now f) (now back) (now route) 0) × (y ≤ h) ⌝ }
+    ensures { λ r. ⌜ r ≡ rowTest joined (floorGraph (floorOf w h (now (map .entry))) rows) a b
+        (sheetOf (now (d .entry)) (now (e .entry)) (now (f .entry)) (now (back .entry)) (now (route .entry)) 0) w y ⌝ }
 {
+    let shifts = offsets::shifts_of(w);
+    let classes = offsets::classes_of(rows);
     let first = y * (w + 1);
     let mut right = true;
     for x in 0..w + 1 {
         let mask = masks::open_from(w, h, map, x, y);
         if !vertex_right(
-            shifts,
+            rows,
+            &shifts,
             classes,
-            count,
-            row,
-            up,
-            down,
-            cost,
             mask,
             joined,
             a,
@@ -224,26 +193,12 @@ pub fn vertices_right(
 {
     let start = a.0;
     let goal = b.0;
-    let shifts = offsets::shifts_of(w);
-    let classes = offsets::classes_of(rows);
-    let t = neighbours::reach_of(w, rows);
-    let count = t.count;
-    let row = t.row;
-    let up = t.up;
-    let down = t.down;
-    let cost = t.cost;
     for y in 0..h + 1 {
         if !row_right(
-            &shifts,
-            classes,
-            count,
-            &row,
-            &up,
-            &down,
-            &cost,
             w,
             h,
             map,
+            rows,
             joined,
             start,
             goal,

@@ -5,9 +5,9 @@ use mathlib.Core.List.{List}
 use lib.ListN.{length}
 use Rattle.floor.specs.declared.Refusal.{Refusal}
 use Rattle.floor.specs.declared.Shape.the-variants.{Good, Refused}
+use Rattle.floor.specs.Refusals.{leftBy}
 use Rattle.closures.specs.Plain.{
   lowestFree,
-  leftBy,
   postShape,
   postingOf,
   strikeShape,
@@ -17,7 +17,7 @@ use Rattle.closures.specs.Plain.{
   writingOf,
 }
 use Rattle.closures.specs.Table.{held, withSlot, Posts, Strikes, Writes}
-use Rattle.closures.specs.Known.{Lent}
+use Rattle.closures.specs.Known.{MapsLent}
 use Rattle.closures.proofs.Shapes.{good-work}
 use Rattle.closures.specs.declared.Rectangle.{Rectangle}
 use Rattle.closures.specs.declared.Hold.the-variants.{Free, Held}
@@ -69,7 +69,7 @@ module _ (t : Closures) (base work : List ℕ) where
     leaves = l ∙ sym (ap (λ s. leftBy s (workingMap (t .width) (t .height) base (held t)) work) e);
   }
 
-  pub good-lent : workShape (t .width) (t .height) base (length work) ≡ Good → Lent t base work
+  pub good-lent : workShape (t .width) (t .height) base (length work) ≡ Good → MapsLent t base work
   good-lent e =
       let g = good-work (t .width) (t .height) base (length work) e in
       record { good = g .0; same = g .1 }

@@ -27,7 +27,7 @@ use Rattle.floor.proofs.Maps.{
   blocked-row,
 }
 use Rattle.closures.specs.Plain.{covers}
-use Rattle.closures.specs.Known.{OnFloor, clipped, Marked}
+use Rattle.closures.specs.Known.{CellsOnFloor, clipped, Marked}
 use Rattle.closures.specs.declared.Rectangle.{Rectangle}
 use Rattle.closures.proofs.Shapes.{above-of, below-of}
 
@@ -103,7 +103,7 @@ module _ (r : Rectangle) (w h : ℕ) (old : List ℕ) (good : floorShape w h old
         ap (λ t. floorOf w h old .cell x y || t) (all-rows r j x y (omega (arith, g .within, g .last))))
 
     -- One row more is blocked.
-    pub rows-more : OnFloor r w h → j < end → (first : ℕ) (left : List ℕ) → first ≡ cellNumber w (r .column) j
+    pub rows-more : CellsOnFloor r w h → j < end → (first : ℕ) (left : List ℕ) → first ≡ cellNumber w (r .column) j
         → left ≡ blockedFrom first (r .columns) s → Rows r w h old end (j + 1) left
     rows-more on b first left q e =
         let row = inRow (r .column) j (r .columns) in
@@ -143,7 +143,7 @@ module _ (r : Rectangle) (w h : ℕ) where
       (ap₂ _&&_ (clipped-from (r .column) w i p) (clipped-end (r .column) (r .columns) w i p))
       (ap₂ _&&_ (clipped-from (r .row) h j q) (clipped-end (r .row) (r .rows) h j q))
 
-  pub clipped-on : OnFloor (clipped w h r) w h
+  pub clipped-on : CellsOnFloor (clipped w h r) w h
   clipped-on = record { columns = omega arith; rows = omega arith }
 
   pub clipped-marked : (l left : List ℕ) → Marked (some (clipped w h r)) w h l left → Marked (some r) w h l left

@@ -16,11 +16,11 @@ use lib.Seq.{getD-set-same, getD-set-other}
 use Rattle.basics.proofs.Order.{le-or-lt, eq-or-ne}
 use Rattle.floor.specs.declared.Shape.{Shape}
 use Rattle.floor.specs.declared.Shape.the-variants.{Good, Refused}
+use Rattle.floor.specs.Refusals.{leftBy}
 use Rattle.closures.specs.Plain.{
   Plain,
   nothingHeld,
   changed,
-  leftBy,
   lowestFree,
   postShape,
   strikeShape,

@@ -1,9 +1,9 @@
 -- What the code knows at its steps. Nobody has to believe these: the contracts of the parts of `working_map` cite them.
 --
---   Lent t base work     == the base map is good for the table's floor, and the working slice is as long
+--   MapsLent t base work     == the base map is good for the table's floor, and the working slice is as long
 --   Marked s w h l left  == left is the map l, of a floor of width w and height h, blocked also where s covers the cell
 --   clipped w h r        == the part of rectangle r that lies on a floor of width w and height h
---   OnFloor r w h        == such a floor has every cell of rectangle r
+--   CellsOnFloor r w h        == such a floor has every cell of rectangle r
 use Prim.Native.Nat.{ℕ, _+_, _-_, _≤_, min}
 use mathlib.Core.Path.{_≡_}
 use mathlib.Core.List.{List}
@@ -16,7 +16,7 @@ use Rattle.closures.specs.Plain.{coveredBy}
 use Rattle.closures.specs.declared.Rectangle.{Rectangle}
 use Rattle.closures.specs.declared.Closures.{Closures}
 
-pub record Lent (t : Closures) (base work : List ℕ) : Type 0 where
+pub record MapsLent (t : Closures) (base work : List ℕ) : Type 0 where
   pub good : floorShape (t .width) (t .height) base ≡ Good
   pub same : length work ≡ length base
 
@@ -31,6 +31,6 @@ clipped w h r = record {
   rows = min (r .rows) (h - min (r .row) h);
 }
 
-pub record OnFloor (r : Rectangle) (w h : ℕ) : Type 0 where
+pub record CellsOnFloor (r : Rectangle) (w h : ℕ) : Type 0 where
   pub columns : r .column + r .columns ≤ w
   pub rows : r .row + r .rows ≤ h

@@ -7,7 +7,6 @@
 --   freeIn m k              == slot k is free in m
 --   lowestFree m            == the lowest free slot of the sixteen; 16 where none is free
 --   changed m k s           == the map m, with s at slot k
---   leftBy s x y            == what a call leaves whose refusals are the shape s: x where it is good, y at a refusal
 --   within w h r            == rectangle r is not empty and does not leave a floor of width w and height h
 --   postShape w h m r       == refusals 1, 12 and 13 of posting r, in order
 --   postAnswer, postMap     == what post answers, and the map afterwards; at a refusal the same map
@@ -30,7 +29,7 @@ use lib.Dec.{leb, ltb, eqb}
 use lib.ListN.{length}
 use Rattle.basics.specs.Bounded.{pick, any, seek}
 use Rattle.floor.specs.Floor.{floorOf, mapOf, withBlocked}
-use Rattle.floor.specs.Refusals.{refusalNumber, sidesShape, floorShape, andThen}
+use Rattle.floor.specs.Refusals.{refusalNumber, sidesShape, floorShape, andThen, leftBy}
 use Rattle.floor.specs.declared.Refusal.the-variants.{SliceLength, ClosureBounds, SlotsFull, SlotEmpty}
 use Rattle.floor.specs.declared.Shape.{Shape}
 use Rattle.floor.specs.declared.Shape.the-variants.{Good, Refused}
@@ -62,10 +61,6 @@ lowestFree m = seek 16 0 (freeIn m)
 
 abbrev pub changed : Plain → ℕ → Option Rectangle → Plain
 changed m k s i = pick (eqb i k) s (m i)
-
-abbrev pub leftBy : {A : Type 0} → Shape → A → A → A
-leftBy Good x y = x
-leftBy (Refused r) x y = y
 
 -- ---- post: "puts it in the lowest free slot and answers the slot; 12 if the rectangle is empty or leaves the floor, then
 -- 13 if no slot is free"

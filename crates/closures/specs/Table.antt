@@ -13,10 +13,10 @@ use mathlib.Core.Path.{_≡_}
 use mathlib.Core.List.{List}
 use mathlib.Core.Option.{Option, none, some}
 use lib.ListN.{length, getD, set, replicate}
+use Rattle.floor.specs.Refusals.{leftBy}
 use Rattle.closures.specs.Plain.{
   Plain,
   lowestFree,
-  leftBy,
   postShape,
   postAnswer,
   strikeShape,

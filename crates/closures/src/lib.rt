@@ -7,7 +7,7 @@ ghost use Rattle.floor.specs.declared.Shape.the-variants.{Good};
 ghost use Rattle.closures.specs.Plain.{isFree, lowestFree, within, postShape, strikeShape, workShape, workingMap};
 ghost use Rattle.closures.specs.Plain.{postNumber, postSlot, strikeNumber, workNumber};
 ghost use Rattle.closures.specs.Table.{held, withSlot, emptyTable, Posts, Strikes, Writes};
-ghost use Rattle.closures.specs.Known.{Lent, OnFloor, clipped, Marked};
+ghost use Rattle.closures.specs.Known.{MapsLent, CellsOnFloor, clipped, Marked};
 use floor::Refusal;
 use floor::Shape;
 
@@ -263,7 +263,7 @@ fn lesser(a: usize, b: usize) -> usize
 
 // Blocks the cells of a rectangle, row after row, in the map of a floor that has them all.
 fn mark(r: Rectangle, w: usize, h: usize, work: &mut [u8])
-    requires { ⌜ (floorShape w h (now work) ≡ Good) × OnFloor r w h ⌝ }
+    requires { ⌜ (floorShape w h (now work) ≡ Good) × CellsOnFloor r w h ⌝ }
     ensures { λ _. ⌜ Marked (some r) w h (now (work .entry)) (now (work .exit)) ⌝ }
 {
     for j in r.row..r.row + r.rows {
@@ -307,7 +307,7 @@ fn mark_slot(table: Closures, k: usize, work: &mut [u8])
 
 // Writes the base map with every closure of the table on it.
 fn mark_all(table: Closures, base: &[u8], work: &mut [u8])
-    requires { ⌜ Lent table (now base) (now work) ⌝ }
+    requires { ⌜ MapsLent table (now base) (now work) ⌝ }
     ensures { λ _. ⌜ now (work .exit) ≡ workingMap (table .width) (table .height) (now (base .entry)) (held table) ⌝ }
 {
     floor::copy_map(base, work);

@@ -3,7 +3,6 @@
 --
 --   readied-kept      == where some of the order are kept, a pass can read those
 --   readied-other     == and with another slice of the same length
---   masked-kept       == the masks are as they were
 --   even-way          == the test of the code is the test `onWay`
 --   order-kept        == so what is kept is an order of the way from b
 --   passable-back, passable-forth == what the passes from b and from a take
@@ -27,48 +26,40 @@ use Rattle.paths.specs.Sheet.{fits}
 use Rattle.paths.specs.Local.{entry}
 use Rattle.paths.proofs.Reverse.{distance-sym, pathCount-sym}
 use Rattle.paths.proofs.Way.{shortest-same, way-cases, way-turn, way-end, countFrom-way}
-use Rattle.neighbours.specs.declared.Reach.{Reach}
+use Rattle.moves.specs.declared.Rows.{Rows}
 use Rattle.neighbours.proofs.Choice.{onShortest-sum}
-use Rattle.distances.specs.Order.{maskAt, Masked}
-use Rattle.counts.specs.Passes.{evenAt, Kept, Readied, WayOrder, Passable, Known, Passed, Filled}
+use Rattle.workspace.specs.Regions.{maskAt, Masked}
+use Rattle.workspace.proofs.Regions.{masked-kept}
+use Rattle.counts.specs.Passes.{evenAt, Filtered, Readied, WayOrder, Passable, Known, Passed, Filled}
 use Rattle.counts.proofs.Sequence.{costs-len, costs-at, order-turned}
 
 -- ---- where some of the order are kept
 
-module _ {p : ℕ → Bool} {n k : ℕ} {work work′ : List ℕ} (R : Kept p n k work work′) where
+module _ {p : ℕ → Bool} {n k : ℕ} {work work′ : List ℕ} (R : Filtered p n k work work′) where
   mask-kept : {v : ℕ} → n ≤ v → (u : ℕ) → maskAt v work′ u ≡ maskAt v work u
   mask-kept {v} short u = R .rest (2 * v + u) (omega arith)
 
-  pub readied-kept : {t : Reach} {d : List ℕ} → Readied t n d work → Readied t k d work′
-  readied-kept {t} {d} A = record {
+  pub readied-kept : {rows : Rows} {shifts : List ℕ} {d : List ℕ} → Readied rows shifts n d work → Readied rows shifts k d work′
+  readied-kept {d = d} A = record {
     few = A .few;
     work-len = R .len ∙ A .work-len;
     short = omega (arith, A .short, R .few);
-    lent = A .lent;
     vertex = λ i l. let r = R .from i l in subst (λ z. z < length d) (r .2) (A .vertex (r .0) (r .1));
-    here = λ u i. rw (mask-kept (A .short) u) (A .here u i);
+    readable = λ u i. rw (mask-kept (A .short) u) (A .readable u i);
   }
 
-  masked-kept : {g : Graph} {t : Reach} → n ≤ g .size → Masked g t work → Masked g t work′
-  masked-kept short M = record {
-    count = M .count;
-    here = λ u i. rw (mask-kept short u) (M .here u i);
-    step = λ u m i l. rw (mask-kept short u) (M .step u m i l);
-  }
-
-pub readied-other : {t : Reach} {n : ℕ} {d e work : List ℕ} → length e ≡ length d → Readied t n d work
-    → Readied t n e work
+pub readied-other : {rows : Rows} {shifts : List ℕ} {n : ℕ} {d e work : List ℕ} → length e ≡ length d → Readied rows shifts n d work
+    → Readied rows shifts n e work
 readied-other same A = record {
   few = omega (arith, A .few, same);
   work-len = omega (arith, A .work-len, same);
   short = omega (arith, A .short, same);
-  lent = A .lent;
   vertex = rw same (A .vertex);
-  here = rw same (A .here);
+  readable = rw same (A .readable);
 }
 
-module _ {g : Graph} {t : Reach} {a b n k : ℕ} {d e work work′ : List ℕ} (K : Known g t a b n d e work)
-    (A : Readied t n d work) (R : Kept (evenAt d e (entry d b)) n k work work′) where
+module _ {g : Graph} {rows : Rows} {shifts : List ℕ} {a b n k : ℕ} {d e work work′ : List ℕ} (K : Known g rows shifts a b n d e work)
+    (A : Readied rows shifts n d work) (R : Filtered (evenAt d e (entry d b)) n k work work′) where
   -- ---- what is kept are the vertices on the way
 
   sized : length d ≡ g .size
@@ -113,28 +104,26 @@ module _ {g : Graph} {t : Reach} {a b n k : ℕ} {d e work work′ : List ℕ} (
   work-len : length work′ ≡ 4 * g .size
   work-len = omega (arith, R .len, A .work-len, sized)
 
-  masks : Masked g t work′
-  masks = masked-kept R (omega (arith, A .short, sized)) (K .masked)
+  masks : Masked g rows shifts work′
+  masks = masked-kept (K .masked) (λ i h. R .rest i (omega (arith, A .short, sized)))
 
-  pub passable-back : Passable g t b a k false e work′
+  pub passable-back : Passable g rows shifts b a k false e work′
   passable-back = record {
     lawful = K .lawful;
     start-in = K .goal-in;
     reached = rw (distance-sym g (K .lawful) b a (K .goal-in) (K .start-in)) (K .reached);
     costs = K .costs-back;
     masked = masks;
-    priced = K .priced;
     way = order-kept;
   }
 
-  pub passable-forth : Passable g t a b k true d work′
+  pub passable-forth : Passable g rows shifts a b k true d work′
   passable-forth = record {
     lawful = K .lawful;
     start-in = K .start-in;
     reached = K .reached;
     costs = K .costs-from;
     masked = masks;
-    priced = K .priced;
     way = order-turned (K .lawful) (K .start-in) (K .goal-in) order-kept;
   }
 
@@ -162,7 +151,7 @@ module _ {g : Graph} {t : Reach} {a b n k : ℕ} {d e work work′ : List ℕ} (
       omega (arith, total-turned)
 
   pub filled-both : {f back : List ℕ} (r : Bool) → Passed g b a back true → entry back a < 2 ^ 64 → Passed g a b f r
-      → Filled g t a b r work′ f back
+      → Filled g rows shifts a b r work′ f back
   unfolding fits
   filled-both true B small F =
       let total = passed-total (B .counted refl) small in
@@ -176,7 +165,7 @@ module _ {g : Graph} {t : Reach} {a b n k : ℕ} {d e work work′ : List ℕ} (
   filled-both false B small F = absurd (omega (arith, passed-total (B .counted refl) small, F .over refl))
 
   pub filled-none : {f back back′ : List ℕ} → Passed g b a back false → f ≡ zeros (length d) → length back ≡ length d
-      → back′ ≡ zeros (length back) → Filled g t a b false work′ f back′
+      → back′ ≡ zeros (length back) → Filled g rows shifts a b false work′ f back′
   unfolding fits
   filled-none B f-zero same back-zero = record {
     answer = sym (le-ltb (pathCount g a b) (2 ^ 64) (omega (arith, B .over refl, total-turned)));

@@ -15,9 +15,9 @@ use Rattle.basics.specs.Bounded.{pick}
 use Rattle.basics.proofs.Order.{eq-or-ne}
 use Rattle.basics.proofs.Bools.{true-or-false}
 use Rattle.paths.specs.Local.{entry}
-use Rattle.counts.specs.Passes.{Kept}
+use Rattle.counts.specs.Passes.{Filtered}
 
-pub kept-none : {p : ℕ → Bool} {l : List ℕ} → Kept p 0 0 l l
+pub kept-none : {p : ℕ → Bool} {l : List ℕ} → Filtered p 0 0 l l
 kept-none = record {
   few = omega arith;
   len = refl;
@@ -28,7 +28,7 @@ kept-none = record {
   rising = λ D h i j le lt. absurd (omega arith);
 }
 
-module _ {p : ℕ → Bool} {n k k′ : ℕ} {l l′ : List ℕ} (K : Kept p n k l l′) (in-n : n < length l)
+module _ {p : ℕ → Bool} {n k k′ : ℕ} {l l′ : List ℕ} (K : Filtered p n k l l′) (in-n : n < length l)
     (more : k′ ≡ k + pick (p (entry l′ n)) 1 0) where
   abbrev l″ : List ℕ
   l″ = set l′ k (entry l′ n)
@@ -59,7 +59,7 @@ module _ {p : ℕ → Bool} {n k k′ : ℕ} {l l′ : List ℕ} (K : Kept p n k
       (λ q. let r = K .from i (q .0) in (r .0, omega (arith, r .1), r .2 ∙ sym (q .1)))
       (λ q. (n, omega arith, sym (q .0))) (kept-cases i lt)
 
-  pub kept-more : Kept p (n + 1) k′ l l″
+  pub kept-more : Filtered p (n + 1) k′ l l″
   kept-more = record {
     few = ⊎-elim (λ y. omega (arith, more-by y, K .few)) (λ y. omega (arith, more-by y, K .few))
         (true-or-false (p (entry l n)));
@@ -78,5 +78,5 @@ module _ {p : ℕ → Bool} {n k k′ : ℕ} {l l′ : List ℕ} (K : Kept p n k
         rw (q .0, sym (r .2)) (h (r .0) n (omega (arith, r .1)) (omega arith))) (kept-cases j lt);
   }
 
-pub kept-all : {p : ℕ → Bool} {n i k : ℕ} {l l′ : List ℕ} → Kept p i k l l′ → i ≤ n → n ≤ i → Kept p n k l l′
-kept-all {p} {n} {i} {k} {l} {l′} K le ge = let q : i ≡ n = omega arith in subst (λ j. Kept p j k l l′) q K
+pub kept-all : {p : ℕ → Bool} {n i k : ℕ} {l l′ : List ℕ} → Filtered p i k l l′ → i ≤ n → n ≤ i → Filtered p n k l l′
+kept-all {p} {n} {i} {k} {l} {l′} K le ge = let q : i ≡ n = omega arith in subst (λ j. Filtered p j k l l′) q K

@@ -31,13 +31,13 @@ use Rattle.paths.specs.Local.{inflow, countAt, entry}
 use Rattle.paths.proofs.Counts.{pathCount-self}
 use Rattle.paths.proofs.Way.{countFrom-way, countFrom-off, countFrom-fits}
 use Rattle.paths.proofs.CountTest.{way-closed, countAt-start, countAt-other, count-next}
-use Rattle.neighbours.specs.declared.Reach.{Reach}
+use Rattle.moves.specs.declared.Rows.{Rows}
 use Rattle.neighbours.specs.declared.Sum.{Sum}
 use Rattle.neighbours.specs.declared.Sum.the-variants.{Is, Over}
-use Rattle.neighbours.specs.Reach.{star, sumOf}
+use Rattle.neighbours.specs.Reading.{maskGraph, sumOf}
 use Rattle.neighbours.proofs.Agree.{countAt-agrees}
 use Rattle.neighbours.proofs.Sums.{sumOf-fits, sumOf-is, sumOf-passes}
-use Rattle.distances.specs.Order.{maskAt}
+use Rattle.workspace.specs.Regions.{maskAt}
 use Rattle.counts.specs.Passes.{turnOf, countOf, Passable, Passed}
 use Rattle.counts.proofs.Sequence.{costs-len, costs-at, agrees, turn-before}
 
@@ -46,19 +46,19 @@ use Rattle.counts.proofs.Sequence.{costs-len, costs-at, agrees, turn-be
 abbrev all : ℕ → Bool
 all v = true
 
-module _ (t : Reach) (mask s : ℕ) (d f : List ℕ) (u : ℕ) where
-  abbrev star-here : Graph
-  star-here = star (length d) t mask
+module _ (rows : Rows) (shifts : List ℕ) (mask s : ℕ) (d f : List ℕ) (u : ℕ) where
+  abbrev maskGraph-here : Graph
+  maskGraph-here = maskGraph (length d) rows shifts mask
 
-  pub count-one : u ≡ s → Is 1 ≡ sumOf (countOf t mask s d f u)
+  pub count-one : u ≡ s → Is 1 ≡ sumOf (countOf rows shifts mask s d f u)
   count-one q =
-      let at : countOf t mask s d f u ≡ 1
-      = ap (countOf t mask s d f) q ∙ countAt-start star-here s all (entry d) (entry f) refl in
+      let at : countOf rows shifts mask s d f u ≡ 1
+      = ap (countOf rows shifts mask s d f) q ∙ countAt-start maskGraph-here s all (entry d) (entry f) refl in
       rw at (sumOf-fits 1 (omega arith))
 
-  pub count-sum : (u ≡ s → ⊥) → (r : Sum) → r ≡ sumOf (inflow star-here (entry d) (entry f) u)
-      → r ≡ sumOf (countOf t mask s d f u)
-  count-sum ne r q = q ∙ ap sumOf (sym (countAt-other star-here s all (entry d) (entry f) u refl ne))
+  pub count-sum : (u ≡ s → ⊥) → (r : Sum) → r ≡ sumOf (inflow maskGraph-here (entry d) (entry f) u)
+      → r ≡ sumOf (countOf rows shifts mask s d f u)
+  count-sum ne r q = q ∙ ap sumOf (sym (countAt-other maskGraph-here s all (entry d) (entry f) u refl ne))
 
 -- Where a vertex is on the way, its count is what it would be if all were.
 count-all : (g : Graph) (s : ℕ) (on : ℕ → Bool) (D F : ℕ → ℕ) (u : ℕ) → on u ≡ true
@@ -80,7 +80,7 @@ counted-none g s x P f e = record {
   off = λ u i o. ap (λ l. entry l u) e ∙ getD-zeros (g .size) u;
 }
 
-module _ {g : Graph} {t : Reach} {s x n : ℕ} {rev : Bool} {d work : List ℕ} (K : Passable g t s x n rev d work) where
+module _ {g : Graph} {rows : Rows} {shifts : List ℕ} {s x n : ℕ} {rev : Bool} {d work : List ℕ} (K : Passable g rows shifts s x n rev d work) where
   abbrev P : ℕ → ℕ
   P = turnOf work n rev
 
@@ -113,7 +113,7 @@ module _ {g : Graph} {t : Reach} {s x n : ℕ} {rev : Bool} {d work : List ℕ} 
         ∙ count-next g (K .lawful) s (K .start-in) on closed (entry d) (costs-at g s (K .costs)) (entry f) u in-u on-u ne before)
         (eq-or-ne u s)
 
-    pub count-right : countOf t (maskAt (length d) work u) s d f u ≡ countFrom g s x u
+    pub count-right : countOf rows shifts (maskAt (length d) work u) s d f u ≡ countFrom g s x u
     count-right =
         rw (costs-len g s (K .costs)) (countAt-agrees (agrees K u in-u) (entry d) s all (entry f)
         ∙ count-all g s on (entry d) (entry f) u on-u ∙ count-on ∙ sym (countFrom-way g s x u on-u))
@@ -144,32 +144,32 @@ module _ {g : Graph} {t : Reach} {s x n : ℕ} {rev : Bool} {d work : List ℕ} 
 
 -- ---- the loop of a pass
 
-pub record Turning (t : Reach) (s n : ℕ) (rev : Bool) (d work : List ℕ) (i : ℕ) (f : List ℕ) : Type 0 where
+pub record Turning (rows : Rows) (shifts : List ℕ) (s n : ℕ) (rev : Bool) (d work : List ℕ) (i : ℕ) (f : List ℕ) : Type 0 where
   pub within : i ≤ n
   pub len : length f ≡ length d
-  pub counted : (g : Graph) (x : ℕ) → Passable g t s x n rev d work → Counted g s x i (turnOf work n rev) f
+  pub counted : (g : Graph) (x : ℕ) → Passable g rows shifts s x n rev d work → Counted g s x i (turnOf work n rev) f
 
-module _ {t : Reach} {s n : ℕ} {rev : Bool} {d work : List ℕ} where
-  pub turn-start : {f : List ℕ} → f ≡ zeros (length d) → Turning t s n rev d work 0 f
+module _ {rows : Rows} {shifts : List ℕ} {s n : ℕ} {rev : Bool} {d work : List ℕ} where
+  pub turn-start : {f : List ℕ} → f ≡ zeros (length d) → Turning rows shifts s n rev d work 0 f
   turn-start {f} q = record {
     within = omega arith;
     len = ap length q ∙ length-replicate (length d) 0;
     counted = λ g x K. counted-none g s x (turnOf work n rev) f (rw (sym (costs-len g s (K .costs))) q);
   }
 
-  pub turn-len : {i : ℕ} {f f₀ : List ℕ} → Turning t s n rev d work i f → f₀ ≡ zeros (length d) → length f ≡ length f₀
+  pub turn-len : {i : ℕ} {f f₀ : List ℕ} → Turning rows shifts s n rev d work i f → f₀ ≡ zeros (length d) → length f ≡ length f₀
   turn-len h q = h .len ∙ sym (ap length q ∙ length-replicate (length d) 0)
 
-  module _ {i : ℕ} {f : List ℕ} (h : Turning t s n rev d work i f) (l : i < n) (u : ℕ)
-      (at : u ≡ turnOf work n rev i) (r : Sum) (sum : r ≡ sumOf (countOf t (maskAt (length d) work u) s d f u)) where
+  module _ {i : ℕ} {f : List ℕ} (h : Turning rows shifts s n rev d work i f) (l : i < n) (u : ℕ)
+      (at : u ≡ turnOf work n rev i) (r : Sum) (sum : r ≡ sumOf (countOf rows shifts (maskAt (length d) work u) s d f u)) where
     -- What was worked out is the count of the vertex.
-    worked : (g : Graph) (x : ℕ) (K : Passable g t s x n rev d work)
-        → countOf t (maskAt (length d) work u) s d f u ≡ countFrom g s x (turnOf work n rev i)
+    worked : (g : Graph) (x : ℕ) (K : Passable g rows shifts s x n rev d work)
+        → countOf rows shifts (maskAt (length d) work u) s d f u ≡ countFrom g s x (turnOf work n rev i)
     worked g x K =
-        subst (λ v. countOf t (maskAt (length d) work v) s d f v ≡ countFrom g s x (turnOf work n rev i)) (sym at)
+        subst (λ v. countOf rows shifts (maskAt (length d) work v) s d f v ≡ countFrom g s x (turnOf work n rev i)) (sym at)
         (count-right K l (h .counted g x K))
 
-    pub turn-more : (y : ℕ) → r ≡ Is y → Turning t s n rev d work (i + 1) (set f u y)
+    pub turn-more : (y : ℕ) → r ≡ Is y → Turning rows shifts s n rev d work (i + 1) (set f u y)
     turn-more y q = record {
       within = omega arith;
       len = length-set f u y ∙ h .len;
@@ -178,14 +178,14 @@ module _ {t : Reach} {s n : ℕ} {rev : Bool} {d work : List ℕ} where
           (counted-more K l (h .counted g x K) y (sym (sumOf-is _ y (sym sum ∙ q)) ∙ worked g x K));
     }
 
-    pub turn-over : r ≡ Over → (g : Graph) (x : ℕ) → Passable g t s x n rev d work → Passed g s x f false
+    pub turn-over : r ≡ Over → (g : Graph) (x : ℕ) → Passable g rows shifts s x n rev d work → Passed g s x f false
     turn-over q g x K = record {
       counted = λ z. absurd (true≢false (sym z));
       over = λ z. count-over K l (h .counted g x K) (omega (arith, sumOf-passes _ (sym sum ∙ q), worked g x K));
     }
 
-  pub turn-end : {i : ℕ} {f : List ℕ} → Turning t s n rev d work i f → n ≤ i → (g : Graph) (x : ℕ)
-      → Passable g t s x n rev d work → Passed g s x f true
+  pub turn-end : {i : ℕ} {f : List ℕ} → Turning rows shifts s n rev d work i f → n ≤ i → (g : Graph) (x : ℕ)
+      → Passable g rows shifts s x n rev d work → Passed g s x f true
   turn-end {i} {f} h l g x K =
       let q : i ≡ n = omega (arith, h .within) in
       record {

@@ -22,10 +22,10 @@ use Rattle.paths.specs.Route.{onWay}
 use Rattle.paths.specs.Local.{entry}
 use Rattle.paths.proofs.Reverse.{distance-sym}
 use Rattle.paths.proofs.Way.{way-cases, way-turn}
-use Rattle.neighbours.specs.declared.Reach.{Reach}
-use Rattle.neighbours.specs.Reach.{star}
+use Rattle.moves.specs.declared.Rows.{Rows}
+use Rattle.neighbours.specs.Reading.{maskGraph}
 use Rattle.neighbours.proofs.Agree.{Agrees}
-use Rattle.distances.specs.Order.{maskAt}
+use Rattle.workspace.specs.Regions.{maskAt}
 use Rattle.counts.specs.Passes.{placeOf, WayOrder, Passable}
 
 pub place-lt : (n i : ℕ) (rev : Bool) → i < n → placeOf n i rev < n
@@ -39,13 +39,9 @@ module _ (g : Graph) (s : ℕ) {d : List ℕ} (costs : d ≡ tabulate (g .size) 
   pub costs-at : (u : ℕ) → u < g .size → entry d u ≡ distance g s u
   costs-at u i = ap (λ l. entry l u) costs ∙ getD-tabulate (g .size) u (distance g s) i
 
-module _ {g : Graph} {t : Reach} {s x n : ℕ} {rev : Bool} {d work : List ℕ} (K : Passable g t s x n rev d work) where
-  pub agrees : (u : ℕ) → u < g .size → Agrees (star (g .size) t (maskAt (g .size) work u)) g u
-  agrees u i = record {
-    moves = K .masked .count;
-    cost = λ m l. K .priced .cost m (omega (arith, K .masked .count));
-    step = λ m l. K .masked .step u m i (omega (arith, K .masked .count));
-  }
+module _ {g : Graph} {rows : Rows} {shifts : List ℕ} {s x n : ℕ} {rev : Bool} {d work : List ℕ} (K : Passable g rows shifts s x n rev d work) where
+  pub agrees : (u : ℕ) → u < g .size → Agrees (maskGraph (g .size) rows shifts (maskAt (g .size) work u)) g u
+  agrees u i = K .masked .shows u i .agrees
 
 pub turn-before : {g : Graph} {s x n : ℕ} {P : ℕ → ℕ} → WayOrder g s x n P → (i u : ℕ) → i < n → u < g .size
     → onWay g s x u ≡ true → distance g s u < distance g s (P i) → (j : ℕ) × (j < i) × (P j ≡ u)

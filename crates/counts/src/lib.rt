@@ -4,8 +4,6 @@
 // both counts are filled along them: the counts to b from the front, the counts from a from the back, since on the way
 // the cost from a rises as the cost to b falls. A vertex gets its count when all that its count is the sum of have
 // theirs. A sum on the way never passes the total, so a sum that does not fit says that the total does not.
-//
-// `count`, `row`, `up`, `down` and `cost` are a Reach of crate neighbours: the moves of the floor, lent list by list.
 ghost use mathlib.Core.Path.{_≡_};
 ghost use Prim.Native.Nat.{ℕ, _<_, _≤_};
 ghost use lib.ListN.{length};
@@ -13,18 +11,19 @@ ghost use Rattle.basics.specs.Bounded.{pick};
 ghost use Rattle.basics.specs.Lists.{zeros};
 ghost use Rattle.paths.specs.Graph.{Graph};
 ghost use Rattle.paths.specs.Local.{entry};
-ghost use Rattle.neighbours.specs.Reach.{tableOf, Lent, Here, sumOf};
+ghost use Rattle.neighbours.specs.Reading.{Readable, sumOf};
 ghost use Rattle.counts.specs.Passes.{
   turnOf,
   countOf,
   evenAt,
-  Kept,
+  Filtered,
   Readied,
   Passable,
   Known,
   Passed,
   Filled,
 };
+use moves::Rows;
 use neighbours::Sum;
 
 // A cost in 64 bits, where a sum of two fits.
@@ -32,13 +31,6 @@ fn wide(x: u32) -> u64
     ensures { λ r. ⌜ (r ≡ x) × (r < 4294967296) ⌝ }
 {
     x as u64
-}
-
-// A vertex number of the working slice, as an index.
-fn index(x: u32) -> usize
-    ensures { λ r. ⌜ r ≡ x ⌝ }
-{
-    x as usize
 }
 
 // A test as a number that can be added.
@@ -51,8 +43,8 @@ fn one_if(b: bool) -> usize
     0
 }
 
-// Whether vertex u is on the way to a vertex that costs `whole`.
-fn on_way(d: &[u32], e: &[u32], whole: u32, u: usize) -> bool
+// Whether the costs of vertex u make up `whole`: it is on the way to a vertex that costs as much.
+fn makes_up(d: &[u32], e: &[u32], whole: u32, u: usize) -> bool
     requires { ⌜ (u < length (now d)) × (u < length (now e)) ⌝ }
     ensures { λ r. ⌜ r ≡ evenAt (now (d .entry)) (now (e .entry)) whole u ⌝ }
 {
@@ -64,14 +56,13 @@ fn on_way(d: &[u32], e: &[u32], whole: u32, u: usize) -> bool
 fn keep_on_way(whole: u32, n: usize, d: &[u32], e: &[u32], work: &mut [u32]) -> usize
     requires { ⌜ (n ≤ length (now work)) × (length (now e) ≡ length (now d))
         × ((i : ℕ) → i < n → entry (now work) i < length (now d)) ⌝ }
-    ensures { λ r. ⌜ Kept (evenAt (now (d .entry)) (now (e .entry)) whole) n r
+    ensures { λ r. ⌜ Filtered (evenAt (now (d .entry)) (now (e .entry)) whole) n r
         (now (work .entry)) (now (work .exit)) ⌝ }
 {
     let mut kept: usize = 0;
     for i in 0..n {
-        let u = work[i];
-        work[kept] = u;
-        kept += one_if(on_way(d, e, whole, index(u)));
+        let u = workspace::copy_settled(work, i, kept);
+        kept += one_if(makes_up(d, e, whole, u));
     }
     kept
 }
@@ -82,46 +73,36 @@ fn vertex_of_turn(work: &[u32], n: usize, rev: bool, i: usize) -> usize
     ensures { λ r. ⌜ r ≡ turnOf (now (work .entry)) n rev i ⌝ }
 {
     if rev {
-        return index(work[n - 1 - i]);
+        return workspace::settled_at(work, n - 1 - i);
     }
-    index(work[i])
+    workspace::settled_at(work, i)
 }
 
 // The count from the start of vertex u, which is on the way, by the counts f of the vertices nearer to it: 1 at the
 // start, else a sum over the moves by which a cheapest walk comes to u.
 fn count_of(
-    count: usize,
-    row: &[usize],
-    up: &[usize],
-    down: &[usize],
-    cost: &[u32],
+    rows: Rows,
+    shifts: &[usize],
     mask: u32,
     start: usize,
     d: &[u32],
     f: &[u64],
     u: usize,
 ) -> Sum
-    requires { ⌜ Lent (tableOf count (now row) (now up) (now down) (now cost))
-        × Here (length (now d)) (tableOf count (now row) (now up) (now down) (now cost)) mask u
-        × (length (now f) ≡ length (now d)) ⌝ }
-    ensures { λ r. ⌜ r ≡ sumOf (countOf
-        (tableOf count (now (row .entry)) (now (up .entry)) (now (down .entry)) (now (cost .entry))) mask
-        start (now (d .entry)) (now (f .entry)) u) ⌝ }
+    requires { ⌜ Readable (length (now d)) rows (now shifts) mask u × (length (now f) ≡ length (now d)) ⌝ }
+    ensures { λ r. ⌜ r ≡ sumOf (countOf rows (now (shifts .entry)) mask start (now (d .entry)) (now (f .entry)) u) ⌝ }
 {
     if u == start {
         return Sum::Is(1);
     }
-    neighbours::inflow_at(count, row, up, down, cost, mask, d, f, u)
+    neighbours::inflow_at(rows, shifts, mask, d, f, u)
 }
 
 // Fills f with the counts from the start of the vertices at the n places, those on the way to the goal; false where one
 // does not fit 64 bits.
 fn count_along(
-    count: usize,
-    row: &[usize],
-    up: &[usize],
-    down: &[usize],
-    cost: &[u32],
+    rows: Rows,
+    shifts: &[usize],
     start: usize,
     d: &[u32],
     n: usize,
@@ -129,18 +110,16 @@ fn count_along(
     work: &[u32],
     f: &mut [u64],
 ) -> bool
-    requires { ⌜ Readied (tableOf count (now row) (now up) (now down) (now cost)) n (now d) (now work)
+    requires { ⌜ Readied rows (now shifts) n (now d) (now work)
         × (now f ≡ zeros (length (now d))) ⌝ }
     ensures { λ r. ⌜ ((g : Graph) (goal : ℕ)
-        → Passable g (tableOf count (now (row .entry)) (now (up .entry)) (now (down .entry)) (now (cost .entry)))
-        start goal n rev (now (d .entry)) (now (work .entry))
+        → Passable g rows (now (shifts .entry)) start goal n rev (now (d .entry)) (now (work .entry))
         → Passed g start goal (now (f .exit)) r) ⌝ }
 {
-    let masks = 2 * d.len();
     for i in 0..n {
         let u = vertex_of_turn(work, n, rev, i);
-        let mask = work[masks + u];
-        let Sum::Is(x) = count_of(count, row, up, down, cost, mask, start, d, f, u) else {
+        let mask = workspace::mask_at(work, d.len(), u);
+        let Sum::Is(x) = count_of(rows, shifts, mask, start, d, f, u) else {
             return false;
         };
         f[u] = x;
@@ -152,11 +131,8 @@ fn count_along(
 // leaves both all 0. The pass that fills f cannot fail: its sums are at most the total, which then stands in `back`.
 // Leaves the vertices on the way in the order's place, and the masks as they are.
 pub fn fill_counts(
-    count: usize,
-    row: &[usize],
-    up: &[usize],
-    down: &[usize],
-    cost: &[u32],
+    rows: Rows,
+    shifts: &[usize],
     a: usize,
     b: usize,
     n: usize,
@@ -166,18 +142,16 @@ pub fn fill_counts(
     f: &mut [u64],
     back: &mut [u64],
 ) -> bool
-    requires { ⌜ Readied (tableOf count (now row) (now up) (now down) (now cost)) n (now d) (now work)
+    requires { ⌜ Readied rows (now shifts) n (now d) (now work)
         × (length (now e) ≡ length (now d)) × (a < length (now d)) × (b < length (now d))
         × (now f ≡ zeros (length (now d))) × (now back ≡ zeros (length (now d))) ⌝ }
     ensures { λ r. ⌜ ((g : Graph)
-        → Known g (tableOf count (now (row .entry)) (now (up .entry)) (now (down .entry)) (now (cost .entry)))
-        a b n (now (d .entry)) (now (e .entry)) (now (work .entry))
-        → Filled g (tableOf count (now (row .entry)) (now (up .entry)) (now (down .entry)) (now (cost .entry)))
-        a b r (now (work .exit)) (now (f .exit)) (now (back .exit))) ⌝ }
+        → Known g rows (now (shifts .entry)) a b n (now (d .entry)) (now (e .entry)) (now (work .entry))
+        → Filled g rows (now (shifts .entry)) a b r (now (work .exit)) (now (f .exit)) (now (back .exit))) ⌝ }
 {
     let kept = keep_on_way(d[b], n, d, e, work);
-    if count_along(count, row, up, down, cost, b, e, kept, false, work, back) {
-        return count_along(count, row, up, down, cost, a, d, kept, true, work, f);
+    if count_along(rows, shifts, b, e, kept, false, work, back) {
+        return count_along(rows, shifts, a, d, kept, true, work, f);
     }
     basics::clear_u64(back);
     false

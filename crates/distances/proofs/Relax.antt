@@ -7,7 +7,7 @@
 --   RelaxedOn ..     == so they are on any graph that the loop can run on
 --   relaxed-none     == so are none before the loop
 --   farAt ..         == where a row leads from a vertex by its mask: the vertex itself where that move is shut
---   far-at           == the same for the vertex and the row as the code names them
+--   far-at           == the same for the vertex, its mask and the row as the code reads them
 --   vertex-in        == the vertex that is relaxed is one of the graph's
 --   row-low          == the first row of the class is below 32
 --   reaching         == the far end of the next row can be worked out
@@ -30,7 +30,7 @@ use Rattle.basics.proofs.Bounded.{pick-no}
 use Rattle.moves.specs.declared.Rows.{Rows}
 use Rattle.offsets.specs.declared.Class.{Class}
 use Rattle.moves.specs.Moves.{rowAt}
-use Rattle.offsets.specs.Offsets.{maskedEnd, Movable, shiftedBy}
+use Rattle.offsets.specs.Offsets.{Movable, shiftedBy, rowEnd}
 use Rattle.offsets.specs.Classes.{classRow}
 use Rattle.neighbours.specs.Least.{endOr, endAt}
 use Rattle.paths.specs.Graph.{Graph}
@@ -38,7 +38,9 @@ use Rattle.paths.specs.Distance.{unreachable}
 use Rattle.paths.specs.Local.{entry}
 use Rattle.paths.proofs.Listing.{at-cost}
 use Rattle.paths.proofs.Distance.{snoc}
-use Rattle.distances.specs.Order.{maskAt}
+use Rattle.moves.proofs.Table.{lawful-move}
+use Rattle.neighbours.proofs.Shown.{Shows}
+use Rattle.workspace.specs.Regions.{maskAt}
 use Rattle.distances.specs.Merge.{Given, Ready, KeyWalk, Grown, Relaxing, Relaxed}
 use Rattle.distances.proofs.Store.{last, settled-le, key-low, grown-refl, grown-trans, at-w, grown-more, ready-more}
 use Rattle.distances.proofs.Store.{ready-past, grown-past}
@@ -108,9 +110,9 @@ RelaxedOn shifts c p j key n s d d′ work work′ =
 abbrev pub farAt : (shifts work : List ℕ) (v u k : ℕ) → ℕ
 farAt shifts work v u k = endAt shifts (maskAt v work u) u k
 
-pub far-at : (shifts work : List ℕ) (v : ℕ) {u u′ k k′ x : ℕ} → u′ ≡ u → k′ ≡ k → x ≡ farAt shifts work v u′ k′
-    → x ≡ farAt shifts work v u k
-far-at shifts work v p q e = rw (p, q) at e
+pub far-at : (shifts work : List ℕ) (v : ℕ) {u u′ n k k′ x : ℕ} → u′ ≡ u → n ≡ maskAt v work u′ → k′ ≡ k
+    → x ≡ endAt shifts n u′ k′ → x ≡ farAt shifts work v u k
+far-at shifts work v p m q e = rw (m, p, q) at e
 
 module _ {g : Graph} {r : Rows} {shifts : List ℕ} {c : Class} {a p key n : ℕ} {d work : List ℕ}
     (B : Relaxing g r shifts c a p key n d work) where
@@ -122,6 +124,10 @@ module _ {g : Graph} {r : Rows} {shifts : List ℕ} {c : Class} {a p key n : ℕ
 
   is : mask ≡ maskAt (g .size) work u
   is = ap (λ v. maskAt v work u) (B .ready .settled .d-len)
+
+  -- the steps from u
+  shown : Shows g r shifts (maskAt (g .size) work u) u
+  shown = B .masked .shows u (B .walk .inside)
 
   pub vertex-in : u < length d
   vertex-in = omega (arith, B .walk .inside, B .ready .settled .d-len)
@@ -139,21 +145,28 @@ module _ {g : Graph} {r : Rows} {shifts : List ℕ} {c : Class} {a p key n : ℕ
     k = classRow c j
 
     -- the move of that row
-    move : (m : ℕ) × (m < g .moves) × (rowAt r m ≡ k) × (g .cost m ≡ c .cost)
-    move = B .class .move (B .used) j h
+    move : (m : ℕ) × (m < r .count) × (rowAt r m ≡ k) × (g .cost m ≡ c .cost)
+    move =
+        let m = B .class .move (B .used) j h in (m .0, m .1, m .2, sym (shown .agrees .cost (m .0) (m .1)) ∙ m .3)
+
+    listed : move .0 < g .moves
+    listed = omega (arith, move .1, shown .agrees .moves)
 
     movable : Movable mask u k (shiftedBy shifts k)
-    movable = rw is (rw (move .2) at (B .steps .movable u (move .0) (B .walk .inside) (move .1)))
+    movable = rw is (rw (move .2) at (shown .readable .movable (move .0) (move .1)))
 
     pub row-low : c .row < 32
     row-low = omega (arith, movable .row)
 
     pub reaching : (k < length shifts) × Movable mask u k (shiftedBy shifts k)
-    reaching = (rw (move .2) at (B .table .inside (move .0) (move .1)), movable)
+    reaching =
+        let R = shown .readable in
+        let t = lawful-move r (move .0) (R .lawful) (move .1) .in-table in
+        (omega (arith, rw (move .2) at t, R .shifts-len), movable)
 
     -- a move of that row leads where the mask says
-    leads : (m : ℕ) → m < g .moves → rowAt r m ≡ k → maskedEnd mask u k (shiftedBy shifts k) ≡ g .step m u
-    leads m lt e = rw is (rw e at (B .steps .step u m (B .walk .inside) lt))
+    leads : (m : ℕ) → m < g .moves → rowAt r m ≡ k → rowEnd shifts mask u k ≡ g .step m u
+    leads m lt e = rw is (rw e at (shown .agrees .step m (omega (arith, shown .agrees .moves))))
 
     module _ {x : ℕ} (end : x ≡ farAt shifts work (length d) u k) where
       -- x is the far end, or u itself
@@ -162,12 +175,12 @@ module _ {g : Graph} {r : Rows} {shifts : List ℕ} {c : Class} {a p key n : ℕ
       ends P far shut = cases (g .step (move .0) u) refl
         where
           cases : (t : Option ℕ) → g .step (move .0) u ≡ t → P
-          cases none e = shut e (end ∙ ap (endOr u) (leads (move .0) (move .1) (move .2) ∙ e))
-          cases (some w) e = far w e (end ∙ ap (endOr u) (leads (move .0) (move .1) (move .2) ∙ e))
+          cases none e = shut e (end ∙ ap (endOr u) (leads (move .0) listed (move .2) ∙ e))
+          cases (some w) e = far w e (end ∙ ap (endOr u) (leads (move .0) listed (move .2) ∙ e))
 
       far-inside : x < g .size
       far-inside = ends (x < g .size)
-          (λ w e q. omega (arith, B .lawful .inside (move .0) u w (move .1) (B .walk .inside) e))
+          (λ w e q. omega (arith, B .lawful .inside (move .0) u w listed (B .walk .inside) e))
           (λ e q. omega (arith, B .walk .inside))
 
       module _ {s : ℕ} {d′ work′ : List ℕ} (P : RelaxedTo g r a u c j key n s d d′ work work′) where
@@ -186,7 +199,7 @@ module _ {g : Graph} {r : Rows} {shifts : List ℕ} {c : Class} {a p key n : ℕ
         given : {o : ℕ} {d″ work″ : List ℕ} → Given x key s o d′ d″ work′ work″
             → Offered g a x key s o d′ d″ work′ work″
         given {o} {d″} {work″} G = ends (Offered g a x key s o d′ d″ work′ work″)
-            (λ w e q. offered (P .ready) far-inside (move .1) (e ∙ ap some (sym q))
+            (λ w e q. offered (P .ready) far-inside listed (e ∙ ap some (sym q))
             (subst (λ z. KeyWalk g a u z key) (sym (move .3)) (B .walk)) G)
             (λ e q. offered-known (P .ready) far-inside (λ z. omega (arith, known, ap (entry d′) q)) G)
 

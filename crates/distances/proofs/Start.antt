@@ -19,14 +19,15 @@ use Rattle.basics.proofs.Order.{eq-or-ne}
 use Rattle.basics.proofs.Bounded.{pick-no}
 use Rattle.moves.specs.declared.Rows.{Rows}
 use Rattle.offsets.specs.declared.Class.{Class}
-use Rattle.offsets.specs.Classes.{Member, classAt}
+use Rattle.moves.specs.Moves.{moveAt}
+use Rattle.offsets.specs.Classes.{classCount, Member, CostClass, Classes, classAt}
 use Rattle.paths.specs.Graph.{Graph}
 use Rattle.paths.specs.Distance.{unreachable}
 use Rattle.paths.specs.Local.{entry}
 use Rattle.paths.proofs.Listing.{HasWalk, stop}
-use Rattle.distances.specs.Merge.{reached, OneCost, CostClasses, Settled, Merging, Mergeable}
+use Rattle.workspace.proofs.Regions.{masked-kept}
+use Rattle.distances.specs.Merge.{reached, Settled, Merging, Mergeable}
 use Rattle.distances.proofs.Store.{reached-set}
-use Rattle.distances.proofs.Turn.{steps-same}
 
 pub record First (v : ℕ) (c : Class) (p : ℕ) : Type 0 where
   pub zeroth : 0 < c .cost → p ≡ 0
@@ -93,7 +94,7 @@ module _ (g : Graph) (a : ℕ) (work : List ℕ) (few : g .size ≤ 16384) (i : 
   }
 
   merging-first : (r : Rows) (l : List Class) (pos d : List ℕ) → d ≡ none
-      → ((k : ℕ) → k < 2 → First (g .size) (classAt l k) (getD pos k 0))
+      → ((k : ℕ) → k < classCount → First (g .size) (classAt l k) (getD pos k 0))
       → Merging g r a 1 l pos (set d a 0) work₀ work₀
   merging-first r l pos d e firsts = rw e (record {
     settled = settled-start;
@@ -110,22 +111,21 @@ pub start-rest : {v : ℕ} (work : List ℕ) (a j : ℕ) → v < j → entry (se
 start-rest work a j h = getD-set-other work 0 j a 0 (λ e. omega arith)
 
 pub two-first : {v : ℕ} (c₀ c₁ : Class) (p q : ℕ) → First v c₀ p → First v c₁ q
-    → (k : ℕ) → k < 2 → First v (classAt (c₀ ∷ c₁ ∷ []) k) (getD (p ∷ q ∷ []) k 0)
+    → (k : ℕ) → k < classCount → First v (classAt (c₀ ∷ c₁ ∷ []) k) (getD (p ∷ q ∷ []) k 0)
 two-first c₀ c₁ p q x y zero h = x
 two-first c₀ c₁ p q x y (suc zero) h = y
 two-first c₀ c₁ p q x y (suc (suc k)) h = absurd (omega arith)
 
 -- the classes of an array, read one by one
-classes-read : {g : Graph} {r : Rows} {l : List Class} → CostClasses g r l
-    → CostClasses g r (classAt l 0 ∷ classAt l 1 ∷ [])
-classes-read {g} {r} {l} C = record {
-  each = λ k h. subst (OneCost g r) (sym (same k h)) (C .each k h);
+classes-read : {r : Rows} {l : List Class} → Classes r l → Classes r (classAt l 0 ∷ classAt l 1 ∷ [])
+classes-read {r} {l} C = record {
+  each = λ k h. subst (CostClass r) (sym (same k h)) (C .each k h);
   covers = λ m lt. let q = C .covers m lt in
       let e = sym (same (q .0) (q .1)) in
-      (q .0, q .1, subst (λ c. Member r c m) e (q .2), subst (λ (c : Class). g .cost m ≡ c .cost) e (q .3));
+      (q .0, q .1, subst (λ c. Member r c m) e (q .2), subst (λ (c : Class). moveAt r m .cost ≡ c .cost) e (q .3));
 }
   where
-    same : (k : ℕ) → k < 2 → classAt (classAt l 0 ∷ classAt l 1 ∷ []) k ≡ classAt l k
+    same : (k : ℕ) → k < classCount → classAt (classAt l 0 ∷ classAt l 1 ∷ []) k ≡ classAt l k
     same zero h = refl
     same (suc zero) h = refl
     same (suc (suc k)) h = absurd (omega arith)
@@ -136,8 +136,7 @@ module _ {g : Graph} {r : Rows} {shifts : List ℕ} {l : List Class} {a : ℕ} w
   mergeable-start {work = work} d′ M same = record {
     few = M .few;
     lawful = M .lawful;
-    table = M .table;
-    steps = steps-same (M .steps) (start-rest work a);
+    masked = masked-kept (M .masked) (start-rest work a);
     classes = classes-read (M .classes);
     source = M .source;
     d-len = length-set d′ a 0 ∙ same ∙ M .d-len;
@@ -145,7 +144,7 @@ module _ {g : Graph} {r : Rows} {shifts : List ℕ} {l : List Class} {a : ℕ} w
   }
 
   pub merging-start : (v : ℕ) (pos d work : List ℕ) → Mergeable g r shifts l a (set d a 0) (set work 0 a)
-      → d ≡ replicate v unreachable → ((k : ℕ) → k < 2 → First (length (set d a 0)) (classAt l k) (getD pos k 0))
+      → d ≡ replicate v unreachable → ((k : ℕ) → k < classCount → First (length (set d a 0)) (classAt l k) (getD pos k 0))
       → Merging g r a 1 l pos (set d a 0) (set work 0 a) (set work 0 a)
   merging-start v pos d work M e firsts =
       let size : v ≡ g .size =

@@ -23,7 +23,7 @@ use Rattle.paths.specs.Graph.{Graph}
 use Rattle.paths.specs.Distance.{unreachable}
 use Rattle.paths.specs.Local.{entry}
 use Rattle.paths.proofs.Listing.{HasWalk}
-use Rattle.distances.specs.Order.{Ordered}
+use Rattle.workspace.specs.Regions.{Ordered}
 use Rattle.distances.specs.Merge.{reached, Settled, Ready, Grown}
 
 one-or-none : (b : Bool) → pick b 1 0 ≤ 1

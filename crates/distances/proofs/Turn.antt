@@ -3,7 +3,6 @@
 --   key-in, key-out       == the key of a place that is settled, and of one that is not
 --   keyed                 == the keys can be worked out
 --   key-most              == and are at most `unreachable`
---   steps-same            == masks past the order are as they were, so they give the same steps
 --   passed-same           == a position that stays
 --   passed-next           == the position that moves on by one
 --   Least ..              == position k has the least key
@@ -28,15 +27,14 @@ use Rattle.basics.proofs.Lists.{tabulate-of}
 use Rattle.basics.proofs.Bounded.{pick-yes, pick-no}
 use Rattle.moves.specs.declared.Rows.{Rows}
 use Rattle.offsets.specs.declared.Class.{Class}
-use Rattle.moves.specs.Moves.{rowAt}
-use Rattle.offsets.specs.Offsets.{maskedEnd, Movable, shiftedBy}
-use Rattle.offsets.specs.Classes.{Member, classAt}
+use Rattle.offsets.specs.Classes.{classCount, Member, CostClass, classAt}
 use Rattle.paths.specs.Graph.{Graph}
 use Rattle.paths.specs.Distance.{unreachable, distance}
 use Rattle.paths.specs.Local.{entry}
 use Rattle.paths.proofs.Costs.{walked-true}
-use Rattle.distances.specs.Order.{maskAt, SettledCosts}
-use Rattle.distances.specs.Merge.{keyOf, Keyed, RowSteps, OneCost, Settled, Ready, Grown}
+use Rattle.workspace.proofs.Regions.{masked-kept}
+use Rattle.distances.specs.Costs.{SettledCosts}
+use Rattle.distances.specs.Merge.{keyOf, Keyed, Settled, Ready, Grown}
 use Rattle.distances.specs.Merge.{Relaxing, Relaxed, Passed, Merging, Mergeable, remaining}
 use Rattle.distances.proofs.Store.{last, settled-le}
 
@@ -61,20 +59,6 @@ keyed S = record {
 pub key-most : (n p c : ℕ) (d work : List ℕ) → Keyed n d work → c ≤ 4095 → keyOf n p c d work ≤ unreachable
 key-most n p c d work K low = ⊎-elim (λ h. omega (arith, key-in n p c d work h, K .small p h))
     (λ h. omega (arith, key-out n p c d work (omega arith))) (le-or-lt (suc p) n)
-
--- ---- the masks
-
-pub steps-same : {g : Graph} {r : Rows} {shifts work₀ work : List ℕ} → RowSteps g r shifts work₀
-    → ((i : ℕ) → g .size < i → entry work i ≡ entry work₀ i) → RowSteps g r shifts work
-steps-same {g} {r} {shifts} {work₀} {work} M same = record {
-  movable = λ u m i lt.
-      subst (λ z. Movable z u (rowAt r m) (shiftedBy shifts (rowAt r m))) (sym (kept u i)) (M .movable u m i lt);
-  step = λ u m i lt.
-      ap (λ z. maskedEnd z u (rowAt r m) (shiftedBy shifts (rowAt r m))) (kept u i) ∙ M .step u m i lt;
-}
-  where
-    kept : (u : ℕ) → u < g .size → maskAt (g .size) work u ≡ maskAt (g .size) work₀ u
-    kept u i = same (2 * g .size + u) (omega arith)
 
 -- ---- the positions
 
@@ -123,9 +107,9 @@ module _ {g : Graph} {a n s key : ℕ} {d d′ work work′ : List ℕ} (S : Set
 -- ---- the least key
 
 pub record Least (n k key : ℕ) (l : List Class) (pos d work : List ℕ) : Type 0 where
-  pub one : k < 2
+  pub one : k < classCount
   pub is : key ≡ keyOf n (getD pos k 0) (classAt l k .cost) d work
-  pub least : (j : ℕ) → j < 2 → key ≤ keyOf n (getD pos j 0) (classAt l j .cost) d work
+  pub least : (j : ℕ) → j < classCount → key ≤ keyOf n (getD pos j 0) (classAt l j .cost) d work
 
 -- The two keys, as the code works them out.
 pub record Keys (n k0 k1 : ℕ) (l : List Class) (pos d work : List ℕ) : Type 0 where
@@ -133,11 +117,11 @@ pub record Keys (n k0 k1 : ℕ) (l : List Class) (pos d work : List ℕ) : Type 
   pub at-1 : k1 ≡ keyOf n (getD pos 1 0) (classAt l 1 .cost) d work
 
 module _ {n k0 k1 key : ℕ} {l : List Class} {pos d work : List ℕ} (K : Keys n k0 k1 l pos d work) where
-  pub least-of : (k : ℕ) → k < 2 → key ≡ keyOf n (getD pos k 0) (classAt l k .cost) d work
+  pub least-of : (k : ℕ) → k < classCount → key ≡ keyOf n (getD pos k 0) (classAt l k .cost) d work
       → key ≤ k0 → key ≤ k1 → Least n k key l pos d work
   least-of k h is l0 l1 = record { one = h; is = is; least = each }
     where
-      each : (j : ℕ) → j < 2 → key ≤ keyOf n (getD pos j 0) (classAt l j .cost) d work
+      each : (j : ℕ) → j < classCount → key ≤ keyOf n (getD pos j 0) (classAt l j .cost) d work
       each zero h = omega (arith, K .at-0)
       each (suc zero) h = omega (arith, K .at-1)
       each (suc (suc j)) h = absurd (omega arith)
@@ -188,7 +172,7 @@ module _ {g : Graph} {r : Rows} {shifts : List ℕ} {a n k key : ℕ} {l : List 
       key-is : key ≡ entry d (entry work p) + c .cost
       key-is = T .is ∙ key-in n p (c .cost) d work before-end
 
-      one-cost : OneCost g r c
+      one-cost : CostClass r c
       one-cost = M .classes .each k (T .one)
 
       used : 0 < c .cost
@@ -198,8 +182,7 @@ module _ {g : Graph} {r : Rows} {shifts : List ℕ} {a n k key : ℕ} {l : List 
       relaxing : Relaxing g r shifts c a p key n d work
       relaxing = let S = K .settled in let i = S .ordered .inside p before-end in record {
         lawful = M .lawful;
-        table = M .table;
-        steps = steps-same (M .steps) (K .rest);
+        masked = masked-kept (M .masked) (K .rest);
         class = one-cost;
         used = used;
         ready = record {
@@ -216,7 +199,7 @@ module _ {g : Graph} {r : Rows} {shifts : List ℕ} {a n k key : ℕ} {l : List 
         };
       }
 
-      merging-next : {s : ℕ} {d′ work′ : List ℕ} → length pos ≡ 2
+      merging-next : {s : ℕ} {d′ work′ : List ℕ} → length pos ≡ classCount
           → Relaxed g r a (entry work p) c key n s d d′ work work′
           → Merging g r a s l (set pos k (p + 1)) d′ work₀ work′
       merging-next {s} {d′} {work′} len P = record {
@@ -233,11 +216,11 @@ module _ {g : Graph} {r : Rows} {shifts : List ℕ} {a n k key : ℕ} {l : List 
               (passed-next (K .settled) (P .ready) (P .grown) (one-cost .high) (K .passed k (T .one)) before-end key-is
               (P .relaxed))
 
-          stayed : (j : ℕ) → j < 2 → Passed g r s (classAt l j) (getD pos j 0) d′ work′
+          stayed : (j : ℕ) → j < classCount → Passed g r s (classAt l j) (getD pos j 0) d′ work′
           stayed j h =
               passed-same (K .settled) (P .ready) (P .grown) (M .classes .each j h .high) (K .passed j h) (T .least j h)
 
-      pub turn : length pos ≡ 2 → Turn g r shifts a n k key l pos d₀ d work₀ work
+      pub turn : length pos ≡ classCount → Turn g r shifts a n k key l pos d₀ d work₀ work
       turn len = record {
         relaxing = relaxing;
         small = omega (arith, before-all, K .settled .few);
@@ -248,7 +231,7 @@ module _ {g : Graph} {r : Rows} {shifts : List ℕ} {a n k key : ℕ} {l : List 
     -- ---- the end
 
     module _ (end : key ≡ unreachable) where
-      all-passed : (j : ℕ) → j < 2 → n ≤ getD pos j 0
+      all-passed : (j : ℕ) → j < classCount → n ≤ getD pos j 0
       all-passed j h = ⊎-elim (λ le. le)
           (λ lt. let S = K .settled in let q = getD pos j 0 in absurd (omega (
             arith,
@@ -265,13 +248,16 @@ module _ {g : Graph} {r : Rows} {shifts : List ℕ} {a n k key : ℕ} {l : List 
       relaxed-end m u w lt i st = ⊎-elim
           (λ h. omega (arith, K .settled .at-most w (M .lawful .inside m u w lt i st)))
           (λ h.
-          let q = M .classes .covers m lt in
+          let at-u = M .masked .shows u i .agrees in
+          let lt′ : m < r .count = omega (arith, at-u .moves) in
+          let q = M .classes .covers m lt′ in
+          let cost : g .cost m ≡ classAt l (q .0) .cost = sym (at-u .cost m lt′) ∙ q .3 in
           let f = K .settled .ordered .found u i h in
           let past : f .0 < getD pos (q .0) 0 = omega (arith, f .1, all-passed (q .0) (q .1)) in
-          let some-cost : 0 < classAt l (q .0) .cost = omega (arith, q .3, M .lawful .low m lt) in
+          let some-cost : 0 < classAt l (q .0) .cost = omega (arith, M .lawful .low m lt) in
           let goes = ap (λ z. g .step m z) (f .2) ∙ st in
           let x = K .passed (q .0) (q .1) .relaxed some-cost (f .0) m w past (q .2) lt goes in
-          omega (arith, x, ap (entry d) (f .2), q .3))
+          omega (arith, x, ap (entry d) (f .2)))
           (le-or-lt unreachable (entry d u))
 
       pub filled : {start : List ℕ} → ((i : ℕ) → g .size < i → entry work₀ i ≡ entry start i)

@@ -1,2 +1,2 @@
-pub mod Order
+pub mod Costs
 pub mod Merge

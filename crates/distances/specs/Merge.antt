@@ -6,10 +6,6 @@
 --   Given ..                 == what an offer stores: the cost, and the vertex at the end of the order
 --   keyOf n p c d work       == the key of place p of the order for moves of cost c; `unreachable` past the n settled
 --   Keyed n d work           == the keys of the first n places can be worked out
---   Table g r shifts         == the list of shifts has a place for the row of every move
---   RowSteps g r shifts ..   == the masks, with the shifts of the rows, give the steps of the graph g
---   OneCost g r c            == where class c has moves, its four rows are rows of moves of g, which all have its cost
---   CostClasses g r l        == the two classes of l have every move of g
 --   reached l                == how many costs of the list l are below `unreachable`
 --   Settled g a n d work     == n vertices have a cost, each that of a walk from a; they stand in order
 --   Ready ..                 == they cost at most key, which may be given to more
@@ -30,14 +26,12 @@ use lib.ListN.{length, getD, set}
 use Rattle.basics.specs.Bounded.{pick}
 use Rattle.offsets.specs.declared.Class.{Class}
 use Rattle.moves.specs.declared.Rows.{Rows}
-use Rattle.moves.specs.Moves.{rowAt}
-use Rattle.offsets.specs.Offsets.{maskedEnd, Movable, shiftedBy}
-use Rattle.offsets.specs.Classes.{Member, classAt, classRow}
+use Rattle.offsets.specs.Classes.{classCount, Member, CostClass, Classes, classAt}
 use Rattle.paths.specs.Graph.{Graph, Lawful}
 use Rattle.paths.specs.Distance.{unreachable}
 use Rattle.paths.specs.Local.{entry}
 use Rattle.paths.proofs.Listing.{HasWalk}
-use Rattle.distances.specs.Order.{Ordered, maskAt}
+use Rattle.workspace.specs.Regions.{Ordered, Masked}
 
 -- ---- one vertex
 
@@ -61,27 +55,6 @@ pub record Keyed (n : ℕ) (d work : List ℕ) : Type 0 where
   pub room : n ≤ length work
   pub inside : (i : ℕ) → i < n → entry work i < length d
   pub small : (i : ℕ) → i < n → entry d (entry work i) + 4095 < unreachable
-
--- ---- the moves
-
-pub record Table (g : Graph) (r : Rows) (shifts : List ℕ) : Type 0 where
-  pub inside : (m : ℕ) → m < g .moves → rowAt r m < length shifts
-
-pub record RowSteps (g : Graph) (r : Rows) (shifts work : List ℕ) : Type 0 where
-  pub movable : (u m : ℕ) → u < g .size → m < g .moves
-      → Movable (maskAt (g .size) work u) u (rowAt r m) (shiftedBy shifts (rowAt r m))
-  pub step : (u m : ℕ) → u < g .size → m < g .moves
-      → maskedEnd (maskAt (g .size) work u) u (rowAt r m) (shiftedBy shifts (rowAt r m)) ≡ g .step m u
-
-pub record OneCost (g : Graph) (r : Rows) (c : Class) : Type 0 where
-  pub high : c .cost ≤ 4095
-  pub move : 0 < c .cost → (j : ℕ) → j < 4
-      → (m : ℕ) × (m < g .moves) × (rowAt r m ≡ classRow c j) × (g .cost m ≡ c .cost)
-
-pub record CostClasses (g : Graph) (r : Rows) (l : List Class) : Type 0 where
-  pub each : (k : ℕ) → k < 2 → OneCost g r (classAt l k)
-  pub covers : (m : ℕ) → m < g .moves
-      → (k : ℕ) × (k < 2) × Member r (classAt l k) m × (g .cost m ≡ classAt l k .cost)
 
 -- ---- the settled vertices
 
@@ -125,9 +98,8 @@ pub record Grown (v n r key : ℕ) (d d′ work work′ : List ℕ) : Type 0 whe
 pub record Relaxing (g : Graph) (r : Rows) (shifts : List ℕ) (c : Class) (a p key n : ℕ) (d work : List ℕ)
     : Type 0 where
   pub lawful : Lawful g
-  pub table : Table g r shifts
-  pub steps : RowSteps g r shifts work
-  pub class : OneCost g r c
+  pub masked : Masked g r shifts work
+  pub class : CostClass r c
   pub used : 0 < c .cost
   pub ready : Ready g a n key d work
   pub place : p < n
@@ -151,15 +123,14 @@ pub record Passed (g : Graph) (r : Rows) (n : ℕ) (c : Class) (p : ℕ) (d work
 
 pub record Merging (g : Graph) (r : Rows) (a n : ℕ) (l : List Class) (pos d work₀ work : List ℕ) : Type 0 where
   pub settled : Settled g a n d work
-  pub passed : (k : ℕ) → k < 2 → Passed g r n (classAt l k) (getD pos k 0) d work
+  pub passed : (k : ℕ) → k < classCount → Passed g r n (classAt l k) (getD pos k 0) d work
   pub rest : (i : ℕ) → g .size < i → entry work i ≡ entry work₀ i
 
 pub record Mergeable (g : Graph) (r : Rows) (shifts : List ℕ) (l : List Class) (a : ℕ) (d work : List ℕ) : Type 0 where
   pub few : g .size ≤ 16384
   pub lawful : Lawful g
-  pub table : Table g r shifts
-  pub steps : RowSteps g r shifts work
-  pub classes : CostClasses g r l
+  pub masked : Masked g r shifts work
+  pub classes : Classes r l
   pub source : a < g .size
   pub d-len : length d ≡ g .size
   pub work-len : length work ≡ 4 * g .size

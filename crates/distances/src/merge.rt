@@ -8,19 +8,12 @@ ghost use lib.ListN.{length};
 ghost use Rattle.moves.specs.declared.Rows.{Rows};
 ghost use Rattle.paths.specs.Graph.{Graph};
 ghost use Rattle.paths.specs.Local.{entry};
-ghost use Rattle.distances.specs.Order.{SettledCosts};
+ghost use Rattle.distances.specs.Costs.{SettledCosts};
 ghost use Rattle.distances.specs.Merge.{costGiven, countGiven, Given, keyOf, Keyed};
 ghost use Rattle.offsets.specs.declared.Class.{Class};
 ghost use Rattle.distances.specs.Merge.{Relaxing, Relaxed, Mergeable};
 use floor::Vertex;
 use offsets::Class;
-
-// A number of 32 bits as a usize.
-fn wide(x: u32) -> usize
-    ensures { λ r. ⌜ r ≡ x ⌝ }
-{
-    x as usize
-}
 
 // The cost c after key was offered: the key where there was none.
 fn cost_given(c: u32, key: u32) -> u32
@@ -73,11 +66,11 @@ fn relax_class(
         → Relaxed g r a (entry (now (work .entry)) p) class key n s (now (d .entry)) (now (d .exit))
         (now (work .entry)) (now (work .exit))) ⌝ }
 {
-    let u = Vertex(wide(work[p]));
-    let mask = work[2 * d.len() + u.0];
+    let u = Vertex(workspace::settled_at(work, p));
+    let mask = workspace::mask_at(work, d.len(), u.0);
     let mut k = n;
     for j in 0..4 {
-        let x = neighbours::end_or_self(mask, u, offsets::row_of(class, j), shifts);
+        let x = neighbours::end_or_self(mask, u, offsets::class_row(class, j), shifts);
         k = offer(x.0, key, k, d, work);
     }
     k
@@ -91,7 +84,7 @@ fn key_at(n: usize, p: usize, c: u32, d: &[u32], work: &[u32]) -> u32
     if n <= p {
         return paths::UNREACHABLE;
     }
-    let u = wide(work[p]);
+    let u = workspace::settled_at(work, p);
     d[u] + c
 }
 
@@ -106,10 +99,10 @@ fn first_place(class: Class, v: usize) -> usize
 }
 
 // Fills d with the costs from a, and the beginning of `work` with the vertices that have one, by rising cost; answers
-// how many those are. Each turn moves one position on by one place, so there are at most two turns for a vertex.
+// how many those are. Each turn moves one position on by one place, so a vertex has at most one turn for each class.
 pub fn settle(
     shifts: &[usize],
-    classes: [Class; 2],
+    classes: [Class; offsets::CLASSES],
     a: usize,
     d: &mut [u32],
     work: &mut [u32],

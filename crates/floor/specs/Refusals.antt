@@ -6,6 +6,7 @@
 --   floorShape w h l   == refusals 1 to 3 of a floor, in order: the sides, the map's length, its bytes
 --   endShape w h v     == refusal 5 of one end
 --   andThen s t        == the shape s, and t where s is good: the first refusal that applies
+--   leftBy s x y       == what a call leaves whose refusals are the shape s: x where it is good, y at a refusal
 use Prim.Native.Nat.{ℕ, _*_}
 use mathlib.Core.Bool.{Bool, _&&_}
 use mathlib.Core.List.{List}
@@ -50,6 +51,10 @@ refusalNumber SlotEmpty = 14
 abbrev pub andThen : Shape → Shape → Shape
 andThen Good t = t
 andThen (Refused r) t = Refused r
+
+abbrev pub leftBy : {A : Type 0} → Shape → A → A → A
+leftBy Good x y = x
+leftBy (Refused r) x y = y
 
 -- A side is 1 to 127.
 abbrev pub side : ℕ → Bool

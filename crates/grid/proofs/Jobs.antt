@@ -2,6 +2,7 @@
 --
 --   FitJob ..   == a floor, neighbourhood and ends of good shape
 --   job-fit     == `jobOf` answers `Fit` of just those
+--   good-job    == so such a job is good
 use Prim.Native.Nat.{ℕ, _<_}
 use mathlib.Core.Path.{_≡_, refl}
 use mathlib.Core.Bool.{true}
@@ -21,6 +22,7 @@ use Rattle.moves.specs.Moves.{neighbourhoodOf}
 use Rattle.moves.specs.Table.{Listed, lawfulRows}
 use Rattle.moves.proofs.Table.{listed-lawful}
 use Rattle.grid.specs.Grid.{orUnfit, withRows, jobOf}
+use Rattle.grid.specs.Known.{GoodJob}
 use Rattle.grid.specs.declared.Job.{Job}
 use Rattle.grid.specs.declared.Job.the-variants.{Fit, Unfit}
 
@@ -58,6 +60,11 @@ module _ (w h : ℕ) (l : List ℕ) (nb a b : ℕ) where
             start = good-end w h a i;
             end = good-end w h b j;
           }
+
+  pub good-job : (r : Rows) → jobOf w h l nb a b ≡ Fit r → GoodJob w h l r a b
+  good-job r e =
+      let j = job-fit r e in
+      record { sized = j .floor .sized; listed = j .listed; start-in = j .start; goal-in = j .end }
 
   -- What the code answers, test by test.
   pub unfit-floor : (s : Refusal) → floorShape w h l ≡ Refused s → Unfit s ≡ jobOf w h l nb a b

@@ -1,6 +1,7 @@
 -- A floor with a neighbourhood as a graph, and the shape of a job: refusals 1 to 5.
 --
---   floorGraph f r       == the graph of floor f with the moves of the neighbourhood whose rows are r
+--   tableGraph f n M     == the graph of floor f with the moves M 0, .. M (n - 1)
+--   floorGraph f r       == the same with the moves of the neighbourhood whose rows are r
 --   jobOf w h l nb a b   == `Fit` with the rows of the neighbourhood where floor, neighbourhood and both ends have a
 --                           good shape, else the first refusal of 1 to 5 that applies
 use Prim.Native.Nat.{ℕ}
@@ -10,6 +11,7 @@ use Rattle.floor.specs.Refusals.{floorShape, endShape, andThen}
 use Rattle.floor.specs.declared.Refusal.the-variants.{Neighbourhood as BadNeighbourhood}
 use Rattle.floor.specs.declared.Shape.{Shape}
 use Rattle.floor.specs.declared.Shape.the-variants.{Good, Refused}
+use Rattle.moves.specs.declared.Move.{Move}
 use Rattle.moves.specs.declared.Rows.{Rows}
 use Rattle.moves.specs.declared.Neighbourhood.{Neighbourhood}
 use Rattle.moves.specs.declared.Neighbourhood.the-variants.{Known, Unknown}
@@ -19,13 +21,16 @@ use Rattle.paths.specs.Graph.{Graph}
 use Rattle.grid.specs.declared.Job.{Job}
 use Rattle.grid.specs.declared.Job.the-variants.{Fit, Unfit}
 
-abbrev pub floorGraph : Floor → Rows → Graph
-floorGraph f r = record {
+abbrev pub tableGraph : Floor → ℕ → (ℕ → Move) → Graph
+tableGraph f n M = record {
   size = vertices (f .wide) (f .high);
-  moves = r .count;
-  cost = λ m. moveAt r m .cost;
-  step = λ m v. openEnd f (moveAt r m) v;
+  moves = n;
+  cost = λ m. M m .cost;
+  step = λ m v. openEnd f (M m) v;
 }
+
+abbrev pub floorGraph : Floor → Rows → Graph
+floorGraph f r = tableGraph f (r .count) (moveAt r)
 
 -- The job j where the shape is good, else the refusal.
 abbrev pub orUnfit : Shape → Job → Job

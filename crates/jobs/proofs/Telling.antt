@@ -11,7 +11,6 @@ use mathlib.Core.Bool.{Bool, true, false}
 use mathlib.Core.List.{List}
 use native.Mathlib.Omega.{arith}
 use native.Mathlib.Nat.{mul-le-mul}
-use borrow.Author.Tests.{eq-eqb}
 use lib.ListN.{length}
 use Rattle.basics.specs.Bounded.{pick}
 use Rattle.basics.specs.Lists.{padded}
@@ -37,19 +36,20 @@ use Rattle.planner.specs.Plan.{
   routeLeft,
   slicesSized,
   answered,
-  leftBy,
+  jobLeft,
   planAnswer,
   planLeft,
   Plans,
 }
 use Rattle.planner.specs.declared.Planned.{Planned}
 use Rattle.planner.specs.declared.Planned.the-variants.{Found, Refused}
+use Rattle.planner.proofs.Shaped.{full-sized}
 use Rattle.thinning.specs.Thinning.{keptPositions, joinedList}
 use Rattle.records.specs.Lines.{refusedLine, Written}
 use Rattle.records.specs.declared.stream.JobRecord.{JobRecord}
 use Rattle.records.proofs.Writing.{written-as}
 use Rattle.jobs.specs.Text.{routeText, answerText, answerOf, pointsOf, jobText}
-use Rattle.jobs.specs.Contract.{Lent, Ready, answerKept, keptLeft, Told, Routable, RouteTold}
+use Rattle.jobs.specs.Contract.{JobSlices, Ready, answerKept, keptLeft, Told, Routable, RouteTold}
 use Rattle.jobs.proofs.Start.{written-size, written-take}
 use Rattle.jobs.proofs.Central.{central-length, central-joined, kept-padded, route-padded}
 
@@ -60,17 +60,8 @@ pub plans-as : {w h : ℕ} {map : List ℕ} {nb a b : ℕ} {s s' : Slices} {r x 
     → Plans w h map nb a b s r s' → Plans w h map nb a b s x s'
 plans-as e p = record { answer = sym e ∙ p .answer; left = p .left }
 
-slices-sized : {v : ℕ} {s : Slices} {kept : List ℕ} → Lent v s kept → slicesSized v s ≡ true
-unfolding slicesSized
-slices-sized {v} {s} {kept} l =
-    rw (
-      eq-eqb (length (s .d)) v (l .d-len),
-      eq-eqb (length (s .e)) v (l .e-len),
-      eq-eqb (length (s .f)) v (l .f-len),
-      eq-eqb (length (s .b)) v (l .back-len),
-      eq-eqb (length (s .route)) v (l .route-len),
-      eq-eqb (length (s .work)) (4 * v) (l .work-len),
-    )
+slices-sized : {v : ℕ} {s : Slices} {kept : List ℕ} → JobSlices v s kept → slicesSized v s ≡ true
+slices-sized l = full-sized (l .full)
 
 answered-is : (w h : ℕ) (map : List ℕ) (a b : ℕ) (s : Slices) → slicesSized (vertices w h) s ≡ true → (shape : Job)
     → answered w h map a b s shape ≡ answerOf (floorOf w h map) a b shape
@@ -146,7 +137,7 @@ found-route {w} {h} {map} {nb} {a} {b} {c} {t} {n} {s} {s'} e p =
     cases (jobOf w h map nb a b) refl (p .answer) (p .left)
   where
     cases : (shape : Job) → jobOf w h map nb a b ≡ shape → Found c t n ≡ answered w h map a b s shape
-        → s' ≡ leftBy w h map a b s shape → FoundRoute w h map nb a b n (s' .route)
+        → s' ≡ jobLeft w h map a b s shape → FoundRoute w h map nb a b n (s' .route)
     cases (Fit rows) q u v =
         let g : Graph = floorGraph (floorOf w h map) rows in
         let r = route-of g a b c t n s' (rw e at u) (rw e at v) in

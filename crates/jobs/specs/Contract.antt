@@ -1,7 +1,7 @@
 -- What the functions of this crate are handed, and what they leave.
 --
 --   SmallFloor w h map   == a floor of good shape with sides of at most 31 cells
---   Lent v ..            == the sheet's slices and the slice of kept positions have v places, the working slice 4 * v
+--   JobSlices v ..       == the sheet's slices and the slice of kept positions have v places, the working slice 4 * v
 --   roomOf v             == the bytes that the lines of a job on v vertices may take: 160 for the route line, 6 for
 --                           each vertex of the next and 3 for its word and its end
 --   Ready ..             == a small floor, the slices lent for it, and room for the lines
@@ -30,6 +30,7 @@ use Rattle.floor.specs.Floor.{Floor, floorOf, vertices}
 use Rattle.floor.specs.Refusals.{floorShape}
 use Rattle.floor.specs.declared.Shape.the-variants.{Good}
 use Rattle.grid.specs.Grid.{jobOf}
+use Rattle.planner.specs.Parts.{FullSlices}
 use Rattle.planner.specs.Plan.{Slices, planLeft}
 use Rattle.planner.specs.declared.Planned.{Planned}
 use Rattle.planner.specs.declared.Planned.the-variants.{Found, Refused}
@@ -48,13 +49,8 @@ pub record SmallFloor (w h : ℕ) (map : List ℕ) : Type 0 where
   pub wide : w ≤ 31
   pub high : h ≤ 31
 
-pub record Lent (v : ℕ) (s : Slices) (kept : List ℕ) : Type 0 where
-  pub d-len : length (s .d) ≡ v
-  pub e-len : length (s .e) ≡ v
-  pub f-len : length (s .f) ≡ v
-  pub back-len : length (s .b) ≡ v
-  pub route-len : length (s .route) ≡ v
-  pub work-len : length (s .work) ≡ 4 * v
+pub record JobSlices (v : ℕ) (s : Slices) (kept : List ℕ) : Type 0 where
+  pub full : FullSlices v (s .d) (s .e) (s .f) (s .b) (s .route) (s .work)
   pub kept-len : length kept ≡ v
 
 abbrev pub roomOf : ℕ → ℕ
@@ -62,7 +58,7 @@ roomOf v = 160 + (3 + 6 * v)
 
 pub record Ready (w h : ℕ) (map : List ℕ) (s : Slices) (kept out : List ℕ) : Type 0 where
   pub floor : SmallFloor w h map
-  pub lent : Lent (vertices w h) s kept
+  pub lent : JobSlices (vertices w h) s kept
   pub room : roomOf (vertices w h) ≤ length out
 
 abbrev pub answerKept : Floor → List ℕ → List ℕ → Planned → List ℕ

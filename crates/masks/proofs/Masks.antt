@@ -1,7 +1,6 @@
 -- The mask of a vertex's open moves, from the tests of its moves; and the masks of all vertices.
 --
 --   same-offsets  == whether a move is open depends on its offsets alone
---   bit-shut, bit-open == the bit of a move, from what its test answers
 --   row-short, row-tested == the test of a row, and its bit
 --   rows-tested   == the bits of all rows
 --   mask-all      == the bits of all rows, each tested, are the mask
@@ -14,7 +13,7 @@ use mathlib.Core.Bool.{Bool}
 use mathlib.Core.List.{List}
 use native.Mathlib.Omega.{arith}
 use borrow.Author.Tests.{lt-ltb}
-use mathlib.Core.Option.{Option, none, some}
+use mathlib.Core.Option.{Option}
 use Rattle.basics.specs.Bounded.{pick}
 use Rattle.basics.specs.Bits.{bit, bitsOf}
 use Rattle.basics.proofs.Bits.{bits-at}
@@ -23,32 +22,19 @@ use lib.IntN.{ℤ}
 use lib.ListN.{length, set, length-set, getD}
 use lib.Seq.{getD-set-same, getD-set-other}
 use Rattle.basics.proofs.Order.{le-or-lt}
-use Rattle.floor.specs.declared.Vertex.{Vertex}
 use Rattle.floor.specs.Floor.{Floor, vertices, number}
 use Rattle.floor.proofs.Numbers.{column-number, row-number}
 use Rattle.moves.specs.declared.Move.{Move}
 use Rattle.moves.specs.Moves.{moves, moveOf, rowMove}
-use Rattle.moves.specs.declared.Step.the-variants.{To, Off}
 use Rattle.moves.specs.Table.{Short}
 use Rattle.moves.proofs.Table.{table-short}
-use Rattle.moves.specs.Steps.{farEndAt, openEndAt, stepOf}
-use Rattle.masks.specs.Masks.{isSome, rowOpen, OpenMask, OpenAt, MasksTo, OpenMasks}
+use Rattle.moves.specs.Steps.{farEndAt, openEndAt, isSome, openAt}
+use Rattle.masks.specs.Masks.{rowOpen, OpenMask, OpenAt, MasksTo, OpenMasks}
 
 pub same-offsets : (f : Floor) (m n : Move) (x y : ℕ) → m .dx ≡ n .dx → m .dy ≡ n .dy
     → openEndAt f m x y ≡ openEndAt f n x y
 unfolding openEndAt farEndAt
 same-offsets f m n x y p q = rw (p, q)
-
--- What the code answers of a move, as a bit.
-pub bit-shut : (o : Option ℕ) (n : ℕ) → stepOf o ≡ Off → 0 ≡ pick (isSome o) n 0
-unfolding stepOf isSome
-bit-shut none n e = refl
-bit-shut (some w) n e = let z : _≡_ {A = ℕ} 0 1 = cc in absurd (omega arith)
-
-pub bit-open : (o : Option ℕ) (n : ℕ) (v : Vertex) → stepOf o ≡ To v → n ≡ pick (isSome o) n 0
-unfolding stepOf isSome
-bit-open none n v e = let z : _≡_ {A = ℕ} 0 1 = cc in absurd (omega arith)
-bit-open (some w) n v e = refl
 
 -- The offsets of a row are those of a short move.
 pub row-short : (k : ℕ) → k < length moves → Short (moveOf (rowMove k .dx) (rowMove k .dy) 0)
@@ -56,9 +42,9 @@ row-short k l = let s = table-short k l in record { columns = s .columns; rows =
 
 -- The bit of a row, from the test of its offsets.
 pub row-tested : (f : Floor) (x y k n r : ℕ) (dx dy : ℤ) → dx ≡ rowMove k .dx → dy ≡ rowMove k .dy → n ≡ 2 ^ k
-    → r ≡ pick (isSome (openEndAt f (moveOf dx dy 0) x y)) n 0 → r ≡ pick (rowOpen f x y k) (2 ^ k) 0
+    → r ≡ pick (openAt f (moveOf dx dy 0) x y) n 0 → r ≡ pick (rowOpen f x y k) (2 ^ k) 0
 row-tested f x y k n r dx dy p q e t =
-    t ∙ ap₂ (λ o m. pick (isSome o) m 0) (same-offsets f (moveOf dx dy 0) (rowMove k) x y p q) e
+    t ∙ ap₂ (λ (o : Option ℕ) (m : ℕ). pick (isSome o) m 0) (same-offsets f (moveOf dx dy 0) (rowMove k) x y p q) e
 
 module _ (f : Floor) (x y : ℕ) where
   abbrev open? : ℕ → Bool

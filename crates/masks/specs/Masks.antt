@@ -7,21 +7,16 @@
 --   OpenMasks f l          == the list l has the mask of each vertex
 use Prim.Native.Nat.{ℕ, _<_}
 use mathlib.Core.Path.{_≡_}
-use mathlib.Core.Bool.{Bool, true, false}
+use mathlib.Core.Bool.{Bool}
 use mathlib.Core.List.{List}
-use mathlib.Core.Option.{Option, none, some}
 use lib.ListN.{length, getD}
 use Rattle.basics.specs.Bits.{bit}
 use Rattle.floor.specs.Floor.{Floor, vertices, column, row}
 use Rattle.moves.specs.Moves.{moves, rowMove}
-use Rattle.moves.specs.Steps.{openEndAt}
-
-unfoldable pub isSome : Option ℕ → Bool
-isSome none = false
-isSome (some w) = true
+use Rattle.moves.specs.Steps.{openAt}
 
 abbrev pub rowOpen : Floor → ℕ → ℕ → ℕ → Bool
-rowOpen f x y k = isSome (openEndAt f (rowMove k) x y)
+rowOpen f x y k = openAt f (rowMove k) x y
 
 pub record OpenMask (f : Floor) (x y n : ℕ) : Type 0 where
   pub at : (k : ℕ) → k < length moves → bit n k ≡ rowOpen f x y k

@@ -7,22 +7,21 @@ ghost use Rattle.basics.specs.Bounded.{pick};
 ghost use Rattle.basics.specs.Bits.{bitsOf};
 ghost use Rattle.floor.specs.Floor.{Sized, floorOf, vertices, number};
 ghost use Rattle.moves.specs.Moves.{moves, moveOf};
-ghost use Rattle.moves.specs.Steps.{openEndAt};
+ghost use Rattle.moves.specs.Steps.{openAt};
 ghost use Rattle.moves.specs.Table.{Short, OnFloor};
-ghost use Rattle.masks.specs.Masks.{isSome, rowOpen, OpenMask, OpenAt, MasksTo, OpenMasks};
+ghost use Rattle.masks.specs.Masks.{rowOpen, OpenMask, OpenAt, MasksTo, OpenMasks};
 use floor::Vertex;
 use moves::MOVES;
-use moves::Step;
 
 // The bit, where the move of these offsets is open from (x, y).
 fn open_bit(w: usize, h: usize, map: &[u8], x: usize, y: usize, dx: i8, dy: i8, bit: u32) -> u32
     requires { ⌜ Sized w h (now map) × OnFloor w h x y × Short (moveOf dx dy 0) ⌝ }
-    ensures { λ r. ⌜ r ≡ pick (isSome (openEndAt (floorOf w h (now (map .entry))) (moveOf dx dy 0) x y)) bit 0 ⌝ }
+    ensures { λ r. ⌜ r ≡ pick (openAt (floorOf w h (now (map .entry))) (moveOf dx dy 0) x y) bit 0 ⌝ }
 {
-    let Step::To(_) = moves::open_step(w, h, map, x, y, dx, dy) else {
-        return 0;
-    };
-    bit
+    if moves::is_open(w, h, map, x, y, dx, dy) {
+        return bit;
+    }
+    0
 }
 
 // The open rows of the vertex (x, y). They are named one by one, so that each test is compiled for its offsets.

@@ -15,7 +15,8 @@ use Rattle.sight.specs.Sight.{segmentOf}
 use Rattle.sight.proofs.Symmetry.{sees-back}
 use Rattle.moves.specs.declared.Move.{Move}
 use Rattle.moves.specs.Steps.{openEnd}
-use Rattle.moves.proofs.Table.{Turned, offset-eq}
+use Rattle.moves.specs.AnyTable.{Turned}
+use Rattle.moves.proofs.Table.{offset-eq}
 use Rattle.moves.proofs.Steps.{Goes, open-goes}
 
 module _ (f : Floor) where

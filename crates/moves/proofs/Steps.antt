@@ -6,6 +6,7 @@
 --   Goes f m x y w                      == move m goes from (x, y) to vertex w and is open
 --   open-goes, goes-open                == `openEndAt` says so
 --   open-if-seen, open-past-spot        == an open move by what its ends see; a move that leaves the floor is not open
+--   open-off, open-seen                 == the same, as the code answers it
 use Prim.Native.Nat.{ℕ, _+_, _-_, _≤_, _<_}
 use mathlib.Core.Path.{_≡_, refl, sym, ap, _∙_}
 use mathlib.Core.Bool.{Bool, true, false, _&&_, and-false}
@@ -14,6 +15,7 @@ use native.Mathlib.Omega.{arith}
 use borrow.Author.Tests.{le-leb, lt-leb, leb-true}
 use lib.Dec.{leb}
 use lib.IntN.{ℤ, pos, negsuc, natAbs}
+use Rattle.floor.specs.declared.Vertex.{Vertex}
 use Rattle.floor.specs.Floor.{Floor, number}
 use Rattle.floor.proofs.Numbers.{column-number, row-number}
 use Rattle.sight.specs.Sight.{segment, segmentOf, sees}
@@ -23,7 +25,7 @@ use Rattle.moves.specs.declared.Move.{Move}
 use Rattle.moves.specs.declared.Place.the-variants.{Is, Past}
 use Rattle.moves.specs.declared.Spot.the-variants.{At, Outside}
 use Rattle.moves.specs.declared.Step.the-variants.{To, Off}
-use Rattle.moves.specs.Steps.{up, down, shifted, thenAt, farEndAt, openEndAt, stepOf}
+use Rattle.moves.specs.Steps.{up, down, shifted, thenAt, farEndAt, openEndAt, isSome, openAt, stepOf}
 use Rattle.moves.specs.Table.{OnFloor, Reaches, placeOf, spotOf}
 
 -- ---- one coordinate
@@ -161,6 +163,11 @@ pub step-off : (w h x y : ℕ) (m : Move) → spotOf (shifted w x (m .dx)) (shif
 unfolding stepOf
 step-off w h x y m e = rw (far-past w h x y m e)
 
+step-none : (o : Option ℕ) → stepOf o ≡ Off → o ≡ none
+unfolding stepOf
+step-none none e = refl
+step-none (some w) e = let z : _≡_ {A = ℕ} 0 1 = cc in absurd (omega arith)
+
 pub step-to : {w h x y i j : ℕ} {m : Move} → Reaches w h m x y i j
     → To (record { 0 = number w i j }) ≡ stepOf (farEndAt w h m x y)
 unfolding stepOf
@@ -196,22 +203,42 @@ module _ (f : Floor) (m : Move) (x y : ℕ) where
         ap (λ o. thenAt o (λ w. whenSeen (sees f (segment (f .wide) (number (f .wide) x y) w)) w)) (reaches-far r)
         ∙ ap (λ s. whenSeen (sees f s) (number (f .wide) i j)) segment-is
 
--- What the code answers of an open move.
+-- What the code answers of a move: `end` is its far end.
 module _ (f : Floor) (m : Move) (x y : ℕ) where
-  pub open-step-past : spotOf (shifted (f .wide) x (m .dx)) (shifted (f .high) y (m .dy)) ≡ Outside
-      → Off ≡ stepOf (openEndAt f m x y)
-  unfolding stepOf
-  open-step-past e = rw (open-past-spot f m x y e)
+  abbrev end : Option ℕ
+  end = farEndAt (f .wide) (f .high) m x y
+
+  pub open-off : stepOf end ≡ Off → false ≡ openAt f m x y
+  unfolding openEndAt thenAt isSome
+  open-off e = rw (step-none end e)
+
+  -- Where the move leads to a vertex, that is the spot (x + dx, y + dy).
+  pub far-reaches : (v : Vertex) → stepOf end ≡ To v
+      → Reaches (f .wide) (f .high) m x y (x + up (m .dx) - down (m .dx)) (y + up (m .dy) - down (m .dy))
+  unfolding farEndAt thenAt stepOf
+  far-reaches v e = cases (shifted (f .wide) x (m .dx)) (shifted (f .high) y (m .dy)) refl refl e
+    where
+      cases : (a b : Option ℕ) → shifted (f .wide) x (m .dx) ≡ a → shifted (f .high) y (m .dy) ≡ b
+          → stepOf (thenAt a (λ i. thenAt b (λ j. some (number (f .wide) i j)))) ≡ To v
+          → Reaches (f .wide) (f .high) m x y (x + up (m .dx) - down (m .dx)) (y + up (m .dy) - down (m .dy))
+      cases none b p q e = let z : _≡_ {A = ℕ} 0 1 = cc in absurd (omega arith)
+      cases (some i) none p q e = let z : _≡_ {A = ℕ} 0 1 = cc in absurd (omega arith)
+      cases (some i) (some j) p q e =
+          let s = shifted-is (f .wide) x i (m .dx) p in
+          let t = shifted-is (f .high) y j (m .dy) q in
+          let h : i ≡ x + up (m .dx) - down (m .dx) = omega arith in
+          let k : j ≡ y + up (m .dy) - down (m .dy) = omega arith in
+          record { columns = p ∙ ap some h; rows = q ∙ ap some k }
 
   module _ (i j : ℕ) (on : x ≤ f .wide) (r : Reaches (f .wide) (f .high) m x y i j) where
-    pub open-step-shut : sees f (segmentOf x y i j) ≡ false → Off ≡ stepOf (openEndAt f m x y)
-    unfolding stepOf
-    open-step-shut e = rw (open-if-seen f m x y i j on r, e)
-
-    pub open-step-to : sees f (segmentOf x y i j) ≡ true
-        → To (record { 0 = number (f .wide) i j }) ≡ stepOf (openEndAt f m x y)
-    unfolding stepOf
-    open-step-to e = rw (open-if-seen f m x y i j on r, e)
+    pub open-seen : sees f (segmentOf x y i j) ≡ openAt f m x y
+    unfolding isSome
+    open-seen =
+        seen-some (sees f (segmentOf x y i j)) (number (f .wide) i j) ∙ ap isSome (sym (open-if-seen f m x y i j on r))
+      where
+        seen-some : (b : Bool) (w : ℕ) → b ≡ isSome (whenSeen b w)
+        seen-some true w = refl
+        seen-some false w = refl
 
 pub record Goes (f : Floor) (m : Move) (x y w : ℕ) : Type 0 where
   pub i : ℕ

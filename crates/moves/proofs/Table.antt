@@ -2,12 +2,13 @@
 --
 --   neighbourhood-8, -4  == their moves: the whole table, and its cardinal rows in the same order
 --   LawfulMove r m       == what the test gives of move m
+--   rows-lawful          == rows that pass the test are a lawful table
 --   listed-lawful        == the rows of a neighbourhood pass the test
 --   listed-few           == they are no more than the table has
 --   table-short          == every row of the table is short
 --   offset-eq            == an offset is known by where it leads
 use Prim.Native.Nat.{ℕ, zero, suc, _+_, _*_, _≤_, _<_}
-use mathlib.Core.Path.{_≡_, refl, ap, ap₂}
+use mathlib.Core.Path.{_≡_, refl, sym, ap, ap₂}
 use mathlib.Core.Logic.{_⊎_, inl, inr, ⊎-elim}
 use mathlib.Core.Bool.{Bool, true, false, _&&_, _||_, not}
 use mathlib.Core.List.{List, [], _∷_, _++_}
@@ -18,6 +19,7 @@ use lib.Dec.{eqb}
 use lib.IntN.{ℤ, pos, negsuc, natAbs}
 use lib.ListN.{length, getD}
 use Rattle.basics.specs.Bounded.{pick, every, bounded-opened}
+use Rattle.basics.proofs.Order.{le-or-lt}
 use Rattle.basics.proofs.Bools.{and-left, and-right, not-both}
 use Rattle.basics.proofs.Bounded.{every-at}
 use Rattle.moves.specs.declared.Move.{Move}
@@ -26,6 +28,7 @@ use Rattle.moves.specs.declared.Neighbourhood.{Neighbourhood}
 use Rattle.moves.specs.declared.Neighbourhood.the-variants.{Known, Unknown}
 use Rattle.moves.specs.Moves.{moves, rowMove, rowsOf, rowAt, moveAt, neighbourhoodOf}
 use Rattle.moves.specs.Steps.{up, down}
+use Rattle.moves.specs.AnyTable.{Turned, LawfulTable}
 use Rattle.moves.specs.Table.{Listed, Short, oppositeOf, turned, sameOffset, lawfulTests, lawfulRow, lawfulRows}
 
 -- ---- which moves a neighbourhood has
@@ -87,11 +90,6 @@ listed-lawful h = ⊎-elim (λ e. rw e whole-lawful) (λ e. rw e cardinal-lawful
 pub listed-few : {r : Rows} → Listed r → r .count ≤ length moves
 listed-few h = ⊎-elim (λ e. rw e (omega arith)) (λ e. rw e (omega arith)) (listed-found h .is)
 
--- The offset a is b turned round.
-pub record Turned (a b : ℤ) : Type 0 where
-  pub up-down : up a ≡ down b
-  pub down-up : down a ≡ up b
-
 turned-true : (a b : ℤ) → turned a b ≡ true → Turned a b
 unfolding turned
 turned-true a b e = record {
@@ -143,6 +141,32 @@ lawful-move r m e l =
           not-both _ (ap₂ _&&_ (same-offset-refl _ _ p) (same-offset-refl _ _ q))
           (not-true _ (every-at m (elsewhere r m) (test 8 (omega arith)) n k));
     }
+
+module _ (r : Rows) (e : lawfulRows r ≡ true) where
+  law : (m : ℕ) → m < r .count → LawfulMove r m
+  law m l = lawful-move r m e l
+
+  -- Moves with the same offsets are the same.
+  same-move : (m n : ℕ) → m < r .count → n < r .count → moveAt r m .dx ≡ moveAt r n .dx
+      → moveAt r m .dy ≡ moveAt r n .dy → m ≡ n
+  same-move m n l k p q =
+      ⊎-elim (λ (lt : suc m ≤ n). absurd (law n k .fresh m lt p q))
+      (λ (ge : n < suc m).
+      ⊎-elim (λ (lt : suc n ≤ m). absurd (law m l .fresh n lt (sym p) (sym q))) (λ (le : m < suc n). omega arith)
+      (le-or-lt (suc n) m))
+      (le-or-lt (suc m) n)
+
+  pub rows-lawful : LawfulTable (r .count) (moveAt r)
+  rows-lawful = record {
+    low = λ m l. law m l .cost-low;
+    high = λ m l. law m l .cost-high;
+    distinct = same-move;
+    opposite = oppositeOf r;
+    opposite-listed = λ m l. law m l .opposite-listed;
+    opposite-cost = λ m l. law m l .opposite-cost;
+    opposite-dx = λ m l. law m l .opposite-dx;
+    opposite-dy = λ m l. law m l .opposite-dy;
+  }
 
 -- Every row of the table is short.
 pub table-short : (k : ℕ) → k < length moves → Short (rowMove k)

@@ -4,9 +4,10 @@
 --   farEndAt w h m x y  == the number of the vertex to which move m leads from (x, y); none where it leaves the floor
 --   openEndAt f m x y   == the same where the two ends see each other: where the move is open
 --   openEnd f m v       == the same from the vertex with number v
---   stepOf o            == that vertex, or off the floor, as the code answers it
+--   openAt f m x y      == move m is open from (x, y)
+--   stepOf o            == the far end o, a vertex or off the floor, as the code answers it
 use Prim.Native.Nat.{ℕ, suc, _+_, _-_}
-use mathlib.Core.Bool.{true, false, _&&_}
+use mathlib.Core.Bool.{Bool, true, false, _&&_}
 use mathlib.Core.Option.{Option, none, some}
 use lib.Dec.{leb}
 use lib.IntN.{ℤ, pos, negsuc}
@@ -45,11 +46,18 @@ openEndAt f m x y =
 abbrev pub openEnd : Floor → Move → ℕ → Option ℕ
 openEnd f m v = openEndAt f m (column (f .wide) v) (row (f .wide) v)
 
+unfoldable pub isSome : Option ℕ → Bool
+isSome none = false
+isSome (some w) = true
+
+abbrev pub openAt : Floor → Move → ℕ → ℕ → Bool
+openAt f m x y = isSome (openEndAt f m x y)
+
 unfoldable pub stepOf : Option ℕ → Step
 stepOf none = Off
 stepOf (some v) = To (record { 0 = v })
 
 -- Named on an `unfolding` line, this opens all of the above, for a theorem that is computed.
 unfoldable pub steps-opened : ℕ
-unfolding up down shifted thenAt farEndAt openEndAt stepOf
+unfolding up down shifted thenAt farEndAt openEndAt isSome stepOf
 steps-opened = 0

@@ -1,13 +1,13 @@
 // The moves: the table, which rows a neighbourhood has, a step, and the test of a move.
 ghost use mathlib.Core.Path.{_≡_};
 ghost use mathlib.Core.Bool.{true};
-ghost use Prim.Native.Nat.{_<_, _≤_};
+ghost use Prim.Native.Nat.{_+_, _-_, _<_, _≤_};
 ghost use lib.IntN.{natAbs};
 ghost use lib.ListN.{length};
 ghost use Rattle.floor.specs.Floor.{Sized, floorOf};
 ghost use Rattle.sight.specs.Sight.{segmentOf, sees};
 ghost use Rattle.moves.specs.Moves.{moves, moveOf, neighbourhoodOf, rowsOf, rowAt, moveAt};
-ghost use Rattle.moves.specs.Steps.{shifted, farEndAt, openEndAt, stepOf};
+ghost use Rattle.moves.specs.Steps.{up, down, shifted, farEndAt, openAt, stepOf};
 ghost use Rattle.moves.specs.Table.{lawfulRows, Short, OnFloor, Reaches, partsOf, placeOf, spotOf};
 use floor::Vertex;
 
@@ -31,7 +31,7 @@ pub enum Neighbourhood {
     Unknown,
 }
 
-// Where a move leads: a vertex, or `Off`: off the floor, or nowhere where open moves are asked for and this one is shut.
+// Where a move leads: to a vertex, or off the floor.
 pub enum Step {
     To(Vertex),
     Off,
@@ -205,15 +205,24 @@ fn far_spot(w: usize, h: usize, x: usize, y: usize, dx: i8, dy: i8) -> Spot
     Spot::At(i, j)
 }
 
-// The vertex to which move m leads from (x, y).
-pub fn step_from(w: usize, h: usize, x: usize, y: usize, m: Move) -> Step
-    requires { ⌜ OnFloor w h x y × Short m ⌝ }
-    ensures { λ r. ⌜ r ≡ stepOf (farEndAt w h m x y) ⌝ }
+// The vertex to which the offsets of a move lead from (x, y).
+pub fn step_from(w: usize, h: usize, x: usize, y: usize, dx: i8, dy: i8) -> Step
+    requires { ⌜ OnFloor w h x y × Short (moveOf dx dy 0) ⌝ }
+    ensures { λ r. ⌜ r ≡ stepOf (farEndAt w h (moveOf dx dy 0) x y) ⌝ }
 {
-    let Spot::At(i, j) = far_spot(w, h, x, y, m.dx, m.dy) else {
+    let Spot::At(i, j) = far_spot(w, h, x, y, dx, dy) else {
         return Step::Off;
     };
     Step::To(floor::vertex_at(w, h, i, j))
+}
+
+// The coordinate a moved by d, where that is on the floor.
+fn moved_by(a: usize, d: i8) -> usize
+    requires { ⌜ (a ≤ 127) × (natAbs d ≤ 2) × (down d ≤ a + up d) ⌝ }
+    ensures { λ r. ⌜ r ≡ a + up d - down d ⌝ }
+{
+    let o = parts_of(d);
+    a + o.up - o.down
 }
 
 // Whether (x, y) and (i, j), to which dx and dy lead from there, see each other. How far apart they are is read off the
@@ -236,17 +245,13 @@ fn ends_see(
     sight::in_sight_along(w, h, map, x, y, i, j, length_of(dx), length_of(dy))
 }
 
-// The vertex to which the offsets of a move lead from (x, y), where the move is open: both ends on the floor, and in
-// sight of each other.
-pub fn open_step(w: usize, h: usize, map: &[u8], x: usize, y: usize, dx: i8, dy: i8) -> Step
+// The test of a move: it is open from (x, y) where its far end is on the floor and the two ends see each other.
+pub fn is_open(w: usize, h: usize, map: &[u8], x: usize, y: usize, dx: i8, dy: i8) -> bool
     requires { ⌜ Sized w h (now map) × OnFloor w h x y × Short (moveOf dx dy 0) ⌝ }
-    ensures { λ r. ⌜ r ≡ stepOf (openEndAt (floorOf w h (now (map .entry))) (moveOf dx dy 0) x y) ⌝ }
+    ensures { λ r. ⌜ r ≡ openAt (floorOf w h (now (map .entry))) (moveOf dx dy 0) x y ⌝ }
 {
-    let Spot::At(i, j) = far_spot(w, h, x, y, dx, dy) else {
-        return Step::Off;
+    let Step::To(_) = step_from(w, h, x, y, dx, dy) else {
+        return false;
     };
-    if ends_see(w, h, map, x, y, i, j, dx, dy) {
-        return Step::To(floor::vertex_at(w, h, i, j));
-    }
-    Step::Off
+    ends_see(w, h, map, x, y, moved_by(x, dx), moved_by(y, dy), dx, dy)
 }

@@ -13,7 +13,7 @@ use Rattle.basics.proofs.Sums.{sum-cong}
 use Rattle.paths.specs.Graph.{Graph}
 use Rattle.paths.specs.Route.{candidate, better, best, nextVertex}
 use Rattle.paths.specs.Local.{tight, inflow, countAt}
-use Rattle.neighbours.specs.Reach.{tightBy, inflowBy}
+use Rattle.neighbours.specs.Reading.{tightBy, inflowBy}
 use Rattle.neighbours.specs.Least.{relaxedBy, relaxedIn, rightCostIn}
 
 pub record Agrees (g h : Graph) (v : ℕ) : Type 0 where

@@ -10,21 +10,20 @@ use native.Mathlib.Numerals.{add-one}
 use borrow.Author.Tests.{lt-ltb, le-ltb, eq-eqb, ne-eqb}
 use lib.Dec.{eqb}
 use Rattle.basics.proofs.Options.{none-some}
-use Rattle.moves.specs.Steps.{stepOf}
-use Rattle.moves.specs.declared.Step.{Step}
-use Rattle.moves.specs.declared.Step.the-variants.{To, Off}
 use Rattle.paths.specs.Graph.{Graph}
 use Rattle.paths.specs.Distance.{unreachable}
 use Rattle.paths.specs.Route.{onShortest, candidate, better, best}
-use Rattle.neighbours.specs.Choice.{followsBy}
-use Rattle.neighbours.proofs.Steps.{stepOf-off, stepOf-to}
+use Rattle.neighbours.specs.declared.Next.{Next}
+use Rattle.neighbours.specs.declared.Next.the-variants.{To, Stuck}
+use Rattle.neighbours.specs.Choice.{followsBy, nextFrom}
+use Rattle.neighbours.proofs.Steps.{next-stuck, next-to}
 
-abbrev pub toVertex : ℕ → Step
+abbrev pub toVertex : ℕ → Next
 toVertex w = To (record { 0 = w })
 
-pub record BestScan (T : ℕ → ℕ) (c : ℕ → Option ℕ) (n k : ℕ) (r : Step) (x : ℕ) : Type 0 where
+pub record BestScan (T : ℕ → ℕ) (c : ℕ → Option ℕ) (n k : ℕ) (r : Next) (x : ℕ) : Type 0 where
   pub within : k ≤ n
-  pub is : r ≡ stepOf (best T c k)
+  pub is : r ≡ nextFrom (best T c k)
   pub count : (w : ℕ) → best T c k ≡ some w → x ≡ T w
 
 best-next : (T : ℕ → ℕ) (c : ℕ → Option ℕ) (k : ℕ) → best T c (k + 1) ≡ better T (best T c k) (c k)
@@ -37,11 +36,11 @@ better-none T none = refl
 better-none T (some u) = refl
 
 module _ {T : ℕ → ℕ} {c : ℕ → Option ℕ} {n : ℕ} where
-  pub best-start : BestScan T c n 0 Off 0
-  unfolding best stepOf
+  pub best-start : BestScan T c n 0 Stuck 0
+  unfolding best nextFrom
   best-start = record { within = omega arith; is = refl; count = λ w e. none-some e }
 
-  keep : {k x : ℕ} {r : Step} → BestScan T c n k r x → k < n → best T c (k + 1) ≡ best T c k → BestScan T c n
+  keep : {k x : ℕ} {r : Next} → BestScan T c n k r x → k < n → best T c (k + 1) ≡ best T c k → BestScan T c n
       (k + 1) r x
   keep {k} {x} {r} h l e = record {
     within = omega arith;
@@ -50,27 +49,27 @@ module _ {T : ℕ → ℕ} {c : ℕ → Option ℕ} {n : ℕ} where
   }
 
   take : {k : ℕ} (w x : ℕ) → k < n → x ≡ T w → best T c (k + 1) ≡ some w → BestScan T c n (k + 1) (toVertex w) x
-  unfolding stepOf
+  unfolding nextFrom
   take {k} w x l xe e = record {
     within = omega arith;
     is = rw e;
     count = λ u q. let s : w ≡ u = cc in xe ∙ ap T s;
   }
 
-  pub best-off : {k x : ℕ} {r : Step} → BestScan T c n k r x → k < n → c k ≡ none → BestScan T c n (k + 1) r x
+  pub best-off : {k x : ℕ} {r : Next} → BestScan T c n k r x → k < n → c k ≡ none → BestScan T c n (k + 1) r x
   best-off {k} h l e = keep h l (best-next T c k ∙ rw e (better-none T (best T c k)))
 
-  module _ {k h : ℕ} {r : Step} (w x : ℕ) (b : BestScan T c n k r h) (l : k < n) (is : c k ≡ some w)
+  module _ {k h : ℕ} {r : Next} (w x : ℕ) (b : BestScan T c n k r h) (l : k < n) (is : c k ≡ some w)
       (counts : x ≡ T w) where
-    pub best-first : r ≡ Off → BestScan T c n (k + 1) (toVertex w) x
+    pub best-first : r ≡ Stuck → BestScan T c n (k + 1) (toVertex w) x
     unfolding better
     best-first e =
-        let q : best T c k ≡ none = stepOf-off (best T c k) (sym (b .is) ∙ e) in
+        let q : best T c k ≡ none = next-stuck (best T c k) (sym (b .is) ∙ e) in
         take w x l counts (best-next T c k ∙ rw (q, is))
 
     module _ (u : ℕ) (to : r ≡ toVertex u) where
       was : best T c k ≡ some u
-      was = stepOf-to (best T c k) u (sym (b .is) ∙ to)
+      was = next-to (best T c k) u (sym (b .is) ∙ to)
 
       pub best-higher : h < x → BestScan T c n (k + 1) (toVertex w) x
       unfolding better
@@ -83,7 +82,7 @@ module _ {T : ℕ → ℕ} {c : ℕ → Option ℕ} {n : ℕ} where
       best-lower ge =
           keep b l (best-next T c k ∙ rw (was, is) (rw (le-ltb (T u) (T w) (omega (arith, b .count u was)), better)))
 
-  pub best-end : {k x : ℕ} {r : Step} → BestScan T c n k r x → n ≤ k → r ≡ stepOf (best T c n)
+  pub best-end : {k x : ℕ} {r : Next} → BestScan T c n k r x → n ≤ k → r ≡ nextFrom (best T c n)
   best-end {k} h l = let e : k ≡ n = omega (arith, h .within) in rw e at (h .is)
 
 -- ---- on the way, and candidates

@@ -16,13 +16,14 @@ use Rattle.basics.proofs.Order.{le-or-lt, eq-or-ne}
 use Rattle.basics.proofs.Bools.{iff-eq}
 use Rattle.basics.proofs.Bounded.{any-cases, any-one}
 use Rattle.offsets.specs.declared.Class.{Class}
-use Rattle.offsets.specs.Classes.{classAt, classRow}
+use Rattle.offsets.specs.Offsets.{rowEnd}
+use Rattle.offsets.specs.Classes.{classCount, classAt, classRow}
 use Rattle.paths.specs.Graph.{Graph}
 use Rattle.paths.specs.Distance.{unreachable}
 use Rattle.paths.specs.Local.{tight}
 use Rattle.paths.proofs.Neighbours.{is-there-cases, is-there-at}
-use Rattle.neighbours.specs.Reach.{tightBy}
-use Rattle.neighbours.specs.Least.{endOr, relaxedIn, rightCostIn, nowhere, lesserOf, leastOf, rowEnd, endAt, leastBy}
+use Rattle.neighbours.specs.Reading.{tightBy}
+use Rattle.neighbours.specs.Least.{endOr, relaxedIn, rightCostIn, nowhere, lesserOf, leastOf, endAt, leastBy}
 use Rattle.neighbours.specs.Least.{leastAt, rightBy, rightNear, ClassMoves}
 use Rattle.neighbours.proofs.Incoming.{relaxedIn-cases, relaxedIn-all}
 
@@ -88,7 +89,7 @@ module _ {g : Graph} {s : List ℕ} {l : List Class} {mask v : ℕ} (C : ClassMo
   unfolding leastBy
   by-moves k pos = rw (ne-eqb (classAt l k .cost) 0 (λ e. omega arith))
 
-  least-class : (k : ℕ) → k < 2 → X ≤ by k
+  least-class : (k : ℕ) → k < classCount → X ≤ by k
   least-class k h =
       let K = lesser-is (by 0) (by 1) in
       ⊎-elim (λ z. let e : k ≡ 0 = omega arith in rw e (K .left)) (λ z. let e : k ≡ 1 = omega arith in rw e (K .right))
@@ -105,7 +106,7 @@ module _ {g : Graph} {s : List ℕ} {l : List Class} {mask v : ℕ} (C : ClassMo
 
   -- The least is what an open move gives, or above the cost of v, as what a shut move would give is.
   module _ (small : D v ≤ unreachable) where
-    given-by : (k : ℕ) → k < 2 → (D v < by k) ⊎ Gives (by k)
+    given-by : (k : ℕ) → k < classCount → (D v < by k) ⊎ Gives (by k)
     unfolding leastBy
     given-by k h = ⊎-elim (λ e. inl (rw (eq-eqb (classAt l k .cost) 0 e) (omega arith)))
         (λ ne. let pos : 0 < classAt l k .cost = omega arith in

@@ -4,5 +4,5 @@ pub mod Least
 pub mod Sums
 pub mod Choice
 pub mod Agree
-pub mod Built
+pub mod Shown
 pub mod Classed

@@ -1,19 +1,32 @@
--- What a step, as the code answers it, says of the far end.
+-- What a far end and a next vertex, as the code answers them, say.
 use Prim.Native.Nat.{ℕ}
 use mathlib.Core.Path.{_≡_, refl, ap}
 use mathlib.Core.Option.{Option, none, some}
 use native.Mathlib.Omega.{arith}
 use Rattle.floor.specs.declared.Vertex.{Vertex}
-use Rattle.moves.specs.Steps.{stepOf}
-use Rattle.moves.specs.declared.Step.the-variants.{To, Off}
+use Rattle.offsets.specs.declared.OpenEnd.the-variants.{At, Shut}
+use Rattle.offsets.specs.Offsets.{endOf}
+use Rattle.neighbours.specs.declared.Next.the-variants.{To, Stuck}
+use Rattle.neighbours.specs.Choice.{nextFrom}
 
-pub stepOf-off : (o : Option ℕ) → stepOf o ≡ Off → o ≡ none
-unfolding stepOf
-stepOf-off none e = refl
-stepOf-off (some w) e = let z : _≡_ {A = ℕ} 0 1 = cc in absurd (omega arith)
+pub end-shut : (o : Option ℕ) → endOf o ≡ Shut → o ≡ none
+unfolding endOf
+end-shut none e = refl
+end-shut (some w) e = let z : _≡_ {A = ℕ} 0 1 = cc in absurd (omega arith)
 
-pub stepOf-to : (o : Option ℕ) (w : ℕ) → stepOf o ≡ To (record { 0 = w }) → o ≡ some w
-unfolding stepOf
-stepOf-to none w e = let z : _≡_ {A = ℕ} 0 1 = cc in absurd (omega arith)
-stepOf-to (some u) w e =
+pub end-at : (o : Option ℕ) (w : ℕ) → endOf o ≡ At (record { 0 = w }) → o ≡ some w
+unfolding endOf
+end-at none w e = let z : _≡_ {A = ℕ} 0 1 = cc in absurd (omega arith)
+end-at (some u) w e =
+    let q : _≡_ {A = Vertex} (record { 0 = u }) (record { 0 = w }) = cc in ap (λ (x : Vertex). some (x .0)) q
+
+pub next-stuck : (o : Option ℕ) → nextFrom o ≡ Stuck → o ≡ none
+unfolding nextFrom
+next-stuck none e = refl
+next-stuck (some w) e = let z : _≡_ {A = ℕ} 0 1 = cc in absurd (omega arith)
+
+pub next-to : (o : Option ℕ) (w : ℕ) → nextFrom o ≡ To (record { 0 = w }) → o ≡ some w
+unfolding nextFrom
+next-to none w e = let z : _≡_ {A = ℕ} 0 1 = cc in absurd (omega arith)
+next-to (some u) w e =
     let q : _≡_ {A = Vertex} (record { 0 = u }) (record { 0 = w }) = cc in ap (λ (x : Vertex). some (x .0)) q

@@ -14,7 +14,7 @@ use Rattle.paths.specs.Graph.{Graph}
 use Rattle.paths.specs.Local.{given, inflow}
 use Rattle.paths.proofs.Neighbours.{when-yes, when-no}
 use Rattle.neighbours.specs.declared.Sum.the-variants.{Is, Over}
-use Rattle.neighbours.specs.Reach.{inflowBy, sumOf}
+use Rattle.neighbours.specs.Reading.{inflowBy, sumOf}
 
 pub sumOf-fits : (x : ℕ) → x < 2 ^ 64 → Is x ≡ sumOf x
 unfolding sumOf

@@ -1,26 +1,28 @@
 -- The next vertex of the central route, as the code reads it from slices of costs and counts. Nobody has to believe
 -- these.
 --
---   Choosing t mask d e goal v     == the moves from v can be read, and the slices of costs have v and the goal
+--   Choosing r s mask d e goal v   == the moves from v can be read, and the slices of costs have v and the goal
 --   Counted n f b                  == the slices of counts have n places, and the traversal counts fit 64 bits
 --   followsBy on D v w c           == what `candidate` tests of the far end w of a move that costs c
 --   candidateOf, traversalOf       == `candidate` and the traversal count, by the slices
---   nextOf t mask d e f b goal v   == `nextVertex`, by the slices
+--   nextOf r s mask d e f b goal v == `nextVertex`, by the slices
+--   nextFrom o                     == the next vertex as the code answers it
 use Prim.Native.Nat.{ℕ, _+_, _*_, _^_, _<_}
 use mathlib.Core.Path.{_≡_}
 use mathlib.Core.Bool.{Bool, _&&_}
 use mathlib.Core.List.{List}
-use mathlib.Core.Option.{Option}
+use mathlib.Core.Option.{Option, none, some}
 use lib.Dec.{eqb}
 use lib.ListN.{length}
 use Rattle.paths.specs.Route.{onShortest, candidate, nextVertex}
 use Rattle.paths.specs.Local.{entry}
-use Rattle.neighbours.specs.declared.Reach.{Reach}
-use Rattle.neighbours.specs.Reach.{star, Lent, Here}
+use Rattle.moves.specs.declared.Rows.{Rows}
+use Rattle.neighbours.specs.declared.Next.{Next}
+use Rattle.neighbours.specs.declared.Next.the-variants.{To, Stuck}
+use Rattle.neighbours.specs.Reading.{maskGraph, Readable}
 
-pub record Choosing (t : Reach) (mask : ℕ) (d e : List ℕ) (goal v : ℕ) : Type 0 where
-  pub lent : Lent t
-  pub here : Here (length d) t mask v
+pub record Choosing (r : Rows) (s : List ℕ) (mask : ℕ) (d e : List ℕ) (goal v : ℕ) : Type 0 where
+  pub readable : Readable (length d) r s mask v
   pub goal-in : goal < length d
   pub e-len : length e ≡ length d
 
@@ -35,9 +37,14 @@ pub record Counted (n : ℕ) (f b : List ℕ) : Type 0 where
 unfoldable pub followsBy : (ℕ → Bool) → (ℕ → ℕ) → ℕ → ℕ → ℕ → Bool
 followsBy on D v w c = on w && eqb (D w) (D v + c)
 
-abbrev pub candidateOf : Reach → ℕ → List ℕ → List ℕ → ℕ → ℕ → ℕ → Option ℕ
-candidateOf t mask d e goal = candidate (star (length d) t mask) (onShortest (entry d) (entry e) goal) (entry d)
+abbrev pub candidateOf : Rows → List ℕ → ℕ → List ℕ → List ℕ → ℕ → ℕ → ℕ → Option ℕ
+candidateOf r s mask d e goal =
+    candidate (maskGraph (length d) r s mask) (onShortest (entry d) (entry e) goal) (entry d)
 
-abbrev pub nextOf : Reach → ℕ → List ℕ → List ℕ → List ℕ → List ℕ → ℕ → ℕ → Option ℕ
-nextOf t mask d e f b goal = nextVertex (star (length d) t mask) (onShortest (entry d) (entry e) goal) (entry d)
-    (traversalOf f b)
+abbrev pub nextOf : Rows → List ℕ → ℕ → List ℕ → List ℕ → List ℕ → List ℕ → ℕ → ℕ → Option ℕ
+nextOf r s mask d e f b goal =
+    nextVertex (maskGraph (length d) r s mask) (onShortest (entry d) (entry e) goal) (entry d) (traversalOf f b)
+
+unfoldable pub nextFrom : Option ℕ → Next
+nextFrom none = Stuck
+nextFrom (some v) = To (record { 0 = v })

@@ -8,10 +8,10 @@
 --   lesserOf x y             == the lesser of two numbers
 --   leastOf F n              == the least of `nowhere` and F 0, .. F (n - 1)
 --   endOr v e                == the far end e; v itself where there is none
---   rowEnd s mask v k        == the far end of row k from v by its mask and the shifts s, if the move is open
---   endAt s mask v k         == the same, and v itself where the move is shut, which is never the least: a move costs 1
+--   endAt s mask v k         == the far end of row k from v by its mask and the shifts s, and v itself where the move is
+--                               shut, which is never the least: a move costs 1
 --   leastBy s mask D v c     == the least cost that a move of class c gives v: that of its far end and its own
---   leastAt s l mask D v     == the least by the two classes of l
+--   leastAt s l mask D v     == the least by the classes of l
 --   rightBy x a D v          == the cost of v is right, where x is the least that a move gives it: it is x, or lower at
 --                               the source and where v is unreached
 --   rightNear s l mask a D v == so it is, by its neighbours
@@ -28,8 +28,8 @@ use lib.Dec.{leb, ltb, eqb}
 use lib.ListN.{length}
 use Rattle.basics.specs.Bounded.{pick, every}
 use Rattle.offsets.specs.declared.Class.{Class}
-use Rattle.offsets.specs.Offsets.{maskedEnd, Movable, shiftedBy}
-use Rattle.offsets.specs.Classes.{classAt, classRow}
+use Rattle.offsets.specs.Offsets.{Movable, shiftedBy, rowEnd}
+use Rattle.offsets.specs.Classes.{classCount, classAt, classRow}
 use Rattle.paths.specs.Graph.{Graph}
 use Rattle.paths.specs.Distance.{unreachable}
 use Rattle.paths.specs.Local.{if-there, tight}
@@ -59,9 +59,6 @@ abbrev pub endOr : ℕ → Option ℕ → ℕ
 endOr v none = v
 endOr v (some w) = w
 
-abbrev pub rowEnd : List ℕ → ℕ → ℕ → ℕ → Option ℕ
-rowEnd s mask v k = maskedEnd mask v k (shiftedBy s k)
-
 abbrev pub endAt : List ℕ → ℕ → ℕ → ℕ → ℕ
 endAt s mask v k = endOr v (rowEnd s mask v k)
 
@@ -88,7 +85,7 @@ pub record ClassLent (n : ℕ) (s : List ℕ) (mask v : ℕ) (c : Class) : Type 
 
 pub record Near (n : ℕ) (s : List ℕ) (l : List Class) (mask v : ℕ) : Type 0 where
   pub vertex : v < n
-  pub class : (k : ℕ) → k < 2 → ClassLent n s mask v (classAt l k)
+  pub class : (k : ℕ) → k < classCount → ClassLent n s mask v (classAt l k)
 
 pub record MoveBy (g : Graph) (s : List ℕ) (mask v : ℕ) (c : Class) (j m : ℕ) : Type 0 where
   pub row : j < 4
@@ -97,6 +94,6 @@ pub record MoveBy (g : Graph) (s : List ℕ) (mask v : ℕ) (c : Class) (j m : �
   pub cost : g .cost m ≡ c .cost
 
 pub record ClassMoves (g : Graph) (s : List ℕ) (l : List Class) (mask v : ℕ) : Type 0 where
-  pub move : (k j : ℕ) → k < 2 → j < 4 → 0 < classAt l k .cost → (m : ℕ) × MoveBy g s mask v (classAt l k) j m
+  pub move : (k j : ℕ) → k < classCount → j < 4 → 0 < classAt l k .cost → (m : ℕ) × MoveBy g s mask v (classAt l k) j m
   pub covers : (m : ℕ) → m < g .moves
-      → (k : ℕ) × (j : ℕ) × (k < 2) × (0 < classAt l k .cost) × MoveBy g s mask v (classAt l k) j m
+      → (k : ℕ) × (j : ℕ) × (k < classCount) × (0 < classAt l k .cost) × MoveBy g s mask v (classAt l k) j m

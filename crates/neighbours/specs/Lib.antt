@@ -1,3 +1,3 @@
-pub mod Reach
+pub mod Reading
 pub mod Least
 pub mod Choice

@@ -1,40 +1,39 @@
 // What the open moves of a vertex say of numbers that are kept for each vertex: costs, counts and the next vertex of
 // the central route.
+//
+// The moves are read in one form: the rows of the neighbourhood, with their costs in the table; by how much the move of
+// each row changes a vertex number, as `offsets::shifts_of` has it; and the mask of the vertex's open moves. The shifts are
+// lent, since an array passed by value would be copied at each vertex.
 ghost use mathlib.Core.Path.{_≡_};
-ghost use mathlib.Core.Bool.{_&&_};
-ghost use Prim.Native.Nat.{_<_, _≤_, _^_};
+ghost use mathlib.Core.Bool.{_&&_, true};
+ghost use Prim.Native.Nat.{_<_, _^_};
 ghost use lib.ListN.{length};
-ghost use Rattle.moves.specs.Steps.{stepOf};
-ghost use Rattle.offsets.specs.Offsets.{Movable, maskedEnd, shiftedBy};
-ghost use Rattle.moves.specs.Table.{Listed};
+ghost use Rattle.moves.specs.Moves.{moves, rowAt, moveAt};
+ghost use Rattle.moves.specs.Table.{lawfulRows};
+ghost use Rattle.offsets.specs.Offsets.{Movable, shiftedBy, endOf};
 ghost use Rattle.paths.specs.Route.{onShortest};
 ghost use Rattle.paths.specs.Local.{entry, inflow};
-ghost use Rattle.neighbours.specs.Reach.{by, tableOf, star, Lent, Here, Built, sumOf};
+ghost use Rattle.neighbours.specs.Reading.{readStep, maskGraph, Readable, sumOf};
 ghost use Rattle.neighbours.specs.Least.{endAt, lesserOf, leastBy, rightBy, rightNear, ClassLent, Near};
-ghost use Rattle.neighbours.specs.Choice.{Choosing, Counted, followsBy, traversalOf, nextOf};
+ghost use Rattle.neighbours.specs.Choice.{Choosing, Counted, followsBy, traversalOf, nextOf, nextFrom};
 use floor::Vertex;
-use moves::Offset;
 use moves::Rows;
-use moves::Step;
 use offsets::Class;
+use offsets::OpenEnd;
 
 // A cost above every other: the least that a class of no move gives.
 const NOWHERE: u64 = 4294967296;
-
-// The moves of a neighbourhood on floors of one width: of each its row in the table, which is its bit in a mask, how far
-// it leads up and how far down in vertex numbers, and its cost.
-pub struct Reach {
-    pub count: usize,
-    pub row: [usize; 8],
-    pub up: [usize; 8],
-    pub down: [usize; 8],
-    pub cost: [u32; 8],
-}
 
 // A sum of counts, where it fits 64 bits.
 pub enum Sum {
     Is(u64),
     Over,
+}
+
+// Where the central route goes from a vertex.
+pub enum Next {
+    To(Vertex),
+    Stuck,
 }
 
 // A cost in 64 bits, where a sum of two fits.
@@ -52,47 +51,30 @@ fn cost_at(d: &[u32], v: usize) -> u64
     wide(d[v])
 }
 
-// Where the move of a row leads from v, by the mask of v's open moves and how far it leads up and down.
-fn neighbour(mask: u32, v: usize, row: usize, up: usize, down: usize) -> Step
-    requires { ⌜ Movable mask v row (by up down) ⌝ }
-    ensures { λ r. ⌜ r ≡ stepOf (maskedEnd mask v row (by up down)) ⌝ }
+// Where move m of the rows leads from v.
+fn far_end(rows: Rows, shifts: &[usize], mask: u32, v: usize, m: usize) -> OpenEnd
+    requires { ⌜ (lawfulRows rows ≡ true) × (m < rows .count) × (length (now shifts) ≡ length moves)
+        × Movable mask v (rowAt rows m) (shiftedBy (now shifts) (rowAt rows m)) ⌝ }
+    ensures { λ r. ⌜ r ≡ endOf (readStep rows (now (shifts .entry)) mask v m) ⌝ }
 {
-    offsets::masked_step(mask, Vertex(v), row, Offset { up: up, down: down })
+    offsets::open_end(mask, Vertex(v), moves::row_at(rows, m), shifts)
 }
 
-// The moves of the rows of a neighbourhood on floors of width w.
-pub fn reach_of(w: usize, rows: Rows) -> Reach
-    requires { ⌜ (w ≤ 127) × Listed rows ⌝ }
-    ensures { λ r. ⌜ Built w rows r ⌝ }
+// The cost of move m of the rows, in 64 bits.
+fn move_cost(rows: Rows, m: usize) -> u64
+    requires { ⌜ (lawfulRows rows ≡ true) × (m < rows .count) ⌝ }
+    ensures { λ r. ⌜ (r ≡ moveAt rows m .cost) × (r < 4294967296) ⌝ }
 {
-    let mut t = Reach {
-        count: rows.count,
-        row: [0; 8],
-        up: [0; 8],
-        down: [0; 8],
-        cost: [0; 8],
-    };
-    for m in 0..rows.count {
-        let by = offsets::offset_of(w, rows, m);
-        t.row[m] = moves::row_at(rows, m);
-        t.up[m] = by.up;
-        t.down[m] = by.down;
-        t.cost[m] = moves::move_at(rows, m).cost;
-    }
-    t
+    wide(moves::move_at(rows, m).cost)
 }
 
-// Where row k of the table leads from v, by the mask of v's open moves and the shifts of `offsets::shifts_of`: v itself
-// where that move is shut. A loop over the rows of a class then has nothing to branch on.
+// Where row k of the table leads from v, by the mask of v's open moves and the shifts: v itself where that move is shut. A
+// loop over the rows of a class then has nothing to branch on.
 pub fn end_or_self(mask: u32, v: Vertex, k: usize, shifts: &[usize]) -> Vertex
     requires { ⌜ (k < length (now shifts)) × Movable mask (v .0) k (shiftedBy (now shifts) k) ⌝ }
     ensures { λ r. ⌜ r .0 ≡ endAt (now (shifts .entry)) mask (v .0) k ⌝ }
 {
-    let by = Offset {
-        up: shifts[k],
-        down: offsets::SHIFT_BASE,
-    };
-    let Step::To(end) = offsets::masked_step(mask, v, k, by) else {
+    let OpenEnd::At(end) = offsets::open_end(mask, v, k, shifts) else {
         return v;
     };
     end
@@ -119,7 +101,7 @@ fn least_by(shifts: &[usize], class: Class, mask: u32, d: &[u32], v: usize) -> u
     }
     let mut least = NOWHERE;
     for j in 0..4 {
-        let w = end_or_self(mask, Vertex(v), offsets::row_of(class, j), shifts);
+        let w = end_or_self(mask, Vertex(v), offsets::class_row(class, j), shifts);
         least = lesser(least, cost_at(d, w.0));
     }
     least + wide(class.cost)
@@ -147,7 +129,7 @@ fn right_by(least: u64, a: usize, d: &[u32], v: usize) -> bool
 // The cost d(v) from a is right, as far as v and its neighbours can tell.
 pub fn cost_right(
     shifts: &[usize],
-    classes: [Class; 2],
+    classes: [Class; offsets::CLASSES],
     mask: u32,
     a: usize,
     d: &[u32],
@@ -165,7 +147,7 @@ pub fn cost_right(
 // the far ends of a class are worked out once for both. Called at one place, this is compiled into the loop there.
 pub fn costs_right(
     shifts: &[usize],
-    classes: [Class; 2],
+    classes: [Class; offsets::CLASSES],
     mask: u32,
     a: usize,
     b: usize,
@@ -187,36 +169,19 @@ pub fn costs_right(
     right_by(lesser(e_first, e_second), b, e, v)
 }
 
-// The loops below read the moves of a Reach from its lists, lent one by one: a Reach passed by value would be copied at
-// each call.
-
 // The sum of the counts f of the neighbours of v that lead to it cheapest, by the costs d.
-pub fn inflow_at(
-    count: usize,
-    row: &[usize],
-    up: &[usize],
-    down: &[usize],
-    cost: &[u32],
-    mask: u32,
-    d: &[u32],
-    f: &[u64],
-    v: usize,
-) -> Sum
-    requires { ⌜ Lent (tableOf count (now row) (now up) (now down) (now cost))
-        × Here (length (now d)) (tableOf count (now row) (now up) (now down) (now cost)) mask v
-        × (length (now f) ≡ length (now d)) ⌝ }
-    ensures { λ r. ⌜ r ≡ sumOf (inflow
-        (star (length (now (d .entry)))
-        (tableOf count (now (row .entry)) (now (up .entry)) (now (down .entry)) (now (cost .entry))) mask)
+pub fn inflow_at(rows: Rows, shifts: &[usize], mask: u32, d: &[u32], f: &[u64], v: usize) -> Sum
+    requires { ⌜ Readable (length (now d)) rows (now shifts) mask v × (length (now f) ≡ length (now d)) ⌝ }
+    ensures { λ r. ⌜ r ≡ sumOf (inflow (maskGraph (length (now (d .entry))) rows (now (shifts .entry)) mask)
         (entry (now (d .entry))) (entry (now (f .entry))) v) ⌝ }
 {
     let here = cost_at(d, v);
     let mut s: u64 = 0;
-    for m in 0..count {
-        let Step::To(w) = neighbour(mask, v, row[m], up[m], down[m]) else {
+    for m in 0..rows.count {
+        let OpenEnd::At(w) = far_end(rows, shifts, mask, v, m) else {
             continue;
         };
-        if cost_at(d, w.0) + wide(cost[m]) != here {
+        if cost_at(d, w.0) + move_cost(rows, m) != here {
             continue;
         }
         let at = w.0;
@@ -241,13 +206,13 @@ pub fn on_way(d: &[u32], e: &[u32], goal: usize, v: usize) -> bool
 }
 
 // Whether the route may go from v to w by a move that costs c: w is on the way and costs just the move more than v.
-fn follows(d: &[u32], e: &[u32], goal: usize, v: usize, w: usize, c: u32) -> bool
+fn follows(d: &[u32], e: &[u32], goal: usize, v: usize, w: usize, c: u64) -> bool
     requires { ⌜ (goal < length (now d)) × (v < length (now d)) × (w < length (now d))
-        × (length (now e) ≡ length (now d)) ⌝ }
+        × (length (now e) ≡ length (now d)) × (c < 4294967296) ⌝ }
     ensures { λ r. ⌜ r ≡ followsBy
         (onShortest (entry (now (d .entry))) (entry (now (e .entry))) goal) (entry (now (d .entry))) v w c ⌝ }
 {
-    if cost_at(d, w) != cost_at(d, v) + wide(c) {
+    if cost_at(d, w) != cost_at(d, v) + c {
         return false;
     }
     on_way(d, e, goal, w)
@@ -261,13 +226,10 @@ fn traversal_at(f: &[u64], b: &[u64], v: usize) -> u64
     f[v] * b[v]
 }
 
-// Where the central route goes from v, by the costs d and e and the counts f and b; off the floor where it is stuck.
+// Where the central route goes from v, by the costs d and e and the counts f and b.
 pub fn next_at(
-    count: usize,
-    row: &[usize],
-    up: &[usize],
-    down: &[usize],
-    cost: &[u32],
+    rows: Rows,
+    shifts: &[usize],
     mask: u32,
     d: &[u32],
     e: &[u32],
@@ -275,32 +237,30 @@ pub fn next_at(
     b: &[u64],
     goal: usize,
     v: usize,
-) -> Step
-    requires { ⌜ Choosing (tableOf count (now row) (now up) (now down) (now cost)) mask (now d) (now e) goal v
-        × Counted (length (now d)) (now f) (now b) ⌝ }
-    ensures { λ r. ⌜ r ≡ stepOf (nextOf
-        (tableOf count (now (row .entry)) (now (up .entry)) (now (down .entry)) (now (cost .entry))) mask
+) -> Next
+    requires { ⌜ Choosing rows (now shifts) mask (now d) (now e) goal v × Counted (length (now d)) (now f) (now b) ⌝ }
+    ensures { λ r. ⌜ r ≡ nextFrom (nextOf rows (now (shifts .entry)) mask
         (now (d .entry)) (now (e .entry)) (now (f .entry)) (now (b .entry)) goal v) ⌝ }
 {
-    let mut best = Step::Off;
+    let mut best = Next::Stuck;
     let mut high: u64 = 0;
-    for m in 0..count {
-        let Step::To(w) = neighbour(mask, v, row[m], up[m], down[m]) else {
+    for m in 0..rows.count {
+        let OpenEnd::At(w) = far_end(rows, shifts, mask, v, m) else {
             continue;
         };
-        if !follows(d, e, goal, v, w.0, cost[m]) {
+        if !follows(d, e, goal, v, w.0, move_cost(rows, m)) {
             continue;
         }
         let x = traversal_at(f, b, w.0);
-        let Step::To(_) = best else {
-            best = Step::To(w);
+        let Next::To(_) = best else {
+            best = Next::To(w);
             high = x;
             continue;
         };
         if x <= high {
             continue;
         }
-        best = Step::To(w);
+        best = Next::To(w);
         high = x;
     }
     best

@@ -25,10 +25,10 @@ use Rattle.moves.specs.declared.Move.{Move}
 use Rattle.moves.specs.declared.Offset.{Offset}
 use Rattle.moves.specs.declared.Rows.{Rows}
 use Rattle.moves.specs.Moves.{moves, rowMove, rowsOf, rowAt, moveAt}
-use Rattle.moves.specs.Steps.{up, down, openEnd}
+use Rattle.moves.specs.Steps.{up, down, isSome, openEnd}
 use Rattle.moves.specs.Table.{Short, partsOf}
 use Rattle.basics.specs.Bits.{bit}
-use Rattle.masks.specs.Masks.{isSome, OpenAt}
+use Rattle.masks.specs.Masks.{OpenAt}
 use Rattle.offsets.specs.Offsets.{offsetOf, maskedEnd, Movable}
 use Rattle.offsets.specs.Offsets.{shiftBase, Shifts, shiftedBy}
 use Rattle.moves.proofs.Signs.{up-le, down-le}

@@ -6,6 +6,8 @@
 --   Movable n v k o        == that can be worked out
 --   shiftBase, Shifts w l  == the offset of each row k, by 512 more, as place k of l: a number that is never negative
 --   shiftedBy l k          == that offset again
+--   rowEnd l n v k         == the far end of row k from v by the mask n and the shifts l, if the move is open
+--   endOf o                == that far end as the code answers it
 use Prim.Native.Nat.{ℕ, suc, _+_, _-_, _*_, _^_, _≤_, _<_}
 use mathlib.Core.Path.{_≡_}
 use mathlib.Core.Bool.{true}
@@ -15,6 +17,8 @@ use lib.ListN.{length, getD}
 use Rattle.basics.specs.Bounded.{pick}
 use Rattle.moves.specs.declared.Move.{Move}
 use Rattle.moves.specs.declared.Offset.{Offset}
+use Rattle.offsets.specs.declared.OpenEnd.{OpenEnd}
+use Rattle.offsets.specs.declared.OpenEnd.the-variants.{At, Shut}
 use Rattle.moves.specs.Moves.{moves, rowMove}
 use Rattle.moves.specs.Steps.{up, down}
 use Rattle.basics.specs.Bits.{bit}
@@ -40,3 +44,10 @@ pub record Shifts (w : ℕ) (l : List ℕ) : Type 0 where
 
 abbrev pub shiftedBy : List ℕ → ℕ → Offset
 shiftedBy l k = record { up = getD l k 0; down = shiftBase }
+
+abbrev pub rowEnd : List ℕ → ℕ → ℕ → ℕ → Option ℕ
+rowEnd l n v k = maskedEnd n v k (shiftedBy l k)
+
+unfoldable pub endOf : Option ℕ → OpenEnd
+endOf none = Shut
+endOf (some v) = At (record { 0 = v })

@@ -1,20 +1,22 @@
-// The moves of a neighbourhood as changes of a vertex number: a step by a mask of open moves, and the classes of moves of
-// one cost.
+// The moves as changes of a vertex number: the far end of an open move by the mask of its vertex, and the classes of moves
+// of one cost.
 ghost use mathlib.Core.Path.{_≡_};
 ghost use mathlib.Core.Bool.{true};
 ghost use Prim.Native.Nat.{_<_, _≤_};
+ghost use lib.ListN.{length};
 ghost use Rattle.moves.specs.Moves.{moveAt};
-ghost use Rattle.moves.specs.Steps.{stepOf};
 ghost use Rattle.moves.specs.Table.{Listed, lawfulRows};
-ghost use Rattle.offsets.specs.Offsets.{offsetOf, maskedEnd, Movable, Shifts};
+ghost use Rattle.offsets.specs.Offsets.{offsetOf, Movable, Shifts, shiftedBy, rowEnd, endOf};
 ghost use Rattle.offsets.specs.Classes.{classRow, classFor, Classes};
 use floor::Vertex;
 use moves::Offset;
 use moves::Rows;
-use moves::Step;
 
 // What is added to a change of a vertex number that stands in a list.
 pub const SHIFT_BASE: usize = 512;
+
+// How many classes a neighbourhood has; one of no move stands for a class that it lacks.
+pub const CLASSES: usize = 2;
 
 // How many rows of the table a quarter turn is: a fourth of them, since they stand in order of angle.
 const QUARTER: usize = 2;
@@ -24,6 +26,13 @@ const QUARTER: usize = 2;
 pub struct Class {
     pub row: usize,
     pub cost: u32,
+}
+
+// Where a move leads from a vertex, by the mask of its open moves: to a vertex, or nowhere since the move is shut, as one is
+// that leaves the floor.
+pub enum OpenEnd {
+    At(Vertex),
+    Shut,
 }
 
 // By how much move m of a neighbourhood changes a vertex number.
@@ -40,16 +49,15 @@ pub fn offset_of(w: usize, rows: Rows, m: usize) -> Offset
     }
 }
 
-// Vertex v moved by the offset of a row, where the mask of v has that row's bit: where the move is open. A move that is
-// shut answers `Off`, as one that leaves the floor does.
-pub fn masked_step(mask: u32, v: Vertex, row: usize, o: Offset) -> Step
-    requires { ⌜ Movable mask (v .0) row o ⌝ }
-    ensures { λ r. ⌜ r ≡ stepOf (maskedEnd mask (v .0) row o) ⌝ }
+// Where row k of the table leads from v, by the mask of v's open moves and the shifts of `shifts_of`.
+pub fn open_end(mask: u32, v: Vertex, k: usize, shifts: &[usize]) -> OpenEnd
+    requires { ⌜ (k < length (now shifts)) × Movable mask (v .0) k (shiftedBy (now shifts) k) ⌝ }
+    ensures { λ r. ⌜ r ≡ endOf (rowEnd (now (shifts .entry)) mask (v .0) k) ⌝ }
 {
-    if (mask >> row) % 2 == 1 {
-        return Step::To(Vertex(v.0 + o.up - o.down));
+    if (mask >> k) % 2 == 1 {
+        return OpenEnd::At(Vertex(v.0 + shifts[k] - SHIFT_BASE));
     }
-    Step::Off
+    OpenEnd::Shut
 }
 
 // By how much the move of each row of the table changes a vertex number on floors of width w, and SHIFT_BASE more, so that
@@ -67,7 +75,7 @@ pub fn shifts_of(w: usize) -> [usize; 8]
 }
 
 // Row number j of a class.
-pub fn row_of(class: Class, j: usize) -> usize
+pub fn class_row(class: Class, j: usize) -> usize
     requires { ⌜ (class .row < 32) × (j < 4) ⌝ }
     ensures { λ r. ⌜ r ≡ classRow class j ⌝ }
 {
@@ -90,7 +98,7 @@ fn class_of(rows: Rows, m: usize) -> Class
 }
 
 // The classes of a neighbourhood, read off the table.
-pub fn classes_of(rows: Rows) -> [Class; 2]
+pub fn classes_of(rows: Rows) -> [Class; CLASSES]
     requires { ⌜ Listed rows ⌝ }
     ensures { λ r. ⌜ Classes rows r ⌝ }
 {

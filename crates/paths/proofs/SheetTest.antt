@@ -178,7 +178,7 @@ module _ (g : Graph) (L : Lawful g) (a b : ℕ) (in-a : a < g .size) (in-b : b <
 
   -- ---- the whole route sheet
 
-  pub local-true : Shaped g s → entry (s .f) b < 2 ^ 64 → localRoute g a b s ≡ true → TrueRoute g a b s
+  pub local-true : Shaped (g .size) s → entry (s .f) b < 2 ^ 64 → localRoute g a b s ≡ true → TrueRoute g a b s
   unfolding localRoute routeSheet
   local-true shape total t =
       let N = numbers-true (and-left (localNumbers g a b s) _ t) in
@@ -208,12 +208,12 @@ module _ (g : Graph) (L : Lawful g) (a b : ℕ) (in-a : a < g .size) (in-b : b <
         count = ap (λ t. t .n) (S .is) ∙ ap length (sym (local-route N));
       }) in-a (local-inside N) (local-arrives N))
 
-  pub localRoute-exact : Shaped g s → entry (s .f) b < 2 ^ 64 → (localRoute g a b s ≡ true) ↔ TrueRoute g a b s
+  pub localRoute-exact : Shaped (g .size) s → entry (s .f) b < 2 ^ 64 → (localRoute g a b s ≡ true) ↔ TrueRoute g a b s
   localRoute-exact shape total = (local-true shape total, true-local)
 
   -- ---- the no-route sheet
 
-  pub local-noRoute : Shaped g s → localNoRoute g a b s ≡ true → TrueNoRoute g a b s
+  pub local-noRoute : Shaped (g .size) s → localNoRoute g a b s ≡ true → TrueNoRoute g a b s
   unfolding localNoRoute noRouteSheet
   local-noRoute shape t =
       let t1 = and-right (rightCosts g a (entry (s .d))) _ t in
@@ -237,5 +237,5 @@ module _ (g : Graph) (L : Lawful g) (a b : ℕ) (in-a : a < g .size) (in-b : b <
       (every-all (g .size) (blankAt s) (λ v i. blank-at s v
       (record { e = E .e-zero v; f = E .f-zero v; b = E .b-zero v; route = E .route-zero v })))))
 
-  pub localNoRoute-exact : Shaped g s → (localNoRoute g a b s ≡ true) ↔ TrueNoRoute g a b s
+  pub localNoRoute-exact : Shaped (g .size) s → (localNoRoute g a b s ≡ true) ↔ TrueNoRoute g a b s
   localNoRoute-exact shape = (local-noRoute shape, noRoute-local)

@@ -146,7 +146,7 @@ pub record TrueNumbers (g : Graph) (a b : ℕ) (s : Sheet) : Type 0 where
   pub counts-from : (v : ℕ) → v < g .size → entry (s .f) v ≡ countFrom g a b v
   pub counts-to : (v : ℕ) → v < g .size → entry (s .b) v ≡ countTo g a b v
 
-pub routeSheet-of : (g : Graph) (a b : ℕ) (s : Sheet) → Shaped g s → TrueNumbers g a b s
+pub routeSheet-of : (g : Graph) (a b : ℕ) (s : Sheet) → Shaped (g .size) s → TrueNumbers g a b s
     → s .route ≡ padded (g .size) (centralRoute g a b) → s .n ≡ length (centralRoute g a b) → s ≡ routeSheet g a b
 unfolding routeSheet
 routeSheet-of g a b s shape N r n =
@@ -162,7 +162,7 @@ pub record Blank (s : Sheet) (v : ℕ) : Type 0 where
   pub b : entry (s .b) v ≡ 0
   pub route : entry (s .route) v ≡ 0
 
-pub noRouteSheet-of : (g : Graph) (a : ℕ) (s : Sheet) → Shaped g s
+pub noRouteSheet-of : (g : Graph) (a : ℕ) (s : Sheet) → Shaped (g .size) s
     → ((v : ℕ) → v < g .size → entry (s .d) v ≡ distance g a v) → ((v : ℕ) → v < g .size → Blank s v) → s .n ≡ 0
     → s ≡ noRouteSheet g a
 unfolding noRouteSheet
@@ -177,7 +177,7 @@ noRouteSheet-of g a s shape dd blank n =
 -- ---- what a true sheet holds
 
 pub record RouteEntries (g : Graph) (a b : ℕ) (s : Sheet) : Type 0 where
-  pub shape : Shaped g s
+  pub shape : Shaped (g .size) s
   pub d-at : (v : ℕ) → v < g .size → entry (s .d) v ≡ distance g a v
   pub e-at : (v : ℕ) → v < g .size → entry (s .e) v ≡ distance g v b
   pub f-at : (v : ℕ) → v < g .size → entry (s .f) v ≡ countFrom g a b v
@@ -257,7 +257,7 @@ module _ (g : Graph) (L : Lawful g) (a b : ℕ) (in-a : a < g .size) (in-b : b <
         rw e (distance-bound g L b in-b top dear v i (rw e at h))
 
 pub record NoRouteEntries (g : Graph) (a b : ℕ) (s : Sheet) : Type 0 where
-  pub shape : Shaped g s
+  pub shape : Shaped (g .size) s
   pub d-at : (v : ℕ) → v < g .size → entry (s .d) v ≡ distance g a v
   pub d-end : distance g a b ≡ unreachable
   pub e-zero : (v : ℕ) → entry (s .e) v ≡ 0

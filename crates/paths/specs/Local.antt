@@ -10,7 +10,7 @@
 --   rightPoint g next b n R i  == place i of a route of n points: b is the last, each other is followed by its next
 --                              vertex, and past the n points stands 0
 --   rightRoute g next a b n R  == R 0, R 1, .. are the points from a to b by the rule `next`, n of them, then 0
---   Shaped g s              == the slices of the sheet s have a place for each vertex
+--   Shaped n s              == the slices of the sheet s have n places each
 --   localOn, localNext      == on the way, and the next vertex, by the numbers of a sheet
 --   localNumbers g a b s    == d, e, f and b of the sheet s are those of a job with a route
 --   localRoute g a b s      == so are its route and n: s is the true route sheet, where its total fits
@@ -88,12 +88,12 @@ rightRoute g next a b n R =
 abbrev pub entry : List ℕ → ℕ → ℕ
 entry l v = getD l v 0
 
-pub record Shaped (g : Graph) (s : Sheet) : Type 0 where
-  pub d : length (s .d) ≡ g .size
-  pub e : length (s .e) ≡ g .size
-  pub f : length (s .f) ≡ g .size
-  pub b : length (s .b) ≡ g .size
-  pub route : length (s .route) ≡ g .size
+pub record Shaped (n : ℕ) (s : Sheet) : Type 0 where
+  pub d : length (s .d) ≡ n
+  pub e : length (s .e) ≡ n
+  pub f : length (s .f) ≡ n
+  pub b : length (s .b) ≡ n
+  pub route : length (s .route) ≡ n
 
 unfoldable pub localOn : ℕ → Sheet → ℕ → Bool
 localOn b s = onShortest (entry (s .d)) (entry (s .e)) b

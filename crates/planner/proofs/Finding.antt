@@ -29,10 +29,11 @@ use Rattle.paths.proofs.Way.{way-end, countFrom-way}
 use Rattle.paths.proofs.Sheets.{fits-total}
 use Rattle.grid.specs.Grid.{floorGraph}
 use Rattle.grid.proofs.Lawful.{floor-lawful, size-le}
-use Rattle.neighbours.specs.declared.Reach.{Reach}
-use Rattle.neighbours.specs.Reach.{Built}
-use Rattle.distances.specs.Order.{MasksIn, Costing, OrderedCosts, Masked}
-use Rattle.counts.specs.Passes.{Priced, Readied, Known, Filled}
+use Rattle.offsets.specs.Offsets.{Shifts}
+use Rattle.workspace.specs.Regions.{Masked, MasksIn}
+use Rattle.workspace.proofs.Regions.{floor-masked}
+use Rattle.distances.specs.Costs.{Costing, OrderedCosts}
+use Rattle.counts.specs.Passes.{Readied, Known, Filled}
 use Rattle.planner.specs.declared.Planned.{Planned}
 use Rattle.planner.specs.declared.Planned.the-variants.{Found, Refused}
 use Rattle.planner.specs.Plan.{slicesOf}
@@ -51,7 +52,7 @@ module _ {w h : ℕ} {map : List ℕ} {rows : Rows} {a b : ℕ} {d e f back rout
   lawful = floor-lawful (floorOf w h map) rows (listed-lawful (F .finishable .job .listed))
 
   d-len : length d ≡ g .size
-  d-len = F .finishable .lent .d-len
+  d-len = F .finishable .lent .sheet .d
 
   pub found-few : length d ≤ 16384
   found-few = omega (arith, d-len, few)
@@ -65,33 +66,31 @@ module _ {w h : ℕ} {map : List ℕ} {rows : Rows} {a b : ℕ} {d e f back rout
   )
 
   pub found-costing : {x : ℕ} → x < vertices w h → Costing w h map rows x e work
-  found-costing i = record {
-    sized = F .finishable .job .sized;
-    listed = F .finishable .job .listed;
-    source = i;
-    d-len = F .finishable .lent .e-len;
-    work-len = F .finishable .lent .work-len;
-  }
+  found-costing i =
+      let J = F .finishable .job in
+      record {
+        job = record { sized = J .sized; listed = J .listed; start-in = i; goal-in = i };
+        d-len = F .finishable .lent .sheet .e;
+        work-len = F .finishable .lent .work-len;
+      }
 
-  module _ {x n : ℕ} {t : Reach} {e′ work′ : List ℕ} (C : OrderedCosts (floorOf w h map) rows x n e′ work′)
-      (B : Built w rows t) where
-    masked : Masked g t work′
-    masked = C .masked t B
-
-    priced : Priced g t
-    priced = record { cost = λ m l. B .move m (omega (arith, B .count)) .cost }
+  module _ {x n : ℕ} {shifts e′ work′ : List ℕ} (C : OrderedCosts (floorOf w h map) rows x n e′ work′)
+      (S : Shifts w shifts) where
+    masked : Masked g rows shifts work′
+    masked =
+        let J = F .finishable .job in
+        floor-masked (floorOf w h map) rows (J .sized .wide) (J .sized .high) (listed-lawful (J .listed)) S (C .masks)
 
     pub found-same : length e′ ≡ length d
     found-same = ap length (C .costs) ∙ length-tabulate (g .size) _ ∙ sym d-len
 
-    pub found-readied : Readied t n d work′
+    pub found-readied : Readied rows shifts n d work′
     found-readied = record {
       few = omega (arith, few, d-len);
       work-len = omega (arith, C .work-len, d-len);
       short = omega (arith, C .few, d-len);
-      lent = B .lent;
       vertex = rw d-len (C .ordered .inside);
-      here = rw d-len (masked .here);
+      readable = rw d-len (λ u i. masked .shows u i .readable);
     }
 
     module _ (from-b : e′ ≡ tabulate (g .size) (distance g b)) where
@@ -101,7 +100,7 @@ module _ {w h : ℕ} {map : List ℕ} {rows : Rows} {a b : ℕ} {d e f back rout
           from-b
           ∙ tabulate-cong (g .size) (distance g b) _ (λ v i. distance-sym g lawful b v (F .finishable .job .goal-in) i)
 
-      pub found-known : Known g t a b n d e′ work′
+      pub found-known : Known g rows shifts a b n d e′ work′
       found-known = record {
         lawful = lawful;
         start-in = F .finishable .job .start-in;
@@ -110,23 +109,22 @@ module _ {w h : ℕ} {map : List ℕ} {rows : Rows} {a b : ℕ} {d e f back rout
         costs-from = F .finishable .costs;
         costs-back = from-b;
         masked = masked;
-        priced = priced;
         ordered = C .ordered;
       }
 
-      module _ {r : Bool} {work″ f′ back′ : List ℕ} (filled : Filled g t a b r work″ f′ back′) where
+      module _ {r : Bool} {work″ f′ back′ : List ℕ} (filled : Filled g rows shifts a b r work″ f′ back′) where
         pub found-many : r ≡ false
             → Finished g a b (Refused TooMany) (slicesOf d e′ f′ back′ route (zeros (4 * vertices w h)))
         found-many over =
-            let K = subst (λ z. Filled g t a b z work″ f′ back′) over filled in
+            let K = subst (λ z. Filled g rows shifts a b z work″ f′ back′) over filled in
             finished-many (F .finishable .costs) refl (F .reached) e-true (sym (K .answer)) (K .f-left) (K .back-left)
             (F .route-blank)
 
         module _ (fit : r ≡ true) where
-          K : Filled g t a b true work″ f′ back′
-          K = subst (λ z. Filled g t a b z work″ f′ back′) fit filled
+          K : Filled g rows shifts a b true work″ f′ back′
+          K = subst (λ z. Filled g rows shifts a b z work″ f′ back′) fit filled
 
-          pub found-walkable : Walkable g t a b d e′ f′ back′ work″ route
+          pub found-walkable : Walkable g rows shifts a b d e′ f′ back′ work″ route
           found-walkable = record {
             few = few;
             lawful = lawful;
@@ -139,8 +137,6 @@ module _ {w h : ℕ} {map : List ℕ} {rows : Rows} {a b : ℕ} {d e f back rout
             f-true = K .f-left;
             back-true = K .back-left;
             masked = K .masked;
-            lent = B .lent;
-            priced = priced;
             work-len = K .work-len;
             blank = F .route-blank;
           }
@@ -180,8 +176,8 @@ module _ {w h : ℕ} {map : List ℕ} {rows : Rows} {a b : ℕ} {d e f back rout
       → Finished graph a b (Refused NoRoute) (slicesOf d e′ f′ back′ route′ work′)
   finish-none far e-blank work-blank =
       finished-none (P .costs) (work-blank ∙ ap zeros (P .lent .work-len)) (sym goal-cost ∙ far)
-      (e-blank ∙ ap zeros (P .lent .e-len)) (f-blank ∙ ap zeros (P .lent .f-len))
-      (back-blank ∙ ap zeros (P .lent .back-len)) (route-blank ∙ ap zeros (P .lent .route-len))
+      (e-blank ∙ ap zeros (P .lent .sheet .e)) (f-blank ∙ ap zeros (P .lent .sheet .f))
+      (back-blank ∙ ap zeros (P .lent .sheet .b)) (route-blank ∙ ap zeros (P .lent .sheet .route))
 
   pub finish-findable : MasksIn (floorOf w h map) work → (entry d b ≡ unreachable → ⊥)
       → Findable w h map rows a b d e f′ back′ route′ work
@@ -189,20 +185,22 @@ module _ {w h : ℕ} {map : List ℕ} {rows : Rows} {a b : ℕ} {d e f back rout
     finishable = record {
       job = P .job;
       lent = record {
-        d-len = P .lent .d-len;
-        e-len = P .lent .e-len;
-        f-len = length-of f f-blank ∙ P .lent .f-len;
-        back-len = length-of back back-blank ∙ P .lent .back-len;
-        route-len = length-of route route-blank ∙ P .lent .route-len;
+        sheet = record {
+          d = P .lent .sheet .d;
+          e = P .lent .sheet .e;
+          f = length-of f f-blank ∙ P .lent .sheet .f;
+          b = length-of back back-blank ∙ P .lent .sheet .b;
+          route = length-of route route-blank ∙ P .lent .sheet .route;
+        };
         work-len = P .lent .work-len;
       };
       costs = P .costs;
     };
     masks = masks;
     reached = omega (arith, goal-cost, distance-le graph a b, near-ne);
-    f-blank = f-blank ∙ ap zeros (P .lent .f-len);
-    back-blank = back-blank ∙ ap zeros (P .lent .back-len);
-    route-blank = route-blank ∙ ap zeros (P .lent .route-len);
+    f-blank = f-blank ∙ ap zeros (P .lent .sheet .f);
+    back-blank = back-blank ∙ ap zeros (P .lent .sheet .b);
+    route-blank = route-blank ∙ ap zeros (P .lent .sheet .route);
   }
     where
       length-of : {l′ : List ℕ} (l : List ℕ) → l′ ≡ zeros (length l) → length l′ ≡ length l

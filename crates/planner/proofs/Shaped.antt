@@ -1,6 +1,5 @@
 -- The shape of a job as the planner tests it, and what each test says of the planner's answer.
 --
---   good-job                  == a job that fits has a good shape but for refusal 6
 --   lent-of                   == slices whose lengths pass the test have the lengths that they need
 --   lengths-bad               == slices whose lengths do not pass the test lack the lengths that they need
 --   costing-of, finishable-of == what the costs from a take, and what the rest takes then
@@ -24,12 +23,12 @@ use Rattle.paths.specs.Distance.{distance}
 use Rattle.grid.specs.Grid.{floorGraph, jobOf}
 use Rattle.grid.specs.declared.Job.{Job}
 use Rattle.grid.specs.declared.Job.the-variants.{Fit, Unfit}
-use Rattle.grid.proofs.Jobs.{job-fit}
-use Rattle.distances.specs.Order.{Costing}
+use Rattle.grid.specs.Known.{GoodJob}
+use Rattle.distances.specs.Costs.{Costing}
 use Rattle.planner.specs.declared.Planned.{Planned}
 use Rattle.planner.specs.declared.Planned.the-variants.{Refused}
 use Rattle.planner.specs.Plan.{Slices, slicesOf, slicesSized, planAnswer, planLeft, Plans}
-use Rattle.planner.specs.Parts.{lengthsGood, GoodJob, FullSlices, Finishable, Finished, PlansJob}
+use Rattle.planner.specs.Parts.{lengthsGood, FullSlices, Finishable, Finished, PlansJob}
 
 lent-at : (v : ℕ) (d e f back route work : List ℕ)
     → true ≡ lengthsGood v (length d) (length e) (length f) (length back) (length route) (length work)
@@ -39,11 +38,13 @@ lent-at v d e f back route work q =
     let r = all-six (eqb (length d) v) (eqb (length e) v) (eqb (length f) v) (eqb (length back) v)
     (eqb (length route) v) (eqb (length work) (4 * v)) (sym q) in
     record {
-      d-len = eqb-true (length d) v (r .0);
-      e-len = eqb-true (length e) v (r .1);
-      f-len = eqb-true (length f) v (r .2);
-      back-len = eqb-true (length back) v (r .3);
-      route-len = eqb-true (length route) v (r .4);
+      sheet = record {
+        d = eqb-true (length d) v (r .0);
+        e = eqb-true (length e) v (r .1);
+        f = eqb-true (length f) v (r .2);
+        b = eqb-true (length back) v (r .3);
+        route = eqb-true (length route) v (r .4);
+      };
       work-len = eqb-true (length work) (4 * v) (r .5);
     }
 
@@ -52,10 +53,11 @@ pub lent-of : {v k : ℕ} {r : Bool} (d e f back route work : List ℕ) → v �
     → FullSlices k d e f back route work
 lent-of {k = k} d e f back route work n q t = lent-at k d e f back route work (sym t ∙ (rw n at q))
 
-lent-sized : {v : ℕ} {d e f back route work : List ℕ} → FullSlices v d e f back route work
+pub full-sized : {v : ℕ} {d e f back route work : List ℕ} → FullSlices v d e f back route work
     → slicesSized v (slicesOf d e f back route work) ≡ true
 unfolding slicesSized
-lent-sized L = rw (eq (L .d-len), eq (L .e-len), eq (L .f-len), eq (L .back-len), eq (L .route-len), eq (L .work-len))
+full-sized L =
+    let s = L .sheet in rw (eq (s .d), eq (s .e), eq (s .f), eq (s .b), eq (s .route), eq (L .work-len))
   where
     eq : {m n : ℕ} → m ≡ n → eqb m n ≡ true
     eq {m} {n} q = eq-eqb m n q
@@ -67,12 +69,6 @@ unfolding slicesSized lengthsGood
 lengths-bad v k d e f back route work r n q t = sym (rw n at q) ∙ not-true r t
 
 module _ {w h : ℕ} {map : List ℕ} where
-  pub good-job : {rows : Rows} {j : Job} (nb a b : ℕ) → j ≡ jobOf w h map nb a b → j ≡ Fit rows
-      → GoodJob w h map rows a b
-  good-job {rows} nb a b q t =
-      let r = job-fit w h map nb a b rows (sym q ∙ t) in
-      record { sized = r .floor .sized; listed = r .listed; start-in = r .start; goal-in = r .end }
-
   module _ {nb a b : ℕ} {s : Slices} where
     pub plans-unfit : {z : Refusal} {s′ : Slices} → jobOf w h map nb a b ≡ Unfit z → s′ ≡ s
         → Plans w h map nb a b s (Refused z) s′
@@ -93,15 +89,13 @@ module _ {w h : ℕ} {map : List ℕ} where
     pub job-sized : {r : Planned} {s′ : Slices} → FullSlices (vertices w h) d e f back route work
         → Finished (floorGraph (floorOf w h map) rows) a b r s′
         → PlansJob w h map rows a b (slicesOf d e f back route work) r s′
-    job-sized L F = let q = lent-sized L in record { answer = rw q (F .answer); left = rw q (F .left) }
+    job-sized L F = let q = full-sized L in record { answer = rw q (F .answer); left = rw q (F .left) }
 
     module _ (J : GoodJob w h map rows a b) (L : FullSlices (vertices w h) d e f back route work) where
       pub costing-of : {work′ : List ℕ} → length work′ ≡ length work → Costing w h map rows a d work′
       costing-of same = record {
-        sized = J .sized;
-        listed = J .listed;
-        source = J .start-in;
-        d-len = L .d-len;
+        job = record { sized = J .sized; listed = J .listed; start-in = J .start-in; goal-in = J .start-in };
+        d-len = L .sheet .d;
         work-len = same ∙ L .work-len;
       }
 
@@ -111,11 +105,13 @@ module _ {w h : ℕ} {map : List ℕ} where
       finishable-of costs work-len = record {
         job = J;
         lent = record {
-          d-len = ap length costs ∙ length-tabulate (vertices w h) _;
-          e-len = L .e-len;
-          f-len = L .f-len;
-          back-len = L .back-len;
-          route-len = L .route-len;
+          sheet = record {
+            d = ap length costs ∙ length-tabulate (vertices w h) _;
+            e = L .sheet .e;
+            f = L .sheet .f;
+            b = L .sheet .b;
+            route = L .sheet .route;
+          };
           work-len = work-len;
         };
         costs = costs;

@@ -41,15 +41,13 @@ use Rattle.paths.proofs.Way.{shortest-same, traversals-fit}
 use Rattle.paths.proofs.Choice.{next-same, next-inside}
 use Rattle.paths.proofs.Follow.{Arrives, end, on, follow-end, follow-on}
 use Rattle.paths.proofs.Route.{route-arrives, route-length}
-use Rattle.moves.specs.declared.Step.{Step}
-use Rattle.moves.specs.declared.Step.the-variants.{To, Off}
-use Rattle.moves.specs.Steps.{stepOf}
-use Rattle.neighbours.specs.declared.Reach.{Reach}
-use Rattle.neighbours.specs.Reach.{star}
-use Rattle.neighbours.specs.Choice.{traversalOf, nextOf, Choosing}
-use Rattle.neighbours.proofs.Steps.{stepOf-off, stepOf-to}
-use Rattle.neighbours.proofs.Agree.{Agrees, nextVertex-agrees}
-use Rattle.distances.specs.Order.{maskAt}
+use Rattle.moves.specs.declared.Rows.{Rows}
+use Rattle.neighbours.specs.declared.Next.{Next}
+use Rattle.neighbours.specs.declared.Next.the-variants.{To, Stuck}
+use Rattle.neighbours.specs.Choice.{traversalOf, nextOf, nextFrom, Choosing}
+use Rattle.neighbours.proofs.Steps.{next-stuck, next-to}
+use Rattle.neighbours.proofs.Agree.{nextVertex-agrees}
+use Rattle.workspace.specs.Regions.{maskAt}
 use Rattle.planner.specs.Parts.{Walkable, Routed}
 
 abbrev pub centralNext : Graph → ℕ → ℕ → ℕ → Option ℕ
@@ -66,7 +64,7 @@ pub record Walking (g : Graph) (a b n v : ℕ) (r : List ℕ) : Type 0 where
   pub written : (i : ℕ) → i < n → entry r i ≡ getD (centralRoute g a b) i 0
   pub blank : (i : ℕ) → n ≤ i → entry r i ≡ 0
 
-module _ {g : Graph} {t : Reach} {a b : ℕ} {d e f back work r : List ℕ} (W : Walkable g t a b d e f back work r) where
+module _ {g : Graph} {rows : Rows} {shifts : List ℕ} {a b : ℕ} {d e f back work r : List ℕ} (W : Walkable g rows shifts a b d e f back work r) where
   pub d-len : length d ≡ g .size
   d-len = ap length (W .d-true) ∙ length-tabulate (g .size) _
 
@@ -101,25 +99,17 @@ module _ {g : Graph} {t : Reach} {a b : ℕ} {d e f back work r : List ℕ} (W :
       omega (arith, traversal-at v (omega (arith, d-len)), traversals-fit g (W .lawful) a b v, W .total)
 
   module _ (v : ℕ) (i : v < g .size) where
-    pub walkable-choosing : Choosing t (maskAt (length d) work v) d e b v
+    pub walkable-choosing : Choosing rows shifts (maskAt (length d) work v) d e b v
     walkable-choosing = record {
-      lent = W .lent;
-      here = rw d-len (W .masked .here v i);
+      readable = rw d-len (W .masked .shows v i .readable);
       goal-in = omega (arith, d-len, W .goal-in);
       e-len = e-len ∙ sym d-len;
     }
 
-    agrees : Agrees (star (g .size) t (maskAt (g .size) work v)) g v
-    agrees = record {
-      moves = W .masked .count;
-      cost = λ m l. W .priced .cost m (omega (arith, W .masked .count));
-      step = λ m l. W .masked .step v m i (omega (arith, W .masked .count));
-    }
-
-    pub next-central : nextOf t (maskAt (length d) work v) d e f back b v ≡ centralNext g a b v
+    pub next-central : nextOf rows shifts (maskAt (length d) work v) d e f back b v ≡ centralNext g a b v
     unfolding onWay
     next-central =
-        rw d-len (nextVertex-agrees agrees (entry d) (onShortest (entry d) (entry e) b) (traversalOf f back))
+        rw d-len (nextVertex-agrees (W .masked .shows v i .agrees) (entry d) (onShortest (entry d) (entry e) b) (traversalOf f back))
         ∙ next-same g (W .lawful) (onShortest (entry d) (entry e) b) (onWay g a b) (entry d) (distance g a)
         (traversalOf f back) (traversals g a b)
         (λ u k. shortest-same (entry d) (distance g a) (entry e) (λ w. distance g w b) b u (d-at u k) (e-at u k)
@@ -213,32 +203,32 @@ module _ {g : Graph} {t : Reach} {a b : ℕ} {d e f back work r : List ℕ} (W :
 
 -- ---- the loop
 
-pub record Stepping (t : Reach) (a b : ℕ) (d e f back work r₀ : List ℕ) (n v : ℕ) (r : List ℕ) : Type 0 where
-  pub walking : (g : Graph) → Walkable g t a b d e f back work r₀ → Walking g a b n v r
+pub record Stepping (rows : Rows) (shifts : List ℕ) (a b : ℕ) (d e f back work r₀ : List ℕ) (n v : ℕ) (r : List ℕ) : Type 0 where
+  pub walking : (g : Graph) → Walkable g rows shifts a b d e f back work r₀ → Walking g a b n v r
 
-module _ {t : Reach} {a b : ℕ} {d e f back work r₀ : List ℕ} where
-  pub step-start : Stepping t a b d e f back work r₀ 0 a r₀
+module _ {rows : Rows} {shifts : List ℕ} {a b : ℕ} {d e f back work r₀ : List ℕ} where
+  pub step-start : Stepping rows shifts a b d e f back work r₀ 0 a r₀
   step-start = record { walking = λ g W. walking-start W }
 
-  module _ {n v : ℕ} {r : List ℕ} (h : Stepping t a b d e f back work r₀ n v r) where
-    module _ (ne : v ≡ b → ⊥) (s : Step) (q : s ≡ stepOf (nextOf t (maskAt (length d) work v) d e f back b v)) where
-      pub step-more : (w : ℕ) → s ≡ To (record { 0 = w }) → Stepping t a b d e f back work r₀ (n + 1) w (set r n v)
+  module _ {n v : ℕ} {r : List ℕ} (h : Stepping rows shifts a b d e f back work r₀ n v r) where
+    module _ (ne : v ≡ b → ⊥) (s : Next) (q : s ≡ nextFrom (nextOf rows shifts (maskAt (length d) work v) d e f back b v)) where
+      pub step-more : (w : ℕ) → s ≡ To (record { 0 = w }) → Stepping rows shifts a b d e f back work r₀ (n + 1) w (set r n v)
       step-more w p = record {
         walking = λ g W.
             let k = h .walking g W in
-            let there = stepOf-to (nextOf t (maskAt (length d) work v) d e f back b v) w (sym q ∙ p) in
+            let there = next-to (nextOf rows shifts (maskAt (length d) work v) d e f back b v) w (sym q ∙ p) in
             walking-more W k w ne (sym (next-central W v (k .inside)) ∙ there);
       }
 
-      pub step-stuck : {P : Type 0} → s ≡ Off → (g : Graph) → Walkable g t a b d e f back work r₀ → P
+      pub step-stuck : {P : Type 0} → s ≡ Stuck → (g : Graph) → Walkable g rows shifts a b d e f back work r₀ → P
       step-stuck p g W =
           let k = h .walking g W in
-          let stuck = stepOf-off (nextOf t (maskAt (length d) work v) d e f back b v) (sym q ∙ p) in
+          let stuck = next-stuck (nextOf rows shifts (maskAt (length d) work v) d e f back b v) (sym q ∙ p) in
           none-some (sym stuck ∙ next-central W v (k .inside) ∙ walking-goes W k ne .1)
 
-    pub step-end : v ≡ b → (g : Graph) → Walkable g t a b d e f back work r₀ → Routed g a b (set r n v) (n + 1)
+    pub step-end : v ≡ b → (g : Graph) → Walkable g rows shifts a b d e f back work r₀ → Routed g a b (set r n v) (n + 1)
     step-end q g W = walking-end W (h .walking g W) q
 
     -- A store keeps the length.
-    pub step-len : (g : Graph) → Walkable g t a b d e f back work r₀ → length (set r n v) ≡ length r₀
+    pub step-len : (g : Graph) → Walkable g rows shifts a b d e f back work r₀ → length (set r n v) ≡ length r₀
     step-len g W = length-set r n v ∙ h .walking g W .len ∙ sym (ap length (W .blank) ∙ length-replicate (g .size) 0)

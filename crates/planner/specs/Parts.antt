@@ -1,13 +1,12 @@
 -- The parts of the planner: what the walk of the route and the finishing of a job from known costs are handed, and what
 -- they leave. Nobody has to believe these: they stand in contracts of functions that the planner alone calls.
 --
---   Walkable g t a b d e f back work route == the lists hold the true costs and counts of a job on graph g that has a
+--   Walkable g rows shifts a b d e f back work route == the lists hold the true costs and counts of a job on graph g that has a
 --                                route, and the masks; the route is all 0
 --   Routed g a b route n      == the route slice holds the central route, and n is the number of its points
 --   lengthsGood v ..          == the slices of these lengths have the places that a floor of v vertices needs
---   GoodJob w h map rows a b  == floor, neighbourhood and ends have a good shape
 --   FullSlices v ..           == the slices have the lengths that they need
---   Finishable ..             == both, and d holds the costs from a
+--   Finishable ..             == so they have, for a good job, and d holds the costs from a
 --   Findable ..               == the same, the masks stand in the working slice, a walk joins the ends, and counts and
 --                                route are all 0
 --   PlansJob ..               == the answer r and the slices s' are the planner's, where none of refusals 1 to 5
@@ -20,22 +19,22 @@ use mathlib.Core.List.{List}
 use lib.Dec.{eqb}
 use lib.ListN.{length}
 use Rattle.basics.specs.Lists.{tabulate, padded, zeros}
-use Rattle.floor.specs.Floor.{Sized, floorOf, vertices}
+use Rattle.floor.specs.Floor.{floorOf, vertices}
 use Rattle.moves.specs.declared.Rows.{Rows}
-use Rattle.moves.specs.Table.{Listed}
 use Rattle.paths.specs.Graph.{Graph, Lawful}
 use Rattle.paths.specs.Distance.{unreachable, distance, pathCount}
 use Rattle.paths.specs.Route.{countFrom, countTo, centralRoute}
+use Rattle.paths.specs.Sheet.{sheetOf}
+use Rattle.paths.specs.Local.{Shaped}
 use Rattle.grid.specs.Grid.{floorGraph}
+use Rattle.grid.specs.Known.{GoodJob}
 use Rattle.grid.specs.declared.Job.the-variants.{Fit}
-use Rattle.neighbours.specs.declared.Reach.{Reach}
-use Rattle.neighbours.specs.Reach.{Lent}
-use Rattle.distances.specs.Order.{Masked, MasksIn}
-use Rattle.counts.specs.Passes.{Priced}
+use Rattle.workspace.specs.Regions.{Masked, MasksIn}
 use Rattle.planner.specs.declared.Planned.{Planned}
-use Rattle.planner.specs.Plan.{Slices, routeAnswer, routeLeft, answered, leftBy}
+use Rattle.planner.specs.Plan.{Slices, routeAnswer, routeLeft, answered, jobLeft}
 
-pub record Walkable (g : Graph) (t : Reach) (a b : ℕ) (d e f back work route : List ℕ) : Type 0 where
+pub record Walkable (g : Graph) (rows : Rows) (shifts : List ℕ) (a b : ℕ) (d e f back work route : List ℕ)
+    : Type 0 where
   pub few : g .size ≤ 16384
   pub lawful : Lawful g
   pub start-in : a < g .size
@@ -46,9 +45,7 @@ pub record Walkable (g : Graph) (t : Reach) (a b : ℕ) (d e f back work route :
   pub e-true : e ≡ tabulate (g .size) (λ v. distance g v b)
   pub f-true : f ≡ tabulate (g .size) (countFrom g a b)
   pub back-true : back ≡ tabulate (g .size) (countTo g a b)
-  pub masked : Masked g t work
-  pub lent : Lent t
-  pub priced : Priced g t
+  pub masked : Masked g rows shifts work
   pub work-len : length work ≡ 4 * g .size
   pub blank : route ≡ zeros (g .size)
 
@@ -59,18 +56,8 @@ pub record Routed (g : Graph) (a b : ℕ) (route : List ℕ) (n : ℕ) : Type 0 
 unfoldable pub lengthsGood : ℕ → ℕ → ℕ → ℕ → ℕ → ℕ → ℕ → Bool
 lengthsGood v d e f b route work = eqb d v && eqb e v && eqb f v && eqb b v && eqb route v && eqb work (4 * v)
 
-pub record GoodJob (w h : ℕ) (map : List ℕ) (rows : Rows) (a b : ℕ) : Type 0 where
-  pub sized : Sized w h map
-  pub listed : Listed rows
-  pub start-in : a < vertices w h
-  pub goal-in : b < vertices w h
-
 pub record FullSlices (v : ℕ) (d e f back route work : List ℕ) : Type 0 where
-  pub d-len : length d ≡ v
-  pub e-len : length e ≡ v
-  pub f-len : length f ≡ v
-  pub back-len : length back ≡ v
-  pub route-len : length route ≡ v
+  pub sheet : Shaped v (sheetOf d e f back route 0)
   pub work-len : length work ≡ 4 * v
 
 pub record Finishable (w h : ℕ) (map : List ℕ) (rows : Rows) (a b : ℕ) (d e f back route work : List ℕ) : Type 0 where
@@ -93,4 +80,4 @@ pub record Finished (g : Graph) (a b : ℕ) (r : Planned) (s : Slices) : Type 0 
 pub record PlansJob (w h : ℕ) (map : List ℕ) (rows : Rows) (a b : ℕ) (s : Slices) (r : Planned) (s' : Slices)
     : Type 0 where
   pub answer : r ≡ answered w h map a b s (Fit rows)
-  pub left : s' ≡ leftBy w h map a b s (Fit rows)
+  pub left : s' ≡ jobLeft w h map a b s (Fit rows)

@@ -71,16 +71,16 @@ answered w h map a b s (Fit rows) =
     pick (slicesSized (vertices w h) s) (routeAnswer (floorGraph (floorOf w h map) rows) a b) (Refused SliceLength)
 answered w h map a b s (Unfit r) = Refused r
 
-abbrev pub leftBy : ℕ → ℕ → List ℕ → ℕ → ℕ → Slices → Job → Slices
-leftBy w h map a b s (Fit rows) =
+abbrev pub jobLeft : ℕ → ℕ → List ℕ → ℕ → ℕ → Slices → Job → Slices
+jobLeft w h map a b s (Fit rows) =
     pick (slicesSized (vertices w h) s) (routeLeft (floorGraph (floorOf w h map) rows) a b) s
-leftBy w h map a b s (Unfit r) = s
+jobLeft w h map a b s (Unfit r) = s
 
 unfoldable pub planAnswer : ℕ → ℕ → List ℕ → ℕ → ℕ → ℕ → Slices → Planned
 planAnswer w h map nb a b s = answered w h map a b s (jobOf w h map nb a b)
 
 unfoldable pub planLeft : ℕ → ℕ → List ℕ → ℕ → ℕ → ℕ → Slices → Slices
-planLeft w h map nb a b s = leftBy w h map a b s (jobOf w h map nb a b)
+planLeft w h map nb a b s = jobLeft w h map a b s (jobOf w h map nb a b)
 
 -- The planner's promise: s before, s' after, and the answer r.
 pub record Plans (w h : ℕ) (map : List ℕ) (nb a b : ℕ) (s : Slices) (r : Planned) (s' : Slices) : Type 0 where

@@ -14,9 +14,10 @@ ghost use Prim.Native.Nat.{_*_, _≤_};
 ghost use Rattle.basics.specs.Lists.{zeros};
 ghost use Rattle.floor.specs.Floor.{floorOf, vertices};
 ghost use Rattle.grid.specs.Grid.{floorGraph};
-ghost use Rattle.distances.specs.Order.{MasksIn};
+ghost use Rattle.grid.specs.Known.{GoodJob};
+ghost use Rattle.workspace.specs.Regions.{MasksIn};
 ghost use Rattle.planner.specs.Plan.{planNumber, planCost, planTotal, planPoints, slicesOf, Plans};
-ghost use Rattle.planner.specs.Parts.{lengthsGood, GoodJob, Finishable, Findable, Finished, PlansJob};
+ghost use Rattle.planner.specs.Parts.{lengthsGood, Finishable, Findable, Finished, PlansJob};
 use floor::Refusal;
 use floor::Vertex;
 use grid::Job;
@@ -142,46 +143,13 @@ fn find_route(
         (zeros (4 * vertices w h))) ⌝ }
 {
     let n = distances::costs_over_masks(w, h, map, rows, b, e, work);
-    let t = neighbours::reach_of(w, rows);
-    let count = t.count;
-    let row = t.row;
-    let up = t.up;
-    let down = t.down;
-    let cost = t.cost;
+    let shifts = offsets::shifts_of(w);
     let start = a.0;
     let goal = b.0;
-    if !counts::fill_counts(
-        count,
-        &row,
-        &up,
-        &down,
-        &cost,
-        start,
-        goal,
-        n,
-        d,
-        e,
-        work,
-        f,
-        back,
-    ) {
+    if !counts::fill_counts(rows, &shifts, start, goal, n, d, e, work, f, back) {
         return Planned::Refused(Refusal::TooMany);
     }
-    let points = route::write_route(
-        count,
-        &row,
-        &up,
-        &down,
-        &cost,
-        start,
-        goal,
-        d,
-        e,
-        f,
-        back,
-        work,
-        route,
-    );
+    let points = route::write_route(rows, &shifts, start, goal, d, e, f, back, work, route);
     Planned::Found {
         cost: d[goal],
         total: f[goal],
@@ -248,7 +216,7 @@ pub fn finish_job(
         (slicesOf (now (d .entry)) (now (e .exit)) (now (f .exit)) (now (back .exit)) (now (route .exit))
         (now (work .exit))) ⌝ }
 {
-    distances::fill_masks(w, h, map, work);
+    workspace::store_masks(w, h, map, work);
     finish_over_masks(w, h, map, rows, a, b, d, e, f, back, route, work)
 }
 
@@ -286,7 +254,7 @@ fn plan_job(
     ) {
         return Planned::Refused(Refusal::SliceLength);
     }
-    distances::fill_masks(w, h, map, work);
+    workspace::store_masks(w, h, map, work);
     distances::costs_over_masks(w, h, map, rows, a, d, work);
     finish_over_masks(w, h, map, rows, a, b, d, e, f, back, route, work)
 }

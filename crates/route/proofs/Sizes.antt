@@ -32,12 +32,16 @@ lent {w} {h} {v} {map} small same d e f b route work kept out hd he hf hb hr hw 
     record {
       floor = small;
       lent = record {
-        d-len = length-take-le v d (omega arith) ∙ same;
-        e-len = length-take-le v e (omega arith) ∙ same;
-        f-len = length-take-le v f (omega arith) ∙ same;
-        back-len = length-take-le v b (omega arith) ∙ same;
-        route-len = length-take-le v route (omega arith) ∙ same;
-        work-len = length-take-le (4 * v) work (omega arith) ∙ ap (λ n. 4 * n) same;
+        full = record {
+          sheet = record {
+            d = length-take-le v d (omega arith) ∙ same;
+            e = length-take-le v e (omega arith) ∙ same;
+            f = length-take-le v f (omega arith) ∙ same;
+            b = length-take-le v b (omega arith) ∙ same;
+            route = length-take-le v route (omega arith) ∙ same;
+          };
+          work-len = length-take-le (4 * v) work (omega arith) ∙ ap (λ n. 4 * n) same;
+        };
         kept-len = length-take-le v kept (omega arith) ∙ same;
       };
       room = omega arith;

@@ -11,9 +11,9 @@ use lib.ListN.{length}
 use Rattle.floor.specs.declared.Refusal.{Refusal}
 use Rattle.floor.specs.declared.Shape.{Shape}
 use Rattle.floor.specs.declared.Shape.the-variants.{Good, Refused}
+use Rattle.floor.specs.Refusals.{leftBy}
 use Rattle.closures.specs.Plain.{
   lowestFree,
-  leftBy,
   postShape,
   postingOf,
   postAnswer,

@@ -26,12 +26,12 @@ use Rattle.floor.specs.declared.Refusal.the-variants.{ClosureBounds}
 use Rattle.floor.specs.declared.Shape.{Shape}
 use Rattle.floor.specs.declared.Shape.the-variants.{Good, Refused}
 use Rattle.floor.proofs.Shapes.{good-first, good-second, good-pick}
+use Rattle.floor.specs.Refusals.{leftBy}
 use Rattle.closures.specs.Plain.{
   Plain,
   nothingHeld,
   changed,
   lowestFree,
-  leftBy,
   within,
   postShape,
   strikeShape,

@@ -19,10 +19,10 @@ use mathlib.Core.Option.{Option, none, some}
 use lib.Dec.{ltb, eqb}
 use lib.ListN.{length, getD, set}
 use Rattle.basics.specs.Bounded.{pick}
+use Rattle.floor.specs.Refusals.{leftBy}
 use Rattle.closures.specs.Plain.{
   Plain,
   lowestFree,
-  leftBy,
   postShape,
   postAnswer,
   strikeShape,

@@ -12,7 +12,8 @@ use Rattle.floor.specs.Floor.{floorOf}
 use Rattle.floor.specs.declared.Shape.{Shape}
 use Rattle.floor.specs.declared.Shape.the-variants.{Good, Refused}
 use Rattle.thinning.specs.Thinning.{seen, keptPositions}
-use Rattle.thinning.specs.Answer.{listShape, answerOf, leftBy, thinAnswer, thinOutput}
+use Rattle.floor.specs.Refusals.{leftBy}
+use Rattle.thinning.specs.Answer.{listShape, answerOf, thinAnswer, thinOutput}
 use Rattle.thinning.specs.declared.Thinned.{Thinned}
 use Rattle.thinning.specs.declared.Thinned.the-variants.{Kept, Unthinned}
 use Rattle.thinning.proofs.Shapes.{GoodList, good-list, joined-list}

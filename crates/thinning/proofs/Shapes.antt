@@ -23,7 +23,7 @@ use Rattle.floor.specs.declared.Shape.the-variants.{Good, Refused}
 use Rattle.floor.proofs.Shapes.{then-refused, good-first, good-second, good-pick, GoodFloor, good-floor}
 use Rattle.thinning.specs.Thinning.{seen, isVertex, seesNext, joinedList}
 use Rattle.thinning.specs.Answer.{listShape, thinAnswer, thinOutput, Thins}
-use Rattle.thinning.specs.Known.{Listed, Recorded}
+use Rattle.thinning.specs.Known.{VertexList, Recorded}
 use Rattle.thinning.specs.declared.Thinned.the-variants.{Kept, Unthinned}
 
 pub vertex-yes : (w h : ℕ) (l : List ℕ) (k : ℕ) → getD l k 0 < vertices w h → isVertex w h l k ≡ true
@@ -34,13 +34,13 @@ pub vertex-no : (w h : ℕ) (l : List ℕ) (k : ℕ) → vertices w h ≤ getD l
 unfolding isVertex
 vertex-no w h l k a = le-ltb (getD l k 0) (vertices w h) a
 
-pub listed-vertex : {w h : ℕ} {l : List ℕ} {n : ℕ} → Listed w h l n → (k : ℕ) → k < n → getD l k 0 < vertices w h
+pub listed-vertex : {w h : ℕ} {l : List ℕ} {n : ℕ} → VertexList w h l n → (k : ℕ) → k < n → getD l k 0 < vertices w h
 unfolding isVertex
 listed-vertex {w} {h} {l} {n} g k a = ltb-true (getD l k 0) (vertices w h) (every-at n (isVertex w h l) (g .each) k a)
 
 pub record Joined (f : Floor) (l : List ℕ) (n : ℕ) : Type 0 where
   pub some : 1 ≤ n
-  pub listed : Listed (f .wide) (f .high) l n
+  pub listed : VertexList (f .wide) (f .high) l n
   pub each : every (pred n) (seesNext f l) ≡ true
 
 pub joined-list : (f : Floor) (l : List ℕ) (n : ℕ) → joinedList f l n ≡ true → Joined f l n
@@ -77,7 +77,7 @@ module _ (f : Floor) (l : List ℕ) (n : ℕ) where
   unfolding joinedList
   joined-off a b e = rw (le-leb 1 n a, le-leb n (length l) b, e)
 
-  pub joined-on : 1 ≤ n → Listed (f .wide) (f .high) l n → every (pred n) (seesNext f l) ≡ joinedList f l n
+  pub joined-on : 1 ≤ n → VertexList (f .wide) (f .high) l n → every (pred n) (seesNext f l) ≡ joinedList f l n
   unfolding joinedList
   joined-on a g = rw (le-leb 1 n a, le-leb n (length l) (g .within), g .each)
 

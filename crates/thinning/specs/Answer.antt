@@ -2,7 +2,6 @@
 --
 --   listShape ..      == refusals 1, 2, 3, then 6 for the list slice and an output slice of k places, then 10
 --   answerOf s k      == the answer for the shape s: k positions are kept, or its refusal
---   leftBy s new old  == the contents that the shape s leaves: `new` where it is good, `old` at a refusal
 --   thinAnswer ..     == the answer: how many positions are kept, or the refusal
 --   thinOutput ..     == the output slice afterwards: the kept positions, then 0; untouched at a refusal
 --   Thins .. r left   == r is the answer, and `left` is what the output slice holds afterwards
@@ -16,7 +15,7 @@ use lib.ListN.{length}
 use Rattle.basics.specs.Bounded.{pick}
 use Rattle.basics.specs.Lists.{padded}
 use Rattle.floor.specs.Floor.{floorOf}
-use Rattle.floor.specs.Refusals.{refusalNumber, floorShape, andThen}
+use Rattle.floor.specs.Refusals.{refusalNumber, floorShape, andThen, leftBy}
 use Rattle.floor.specs.declared.Refusal.the-variants.{SliceLength, NotJoined}
 use Rattle.floor.specs.declared.Shape.{Shape}
 use Rattle.floor.specs.declared.Shape.the-variants.{Good, Refused}
@@ -33,10 +32,6 @@ listShape w h map list k n =
 abbrev pub answerOf : Shape → ℕ → Thinned
 answerOf Good k = Kept k
 answerOf (Refused r) k = Unthinned r
-
-abbrev pub leftBy : Shape → List ℕ → List ℕ → List ℕ
-leftBy Good new old = new
-leftBy (Refused r) new old = old
 
 unfoldable pub thinAnswer : ℕ → ℕ → List ℕ → List ℕ → List ℕ → ℕ → Thinned
 thinAnswer w h map list out n =

@@ -1,7 +1,7 @@
 -- What the code knows at each of its steps. Nobody has to believe these: the contracts of the parts of `thin` cite
 -- them.
 --
---   Listed w h l n               == l has n places or more, and its first n numbers are vertices
+--   VertexList w h l n               == l has n places or more, and its first n numbers are vertices
 --   Leg f l n i                  == position i of the n is followed by one that it sees
 --   Recordable f list out n      == the list is joined and not too long, and the output slice is as long as it
 --   Recorded f list out n m left == m is how many positions are kept, and `left` is the slice `out` once it holds them,
@@ -16,12 +16,12 @@ use Rattle.basics.specs.Lists.{padded}
 use Rattle.floor.specs.Floor.{Floor}
 use Rattle.thinning.specs.Thinning.{keptPositions, isVertex, seesNext, joinedList}
 
-pub record Listed (w h : ℕ) (l : List ℕ) (n : ℕ) : Type 0 where
+pub record VertexList (w h : ℕ) (l : List ℕ) (n : ℕ) : Type 0 where
   pub within : n ≤ length l
   pub each : every n (isVertex w h l) ≡ true
 
 pub record Leg (f : Floor) (l : List ℕ) (n i : ℕ) : Type 0 where
-  pub listed : Listed (f .wide) (f .high) l n
+  pub listed : VertexList (f .wide) (f .high) l n
   pub more : suc i < n
   pub sees : seesNext f l i ≡ true
 

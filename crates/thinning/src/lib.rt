@@ -6,7 +6,7 @@ ghost use Rattle.basics.specs.Bounded.{every};
 ghost use Rattle.floor.specs.Floor.{Sized, floorOf, vertices};
 ghost use Rattle.thinning.specs.Thinning.{seen, nextKept, isVertex, seesNext, joinedList};
 ghost use Rattle.thinning.specs.Answer.{listShape, Thins, thinNumber, thinKept};
-ghost use Rattle.thinning.specs.Known.{Listed, Leg, Recordable, Recorded};
+ghost use Rattle.thinning.specs.Known.{VertexList, Leg, Recordable, Recorded};
 use floor::Refusal;
 use floor::Shape;
 use floor::Vertex;
@@ -55,7 +55,7 @@ fn all_vertices(w: usize, h: usize, list: &[u16], n: usize) -> bool
 
 // The vertex at position k.
 fn vertex_in(w: usize, h: usize, list: &[u16], n: usize, k: usize) -> Vertex
-    requires { ⌜ Listed w h (now list) n × (k < n) ⌝ }
+    requires { ⌜ VertexList w h (now list) n × (k < n) ⌝ }
     ensures { λ r. ⌜ (r .0 ≡ getD (now (list .entry)) k 0) × (r .0 < vertices w h) ⌝ }
 {
     Vertex(list[k] as usize)
@@ -63,7 +63,7 @@ fn vertex_in(w: usize, h: usize, list: &[u16], n: usize, k: usize) -> Vertex
 
 // The vertices at positions i and k see each other.
 fn seen_at(w: usize, h: usize, map: &[u8], list: &[u16], n: usize, i: usize, k: usize) -> bool
-    requires { ⌜ Sized w h (now map) × Listed w h (now list) n × (i < n) × (k < n) ⌝ }
+    requires { ⌜ Sized w h (now map) × VertexList w h (now list) n × (i < n) × (k < n) ⌝ }
     ensures { λ r. ⌜ r ≡ seen (floorOf w h (now (map .entry))) (now (list .entry)) i k ⌝ }
 {
     let a = vertex_in(w, h, list, n, i);
@@ -73,7 +73,7 @@ fn seen_at(w: usize, h: usize, map: &[u8], list: &[u16], n: usize, i: usize, k: 
 
 // Each of the first n vertices sees the next.
 fn each_sees_next(w: usize, h: usize, map: &[u8], list: &[u16], n: usize) -> bool
-    requires { ⌜ Sized w h (now map) × Listed w h (now list) n × (1 ≤ n) ⌝ }
+    requires { ⌜ Sized w h (now map) × VertexList w h (now list) n × (1 ≤ n) ⌝ }
     ensures { λ r. ⌜ r ≡ every (pred n) (seesNext (floorOf w h (now (map .entry))) (now (list .entry))) ⌝ }
 {
     let mut k: usize = 0;

@@ -74,7 +74,7 @@ noRouteTest c = shaped c && localNoRoute (graphOf c) (c .start) (c .end) (c .she
 
 -- ---- and what follows
 
-shaped-true : (c : Case) → shaped c ≡ true → Shaped (graphOf c) (c .sheet)
+shaped-true : (c : Case) → shaped c ≡ true → Shaped (graphOf c .size) (c .sheet)
 unfolding shaped
 shaped-true c t =
     let v = graphOf c .size in

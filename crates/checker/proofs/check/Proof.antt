@@ -2,9 +2,8 @@
 use mathlib.Core.Path.{_≡_, sym, _∙_}
 use Rattle.grid.specs.Grid.{jobOf}
 use Rattle.grid.specs.declared.Job.the-variants.{Fit, Unfit}
-use Rattle.grid.proofs.Jobs.{job-fit}
+use Rattle.grid.proofs.Jobs.{good-job}
 use Rattle.checker.specs.Answer.{checkAnswer}
-use Rattle.checker.proofs.Judged.{fit-fitting}
 use borrow.Author.Needs.{needs}
 use Rattle.checker.proofs.check.Statement.{statement}
 use Rattle.checker.proofs.check.Tie as tie
@@ -25,7 +24,7 @@ enum-known-job c = search needs
 judge-requires : tie.Need-judge-requires
 judge-requires c κs =
     let a = start (c .before .before .before) .args in
-    fit-fitting (job-fit (a .w) (a .h) (a .map .now) (a .nb) (a .a) (a .b) (c .before .job .given .0 .0) (fit c))
+    good-job (a .w) (a .h) (a .map .now) (a .nb) (a .a) (a .b) (c .before .job .given .0 .0) (fit c)
 
 enum-known-job-2 : tie.Need-enum-known-job-2
 enum-known-job-2 c = search needs

@@ -6,7 +6,8 @@ use Rattle.paths.specs.Graph.{Graph}
 use Rattle.paths.specs.Sheet.{Sheet, sheetOf}
 use Rattle.grid.specs.Grid.{floorGraph}
 use Rattle.checker.proofs.Exact.{noRoute-reached, noRoute-counted, noRoute-start, noRoute-vertices}
-use Rattle.checker.proofs.Exact.{vertices-uncounted, posed-uncounted}
+use Rattle.checker.proofs.Exact.{vertices-uncounted}
+use Rattle.checker.proofs.Posed.{posed-uncounted}
 use borrow.Author.Needs.{needs}
 use Rattle.checker.proofs.is_no_route.Statement.{statement}
 use Rattle.checker.proofs.is_no_route.Tie as tie
@@ -52,10 +53,7 @@ returns-3 c =
     (c .if3 .taken)
 
 vertices-right-requires : tie.Need-vertices-right-requires
-vertices-right-requires c κs =
-    let s = start (c .before .before .before) in
-    posed-uncounted (s .args .d .now) (s .args .e .now) (s .args .f .now) (s .args .back .now) (s .args .route .now)
-    (s .args .n) (s .pre)
+vertices-right-requires c κs = posed-uncounted (start (c .before .before .before) .pre)
 
 returns-4 : tie.Need-returns-4
 returns-4 c =

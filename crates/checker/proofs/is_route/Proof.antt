@@ -1,7 +1,7 @@
 -- `checker::is_route` meets its contract, test by test; once costs and counts are right the products of counts fit 64
 -- bits. Assumes nothing.
-use Prim.Native.Nat.{ℕ, _<_}
-use mathlib.Core.Path.{_≡_, sym, _∙_, subst}
+use Prim.Native.Nat.{_<_}
+use mathlib.Core.Path.{_≡_, _∙_}
 use mathlib.Core.Bool.{true}
 use native.Mathlib.Omega.{arith}
 use Rattle.floor.specs.Floor.{floorOf}
@@ -12,10 +12,10 @@ use Rattle.paths.specs.Sheet.{Sheet, sheetOf}
 use Rattle.paths.specs.Local.{entry}
 use Rattle.grid.specs.Grid.{floorGraph}
 use Rattle.grid.proofs.Lawful.{floor-lawful}
-use Rattle.checker.specs.Tests.{verticesTest, FitCounts}
+use Rattle.checker.specs.Tests.{verticesTest}
 use Rattle.checker.proofs.Exact.{route-unreached, route-start, route-end}
-use Rattle.checker.proofs.Exact.{route-vertices, route-points, counts-fit}
-use Rattle.checker.proofs.Exact.{vertices-uncounted, posed-uncounted}
+use Rattle.checker.proofs.Exact.{route-vertices, route-points, counts-fit, vertices-uncounted}
+use Rattle.checker.proofs.Posed.{posed-uncounted}
 use borrow.Author.Needs.{needs}
 use Rattle.checker.proofs.is_route.Statement.{statement}
 use Rattle.checker.proofs.is_route.Tie as tie
@@ -82,10 +82,7 @@ returns-3 c =
     (c .if3 .taken)
 
 vertices-right-requires : tie.Need-vertices-right-requires
-vertices-right-requires c κs =
-    let s = start (c .before .before .before .before) in
-    posed-uncounted (s .args .d .now) (s .args .e .now) (s .args .f .now) (s .args .back .now) (s .args .route .now)
-    (s .args .n) (s .pre)
+vertices-right-requires c κs = posed-uncounted (start (c .before .before .before .before) .pre)
 
 returns-4 : tie.Need-returns-4
 returns-4 c =
@@ -100,13 +97,12 @@ route-right-requires c κs =
     let v = c .before in
     let s = start (first v) in (
       s .pre,
-      subst (λ (n : ℕ). FitCounts n (s .args .f .now) (s .args .back .now)) (sym (s .pre .shape .d))
-          (counts-fit (graph s) (s .args .a .0) (s .args .b .0) (sheet s) (near (first v))
+      counts-fit (graph s) (s .args .a .0) (s .args .b .0) (sheet s) (near (first v))
           (v .before .before .before .if2 .left) (v .before .if3 .left) (vertices v) (c .if4 .left)
           (floor-lawful (floorOf (s .args .w) (s .args .h) (s .args .map .now)) (s .args .rows)
           (listed-lawful (s .pre .job .listed)))
-          (s .pre .job .start) (s .pre .job .end) (omega
-          (arith, first v .before .before .before .before .shared-slice-known4 .given (s .args .b .0)))),
+          (s .pre .job .start-in) (s .pre .job .goal-in) (s .pre .shape)
+          (omega (arith, first v .before .before .before .before .shared-slice-known4 .given (s .args .b .0))),
     )
 
 returns-5 : tie.Need-returns-5

@@ -1,26 +1,27 @@
 -- `counts::count_along` meets its contract: at each turn a vertex on the way gets its count, since the cheaper vertices
 -- on the way have theirs. Assumes nothing.
 use Prim.Native.Nat.{_-_, _<_}
+use mathlib.Core.Path.{_≡_}
 use native.Mathlib.Omega.{arith}
 use borrow.Author.Needs.{needs}
 use lib.ListN.{length}
-use Rattle.neighbours.specs.Reach.{tableOf}
-use Rattle.counts.specs.Passes.{placeOf}
+use Rattle.neighbours.specs.Reading.{sumOf}
+use Rattle.workspace.specs.Regions.{maskAt}
+use Rattle.counts.specs.Passes.{placeOf, countOf}
 use Rattle.counts.proofs.Sequence.{place-lt}
 use Rattle.counts.proofs.Passing.{Turning, turn-start, turn-len, turn-more, turn-over, turn-end}
 use Rattle.counts.proofs.count_along.Statement.{statement}
 use Rattle.counts.proofs.count_along.Tie as tie
 
 abbrev Inv-loop : tie.InvT-loop
-Inv-loop count row up down cost start d n rev work f₀ masks i₀ f i =
-    Turning (tableOf count row up down cost) start n rev d work i f
+Inv-loop rows shifts start d n rev work f₀ i₀ f i = Turning rows shifts start n rev d work i f
 
 abbrev μ-loop : tie.MeasureT-loop
-μ-loop count row up down cost start d n rev work f₀ masks i₀ f i = n - i
+μ-loop rows shifts start d n rev work f₀ i₀ f i = n - i
 
 -- The place where the function begins.
 abbrev start : tie.At-loop Inv-loop μ-loop → tie.Start Inv-loop μ-loop
-start l = l .before .before .before .before .before .before .before .before
+start l = l .before .before .before .before .before
 
 -- The turn's vertex is one of the floor.
 inside : (c : tie.After-vertex-of-turn Inv-loop μ-loop)
@@ -31,34 +32,37 @@ inside c =
     let l = place-lt (s .args .n) i (s .args .rev) (omega arith) in
     omega (arith, c .vertex-of-turn .ensures, s .pre .0 .vertex (placeOf (s .args .n) i (s .args .rev)) l)
 
-mul-masks : tie.Need-mul-masks Inv-loop μ-loop
-mul-masks c = omega (arith, c .before .before .before .before .before .before .before .pre .0 .few)
-
 loop-holds : tie.Need-loop-holds Inv-loop μ-loop
-loop-holds c = turn-start (c .before .before .before .before .before .before .before .pre .1)
+loop-holds c = turn-start (c .before .before .before .before .pre .1)
 
 vertex-of-turn-requires : tie.Need-vertex-of-turn-requires Inv-loop μ-loop
 vertex-of-turn-requires c κs =
     let s = start (c .before) in
     (omega (arith, s .pre .0 .short, s .pre .0 .work-len), omega arith)
 
-add-mask : tie.Need-add-mask Inv-loop μ-loop
-add-mask c = omega (arith, inside c, start (c .before .before) .pre .0 .few)
+mask-at-requires : tie.Need-mask-at-requires Inv-loop μ-loop
+mask-at-requires c κs =
+    let p = start (c .before .before) .pre .0 in
+    (p .few, p .work-len, inside c)
 
-mul-mask : tie.Need-mul-mask Inv-loop μ-loop
-mul-mask c = omega (arith, inside c, start (c .before .before) .pre .0 .few)
-
-shared-slice-read-mask : tie.Need-shared-slice-read-mask Inv-loop μ-loop
-shared-slice-read-mask c =
-    let at = c .before in
-    omega (arith, inside at, start (at .before .before) .pre .0 .work-len)
+-- The count that was worked out, by the mask where it stands.
+counted : (c : tie.After-count-of Inv-loop μ-loop)
+    → let at = c .before .before .before in
+    let l = at .before .before in
+    let a = start l .args in
+    let u = at .vertex-of-turn .result in
+    c .count-of .result
+    ≡ sumOf (countOf (a .rows) (a .shifts .now) (maskAt (length (a .d .now)) (a .work .now) u) (a .start) (a .d .now)
+    (l .loop .f) u)
+counted c = rw (c .before .before .mask-at .ensures) at (c .count-of .ensures)
 
 count-of-requires : tie.Need-count-of-requires Inv-loop μ-loop
 count-of-requires c κs =
-    let at = c .before .before in
+    let m = c .before in
+    let at = m .before in
     let l = at .before .before in
     let p = start l .pre in
-    (p .0 .lent, p .0 .here _ (inside at), l .loop .inv .len)
+    (rw (m .mask-at .ensures) (p .0 .readable _ (inside at)), l .loop .inv .len)
 
 enum-known-x : tie.Need-enum-known-x Inv-loop μ-loop
 enum-known-x c = search needs
@@ -73,10 +77,10 @@ same-length c =
 
 returns : tie.Need-returns Inv-loop μ-loop
 returns c =
-    let counted = c .before .before in
-    let at = counted .before .before .before in
+    let k = c .before .before in
+    let at = k .before .before .before in
     turn-over (at .before .before .loop .inv) (omega arith) (at .vertex-of-turn .result) (at .vertex-of-turn .ensures)
-    (counted .count-of .result) (counted .count-of .ensures) (c .enum-told .given .1)
+    (k .count-of .result) (counted k) (c .enum-told .given .1)
 
 mul-f : tie.Need-mul-f Inv-loop μ-loop
 mul-f c =
@@ -96,11 +100,11 @@ loop-less c = search needs
 
 loop-again : tie.Need-loop-again Inv-loop μ-loop
 loop-again c =
-    let counted = c .before .before .before in
-    let at = counted .before .before .before in
+    let k = c .before .before .before in
+    let at = k .before .before .before in
     let x = c .before .x .given in
     turn-more (at .before .before .loop .inv) (omega arith) (at .vertex-of-turn .result) (at .vertex-of-turn .ensures)
-    (counted .count-of .result) (counted .count-of .ensures) (x .0 .0) (x .1)
+    (k .count-of .result) (counted k) (x .0 .0) (x .1)
 
 same-length-2 : tie.Need-same-length-2 Inv-loop μ-loop
 same-length-2 c = let l = c .before in turn-len (l .loop .inv) (start l .pre .1)
@@ -114,12 +118,9 @@ count-along-spec =
     (tie.spec
     Inv-loop
     μ-loop
-    mul-masks
     loop-holds
     vertex-of-turn-requires
-    add-mask
-    mul-mask
-    shared-slice-read-mask
+    mask-at-requires
     count-of-requires
     enum-known-x
     enum-told

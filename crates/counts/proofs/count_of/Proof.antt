@@ -1,29 +1,21 @@
 -- `counts::count_of` meets its contract: each return is a case of the count of one vertex. Assumes nothing.
-use Rattle.neighbours.specs.declared.Reach.{Reach}
-use Rattle.neighbours.specs.Reach.{tableOf}
 use Rattle.counts.proofs.Passing.{count-one, count-sum}
 use borrow.Author.Needs.{needs}
 use Rattle.counts.proofs.count_of.Statement.{statement}
 use Rattle.counts.proofs.count_of.Tie as tie
 
--- The moves, as they are lent.
-abbrev table : tie.Start → Reach
-table s = let a = s .args in tableOf (a .count) (a .row .now) (a .up .now) (a .down .now) (a .cost .now)
-
 returns : tie.Need-returns
 returns c =
-    let s = c .before .before .before .before .before .before .before in
-    let a = s .args in
-    count-one (table s) (a .mask) (a .start) (a .d .now) (a .f .now) (a .u) (c .if1 .taken)
+    let a = c .before .before .before .before .args in
+    count-one (a .rows) (a .shifts .now) (a .mask) (a .start) (a .d .now) (a .f .now) (a .u) (c .if1 .taken)
 
 inflow-at-requires : tie.Need-inflow-at-requires
 inflow-at-requires c κs = search needs
 
 returns-2 : tie.Need-returns-2
 returns-2 c =
-    let s = c .before .before .before .before .before .before .before .before in
-    let a = s .args in
-    count-sum (table s) (a .mask) (a .start) (a .d .now) (a .f .now) (a .u) (c .before .if1 .left) _
+    let a = c .before .before .before .before .before .args in
+    count-sum (a .rows) (a .shifts .now) (a .mask) (a .start) (a .d .now) (a .f .now) (a .u) (c .before .if1 .left) _
     (c .inflow-at .ensures)
 
 pub count-of-spec : {M : Type 1} → statement M

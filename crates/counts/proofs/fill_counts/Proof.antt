@@ -20,7 +20,7 @@ use Rattle.counts.proofs.fill_counts.Tie as tie
 
 -- The places: where the function begins, and where the vertices on the way are kept.
 abbrev start : tie.After-keep-on-way → tie.Start
-start k = k .before .before .before .before .before .before .before .before .before .before .before .before
+start k = k .before .before .before .before .before .before .before .before .before
 
 abbrev kept : tie.After-count-along → tie.After-keep-on-way
 kept c = c .before .before .before .before .before
@@ -87,7 +87,7 @@ returns-2 c =
     let s = start k in
     let A = s .pre .0 in
     let R = k .keep-on-way .ensures in
-    let same = first .count-along .kept .1 .1 .1 .1 .1 .1 .1 .1 .1 .1 .0 in
+    let same = first .count-along .kept .1 .1 .1 .1 .1 .1 .1 .0 in
     filled-none K A R
     (subst (Passed g (s .args .b) (s .args .a) _) (over .if1 .left)
     (first .count-along .ensures g (s .args .a) (passable-back K A R)))

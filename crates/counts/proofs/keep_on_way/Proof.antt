@@ -5,13 +5,13 @@ use mathlib.Core.Path.{_≡_, ap, _∙_, subst}
 use native.Mathlib.Omega.{arith}
 use borrow.Author.Needs.{needs}
 use Rattle.basics.specs.Bounded.{pick}
-use Rattle.counts.specs.Passes.{evenAt, Kept}
+use Rattle.counts.specs.Passes.{evenAt, Filtered}
 use Rattle.counts.proofs.Keeping.{kept-none, kept-more, kept-all}
 use Rattle.counts.proofs.keep_on_way.Statement.{statement}
 use Rattle.counts.proofs.keep_on_way.Tie as tie
 
 abbrev Inv-loop : tie.InvT-loop
-Inv-loop whole n d e work₀ kept₀ i₀ work kept i = (i ≤ n) × Kept (evenAt d e whole) i kept work₀ work
+Inv-loop whole n d e work₀ kept₀ i₀ work kept i = (i ≤ n) × Filtered (evenAt d e whole) i kept work₀ work
 
 abbrev μ-loop : tie.MeasureT-loop
 μ-loop whole n d e work₀ kept₀ i₀ work kept i = n - i
@@ -23,28 +23,21 @@ start l = l .before .before .before .before
 loop-holds : tie.Need-loop-holds Inv-loop μ-loop
 loop-holds c = (omega arith, kept-none)
 
-mul-u : tie.Need-mul-u Inv-loop μ-loop
-mul-u c = search needs
+copy-settled-requires : tie.Need-copy-settled-requires Inv-loop μ-loop
+copy-settled-requires c κs =
+    let l = c .before .before in
+    let K = l .loop .inv .1 in
+    let n = start l .pre .0 in
+    (omega (arith, K .len), omega (arith, K .len, K .few))
 
-slice-read-u : tie.Need-slice-read-u Inv-loop μ-loop
-slice-read-u c = search needs
-
-mul-work : tie.Need-mul-work Inv-loop μ-loop
-mul-work c = search needs
-
-slice-write-work : tie.Need-slice-write-work Inv-loop μ-loop
-slice-write-work c = search needs
-
-index-requires : tie.Need-index-requires Inv-loop μ-loop
-index-requires c κs = search needs
-
-on-way-requires : tie.Need-on-way-requires Inv-loop μ-loop
-on-way-requires c κs =
-    let l = c .before .before .before in
+makes-up-requires : tie.Need-makes-up-requires Inv-loop μ-loop
+makes-up-requires c κs =
+    let k = c .before .before in
+    let l = k .before .before .before in
     let p = start l .pre in
     let same = l .loop .inv .1 .rest (l .loop .i) (omega arith) in
     let in-d = p .2 (l .loop .i) (omega arith) in
-    (omega (arith, c .index .ensures), omega (arith, c .index .ensures, p .1))
+    (omega (arith, k .copy-settled .ensures .0), omega (arith, k .copy-settled .ensures .0, p .1))
 
 one-if-requires : tie.Need-one-if-requires Inv-loop μ-loop
 one-if-requires c κs = search needs
@@ -60,13 +53,17 @@ loop-less c = search needs
 
 loop-again : tie.Need-loop-again Inv-loop μ-loop
 loop-again c =
-    let l = c .before .before .before .before .before in
+    let m = c .before in
+    let k = m .before .before .before in
+    let l = k .before .before .before in
     let a = start l .args in
-    let way = c .before .on-way in
-    let test = subst (λ u. way .result ≡ evenAt (a .d .now) (a .e .now) (a .whole) u)
-    (c .before .before .index .ensures) (way .ensures) in
-    let one = c .one-if .ensures .0 ∙ ap (λ b. pick b 1 0) test in
-    (omega arith, kept-more (l .loop .inv .1) (omega (arith, start l .pre .0)) (ap (λ x. l .loop .kept + x) one))
+    let test = subst (λ u. m .makes-up .result ≡ evenAt (a .d .now) (a .e .now) (a .whole) u)
+    (k .copy-settled .ensures .0) (m .makes-up .ensures) in
+    let one = c .one-if .ensures .0 ∙ ap (λ b. pick b 1 0) test in (
+      omega arith,
+      rw (k .copy-settled .ensures .1)
+          (kept-more (l .loop .inv .1) (omega (arith, start l .pre .0)) (ap (λ x. l .loop .kept + x) one)),
+    )
 
 same-length : tie.Need-same-length Inv-loop μ-loop
 same-length c = c .before .loop .inv .1 .len
@@ -81,12 +78,8 @@ keep-on-way-spec =
     Inv-loop
     μ-loop
     loop-holds
-    mul-u
-    slice-read-u
-    mul-work
-    slice-write-work
-    index-requires
-    on-way-requires
+    copy-settled-requires
+    makes-up-requires
     one-if-requires
     add-kept
     add-i

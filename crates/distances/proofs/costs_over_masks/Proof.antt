@@ -34,7 +34,7 @@ merges c inside =
 settle-requires : tie.Need-settle-requires
 settle-requires c κs =
     let s = c .before .before .before .before .before .before .before .before in
-    (_, _, merges c (omega (arith, s .pre .0 .source)))
+    (_, _, merges c (omega (arith, s .pre .0 .job .start-in)))
 
 same-length : tie.Need-same-length
 same-length c = search needs
@@ -46,7 +46,7 @@ returns : tie.Need-returns
 returns c =
     let b = c .before .before .before .before in
     let s = b .before .before .before .before .before .before .before .before .before in
-    let S = b .settle .ensures _ _ (merges (b .before) (omega (arith, s .pre .0 .source))) in
+    let S = b .settle .ensures _ _ (merges (b .before) (omega (arith, s .pre .0 .job .start-in))) in
     ordered-costs (s .pre .0) (s .pre .1) S (S .costs)
 
 pub costs-over-masks-spec : {M : Type 1} → statement M

@@ -5,14 +5,14 @@ use borrow.Author.Needs.{needs}
 use Rattle.distances.proofs.fill_costs.Statement.{statement}
 use Rattle.distances.proofs.fill_costs.Tie as tie
 
-fill-masks-requires : tie.Need-fill-masks-requires
-fill-masks-requires c κs = search needs
+store-masks-requires : tie.Need-store-masks-requires
+store-masks-requires c κs = search needs
 
 costs-over-masks-requires : tie.Need-costs-over-masks-requires
 costs-over-masks-requires c κs =
     let b = c .before .before .before .before in
     let s = b .before .before .before .before .before in
-    (costing-on (s .pre) (b .fill-masks .ensures .len), b .fill-masks .ensures .masks)
+    (costing-on (s .pre) (b .store-masks .ensures .len), b .store-masks .ensures .masks)
 
 fill-u32-requires : tie.Need-fill-u32-requires
 fill-u32-requires c κs = search needs
@@ -32,7 +32,7 @@ pub fill-costs-spec : {M : Type 1} → statement M
 fill-costs-spec =
     tie.close
     (tie.spec
-    fill-masks-requires
+    store-masks-requires
     costs-over-masks-requires
     fill-u32-requires
     same-length

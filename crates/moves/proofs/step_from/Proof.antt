@@ -2,6 +2,8 @@
 use mathlib.Core.Path.{_≡_, sym, ap, _∙_}
 use native.Mathlib.Omega.{arith}
 use Rattle.moves.specs.declared.Step.the-variants.{To}
+use Rattle.moves.specs.declared.Move.{Move}
+use Rattle.moves.specs.Moves.{moveOf}
 use Rattle.moves.specs.Steps.{shifted}
 use Rattle.moves.specs.Table.{Reaches, spotOf}
 use Rattle.moves.proofs.Signs.{back}
@@ -12,22 +14,25 @@ use Rattle.moves.proofs.step_from.Tie as tie
 
 -- The spot to which the move leads.
 spot : (c : tie.After-far-spot)
-    → let a = c .before .before .before .args in
-    c .far-spot .result ≡ spotOf (shifted (a .w) (a .x) (a .m .dx)) (shifted (a .h) (a .y) (a .m .dy))
+    → let a = c .before .args in
+    c .far-spot .result ≡ spotOf (shifted (a .w) (a .x) (a .dx)) (shifted (a .h) (a .y) (a .dy))
 spot c =
-    let s = c .before .before .before in
-    rw (back (s .args .m .dx) (s .pre .1 .columns), back (s .args .m .dy) (s .pre .1 .rows)) at (c .far-spot .ensures)
+    let s = c .before in
+    rw (back (s .args .dx) (s .pre .1 .columns), back (s .args .dy) (s .pre .1 .rows)) at (c .far-spot .ensures)
 
 abbrev start : tie.After-i → tie.Start
-start c = c .before .before .before .before .before
+start c = c .before .before .before
+
+abbrev move : tie.Start → Move
+move s = moveOf (s .args .dx) (s .args .dy) 0
 
 -- It is on the floor.
 found : (c : tie.After-i)
     → let a = start c .args in
-    Reaches (a .w) (a .h) (a .m) (a .x) (a .y) (c .i .given .0 .0) (c .i .given .0 .1 .0)
+    Reaches (a .w) (a .h) (move (start c)) (a .x) (a .y) (c .i .given .0 .0) (c .i .given .0 .1 .0)
 found c =
     let a = start c .args in
-    spot-reaches (a .w) (a .h) (a .x) (a .y) (c .i .given .0 .0) (c .i .given .0 .1 .0) (a .m)
+    spot-reaches (a .w) (a .h) (a .x) (a .y) (c .i .given .0 .0) (c .i .given .0 .1 .0) (move (start c))
     (sym (spot (c .before .before)) ∙ c .i .given .1)
 
 far-spot-requires : tie.Need-far-spot-requires
@@ -42,8 +47,8 @@ enum-told c = search needs
 returns : tie.Need-returns
 returns c =
     let u = c .before .before in
-    let a = u .before .before .before .args in
-    step-off (a .w) (a .h) (a .x) (a .y) (a .m) (sym (spot u) ∙ c .enum-told .given .1)
+    let a = u .before .args in
+    step-off (a .w) (a .h) (a .x) (a .y) (move (u .before)) (sym (spot u) ∙ c .enum-told .given .1)
 
 vertex-at-requires : tie.Need-vertex-at-requires
 vertex-at-requires c κs =

@@ -12,9 +12,6 @@ cost-at-requires c κs = search needs
 cost-at-requires-2 : tie.Need-cost-at-requires-2
 cost-at-requires-2 c κs = search needs
 
-wide-requires : tie.Need-wide-requires
-wide-requires c κs = search needs
-
 add-if1 : tie.Need-add-if1
 add-if1 c = search needs
 
@@ -33,7 +30,6 @@ follows-spec =
     (tie.spec
     cost-at-requires
     cost-at-requires-2
-    wide-requires
     add-if1
     returns
     on-way-requires

@@ -45,17 +45,17 @@ loop-holds : tie.Need-loop-holds Inv-loop μ-loop
 unfolding leastOf
 loop-holds c = (refl, omega arith)
 
-row-of-requires : tie.Need-row-of-requires Inv-loop μ-loop
-row-of-requires c κs = (omega (arith, lent c .movable .row), omega arith)
+class-row-requires : tie.Need-class-row-requires Inv-loop μ-loop
+class-row-requires c κs = (omega (arith, lent c .movable .row), omega arith)
 
 end-or-self-requires : tie.Need-end-or-self-requires Inv-loop μ-loop
-end-or-self-requires c κs = let k = lent (c .before) in rw (c .row-of .ensures) (k .listed, k .movable)
+end-or-self-requires c κs = let k = lent (c .before) in rw (c .class-row .ensures) (k .listed, k .movable)
 
 -- the far end that the code reads
 end-is : (c : tie.After-end-or-self Inv-loop μ-loop)
     → let l = c .before .before .before in let a = start l .args in
     c .end-or-self .result .0 ≡ endAt (a .shifts .now) (a .mask) (a .v) (classRow (a .class) (l .loop .j))
-end-is c = rw (c .before .row-of .ensures) at (c .end-or-self .ensures)
+end-is c = rw (c .before .class-row .ensures) at (c .end-or-self .ensures)
 
 cost-at-requires : tie.Need-cost-at-requires Inv-loop μ-loop
 cost-at-requires c κs = rw (end-is c) (lent (c .before .before) .inside)
@@ -104,7 +104,7 @@ least-by-spec =
     μ-loop
     returns
     loop-holds
-    row-of-requires
+    class-row-requires
     end-or-self-requires
     cost-at-requires
     lesser-requires

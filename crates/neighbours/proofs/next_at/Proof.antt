@@ -1,15 +1,17 @@
 -- `neighbours::next_at` meets its contract: of the candidates passed the best is kept, with its count. Assumes nothing.
-use Prim.Native.Nat.{_-_, _<_}
-use mathlib.Core.Path.{_≡_, sym, _∙_}
+use Prim.Native.Nat.{ℕ, _+_, _-_, _^_, _<_}
+use mathlib.Core.Path.{_≡_, refl, sym, ap, _∙_}
+use mathlib.Core.Bool.{true, false}
 use mathlib.Core.Option.{some}
 use native.Mathlib.Omega.{arith}
 use borrow.Author.Tests.{not-true, not-false}
 use lib.ListN.{length}
-use Rattle.paths.specs.Route.{nextVertex}
-use Rattle.neighbours.specs.declared.Reach.{Reach}
-use Rattle.neighbours.specs.Reach.{tableOf, readStep}
-use Rattle.neighbours.specs.Choice.{candidateOf, traversalOf}
-use Rattle.neighbours.proofs.Steps.{stepOf-off, stepOf-to}
+use Rattle.moves.specs.Moves.{moveAt}
+use Rattle.paths.specs.Route.{onShortest, nextVertex}
+use Rattle.paths.specs.Local.{entry}
+use Rattle.neighbours.specs.Reading.{readStep}
+use Rattle.neighbours.specs.Choice.{candidateOf, followsBy, traversalOf}
+use Rattle.neighbours.proofs.Steps.{end-shut, end-at}
 use Rattle.neighbours.proofs.Choice.{BestScan, best-start, best-off, best-first}
 use Rattle.neighbours.proofs.Choice.{best-higher, best-lower, best-end}
 use Rattle.neighbours.proofs.Choice.{candidate-none, candidate-off, candidate-on}
@@ -18,74 +20,73 @@ use Rattle.neighbours.proofs.next_at.Statement.{statement}
 use Rattle.neighbours.proofs.next_at.Tie as tie
 
 abbrev Inv-loop : tie.InvT-loop
-Inv-loop count row up down cost mask d e f b goal v best₀ high₀ m₀ best high m =
-    BestScan (traversalOf f b) (candidateOf (tableOf count row up down cost) mask d e goal v) count m best high
+Inv-loop rows shifts mask d e f b goal v best₀ high₀ m₀ m-end best high m =
+    (m-end ≡ rows .count)
+    × BestScan (traversalOf f b) (candidateOf rows shifts mask d e goal v) (rows .count) m best high
 
 abbrev μ-loop : tie.MeasureT-loop
-μ-loop count row up down cost mask d e f b goal v best₀ high₀ m₀ best high m = count - m
-
-abbrev table : tie.Start Inv-loop μ-loop → Reach
-table s = let a = s .args in tableOf (a .count) (a .row .now) (a .up .now) (a .down .now) (a .cost .now)
+μ-loop rows shifts mask d e f b goal v best₀ high₀ m₀ m-end best high m = rows .count - m
 
 abbrev start : tie.In-loop Inv-loop μ-loop → tie.Start Inv-loop μ-loop
-start c = c .before .before .before .before .before .before .before .before .before .before
+start c = c .before .before .before .before .before .before .before
+
+turn : (c : tie.In-loop Inv-loop μ-loop) → c .before .loop .m < start c .args .rows .count
+turn c = omega (arith, c .before .loop .inv .0)
+
+-- a turn's number fits, with one more
+more : (c : tie.In-loop Inv-loop μ-loop) → c .before .loop .m + 1 < 2 ^ 64
+more c = let s = start c in omega (arith, turn c, s .good .0)
 
 -- the turn of the loop in which a far end is known
 abbrev turn-of : tie.After-known-told Inv-loop μ-loop → tie.In-loop Inv-loop μ-loop
-turn-of c = c .before .before .before .before .before .before .before
-
-turn : (c : tie.In-loop Inv-loop μ-loop) → c .before .loop .m < start c .args .count
-turn c = omega arith
+turn-of c = c .before .before .before .before
 
 -- the far end of the move, once it is known to be there
 goes : (c : tie.After-known-told Inv-loop μ-loop)
-    → let s = start (turn-of c) in
-    readStep (table s) (s .args .mask) (s .args .v) (turn-of c .before .loop .m) ≡ some (c .before .w .given .0 .0 .0)
-unfolding readStep
-goes c = stepOf-to _ _ (sym (c .before .before .before .neighbour .ensures) ∙ c .before .w .given .1)
+    → let a = start (turn-of c) .args in
+    readStep (a .rows) (a .shifts .now) (a .mask) (a .v) (turn-of c .before .loop .m) ≡ some
+    (c .before .w .given .0 .0 .0)
+goes c = end-at _ _ (sym (c .before .before .before .far-end .ensures) ∙ c .before .w .given .1)
 
 inside : (c : tie.After-known-told Inv-loop μ-loop)
     → c .before .w .given .0 .0 .0 < length (start (turn-of c) .args .d .now)
 inside c =
     let l = turn-of c in
-    start l .pre .0 .here .inside (l .before .loop .m) (c .before .w .given .0 .0 .0) (turn l) (goes c)
+    start l .pre .0 .readable .inside (l .before .loop .m) (c .before .w .given .0 .0 .0) (turn l) (goes c)
 
--- the same as a candidate, once it is known to be one
-abbrev far-of : tie.Else1 Inv-loop μ-loop → tie.After-known-told Inv-loop μ-loop
-far-of c = c .before .before .before
+abbrev far-of : tie.After-follows Inv-loop μ-loop → tie.After-known-told Inv-loop μ-loop
+far-of c = c .before .before
 
+-- what the code finds of the far end
+follows-is : (c : tie.After-follows Inv-loop μ-loop)
+    → let k = far-of c in
+    let l = turn-of k in
+    let a = start l .args in
+    c .follows .result ≡ followsBy (onShortest (entry (a .d .now)) (entry (a .e .now)) (a .goal)) (entry (a .d .now))
+    (a .v) (k .before .w .given .0 .0 .0) (moveAt (a .rows) (l .before .loop .m) .cost)
+follows-is c =
+    let k = far-of c in
+    let a = start (turn-of k) .args in
+    c .follows .ensures
+    ∙ ap (λ (n : ℕ). followsBy (onShortest (entry (a .d .now)) (entry (a .e .now)) (a .goal)) (entry (a .d .now)) (a .v)
+    (k .before .w .given .0 .0 .0) n) (c .before .move-cost .ensures .0)
+
+-- the far end as a candidate, once it is known to be one
 taken : (c : tie.Else1 Inv-loop μ-loop)
-    → let l = turn-of (far-of c) in
-    let s = start l in
-    let a = s .args in
-    candidateOf (table s) (a .mask) (a .d .now) (a .e .now) (a .goal) (a .v) (l .before .loop .m) ≡ some
-    (far-of c .before .w .given .0 .0 .0)
-taken c = candidate-on _ _ _ _ _ _ (goes (far-of c)) (sym (c .before .follows .ensures) ∙ not-false _ (c .if1 .left))
+    → let k = far-of (c .before) in
+    let l = turn-of k in
+    let a = start l .args in
+    candidateOf (a .rows) (a .shifts .now) (a .mask) (a .d .now) (a .e .now) (a .goal) (a .v) (l .before .loop .m)
+    ≡ some (k .before .w .given .0 .0 .0)
+taken c =
+    candidate-on _ _ _ _ _ _ (goes (far-of (c .before))) (sym (follows-is (c .before)) ∙ not-false _ (c .if1 .left))
 
 loop-holds : tie.Need-loop-holds Inv-loop μ-loop
-loop-holds c = best-start
+loop-holds c = (refl, best-start)
 
-mul-neighbour : tie.Need-mul-neighbour Inv-loop μ-loop
-mul-neighbour c = omega (arith, start c .pre .0 .lent .rows)
-
-shared-slice-read-neighbour : tie.Need-shared-slice-read-neighbour Inv-loop μ-loop
-shared-slice-read-neighbour c = omega (arith, start (c .before) .pre .0 .lent .rows)
-
-mul-neighbour-2 : tie.Need-mul-neighbour-2 Inv-loop μ-loop
-mul-neighbour-2 c = omega (arith, start (c .before) .pre .0 .lent .ups)
-
-shared-slice-read-neighbour-2 : tie.Need-shared-slice-read-neighbour-2 Inv-loop μ-loop
-shared-slice-read-neighbour-2 c = omega (arith, start (c .before .before) .pre .0 .lent .ups)
-
-mul-neighbour-3 : tie.Need-mul-neighbour-3 Inv-loop μ-loop
-mul-neighbour-3 c = omega (arith, start (c .before .before) .pre .0 .lent .downs)
-
-shared-slice-read-neighbour-3 : tie.Need-shared-slice-read-neighbour-3 Inv-loop μ-loop
-shared-slice-read-neighbour-3 c = omega (arith, start (c .before .before .before) .pre .0 .lent .downs)
-
-neighbour-requires : tie.Need-neighbour-requires Inv-loop μ-loop
-neighbour-requires c κs =
-    let l = c .before .before .before in start l .pre .0 .here .movable (l .before .loop .m) (turn l)
+far-end-requires : tie.Need-far-end-requires Inv-loop μ-loop
+far-end-requires c κs =
+    let p = start c .pre .0 .readable in (p .lawful, turn c, p .shifts-len, p .movable (c .before .loop .m) (turn c))
 
 enum-known-w : tie.Need-enum-known-w Inv-loop μ-loop
 enum-known-w c = search needs
@@ -97,41 +98,43 @@ add-m : tie.Need-add-m Inv-loop μ-loop
 add-m c = search needs
 
 loop-less : tie.Need-loop-less Inv-loop μ-loop
-loop-less c = search needs
+loop-less c = let l = turn (c .before .before .before) in omega arith
 
 loop-again : tie.Need-loop-again Inv-loop μ-loop
-unfolding readStep
 loop-again c =
-    let l = c .before .before .before .before .before .before in
-    best-off (l .before .loop .inv) (turn l) (candidate-none _ _ _ _ _ (stepOf-off _
-    (sym (c .before .before .neighbour .ensures) ∙ c .enum-told .given .1)))
+    let l = c .before .before .before in (
+      l .before .loop .inv .0,
+      best-off (l .before .loop .inv .1) (turn l) (candidate-none _ _ _ _ _ (end-shut _
+          (sym (c .before .before .far-end .ensures) ∙ c .enum-told .given .1))),
+    )
 
-mul-follows : tie.Need-mul-follows Inv-loop μ-loop
-mul-follows c = omega (arith, start (turn-of c) .pre .0 .lent .costs)
-
-shared-slice-read-follows : tie.Need-shared-slice-read-follows Inv-loop μ-loop
-shared-slice-read-follows c = omega (arith, start (turn-of (c .before)) .pre .0 .lent .costs)
+move-cost-requires : tie.Need-move-cost-requires Inv-loop μ-loop
+move-cost-requires c κs = let l = turn-of c in (start l .pre .0 .readable .lawful, turn l)
 
 follows-requires : tie.Need-follows-requires Inv-loop μ-loop
 follows-requires c κs =
-    let p = start (turn-of (c .before)) .pre .0 in (p .goal-in, p .here .vertex, inside (c .before), p .e-len)
+    let k = c .before in
+    let p = start (turn-of k) .pre .0 in
+    (p .goal-in, p .readable .vertex, inside k, p .e-len, c .move-cost .ensures .1)
 
 add-m-2 : tie.Need-add-m-2 Inv-loop μ-loop
 add-m-2 c = search needs
 
 loop-less-2 : tie.Need-loop-less-2 Inv-loop μ-loop
-loop-less-2 c = search needs
+loop-less-2 c = let l = turn (turn-of (far-of (c .before))) in omega arith
 
 loop-again-2 : tie.Need-loop-again-2 Inv-loop μ-loop
 loop-again-2 c =
-    let k = c .before .before .before in
-    let l = turn-of k in
-    best-off (l .before .loop .inv) (turn l)
-    (candidate-off _ _ _ _ _ _ (goes k) (sym (c .before .follows .ensures) ∙ not-true _ (c .if1 .taken)))
+    let k = far-of (c .before) in
+    let l = turn-of k in (
+      l .before .loop .inv .0,
+      best-off (l .before .loop .inv .1) (turn l)
+          (candidate-off _ _ _ _ _ _ (goes k) (sym (follows-is (c .before)) ∙ not-true _ (c .if1 .taken))),
+    )
 
 traversal-at-requires : tie.Need-traversal-at-requires Inv-loop μ-loop
 traversal-at-requires c κs =
-    let k = far-of c in
+    let k = far-of (c .before) in
     let p = start (turn-of k) .pre .1 in (
       omega (arith, inside k, p .f-len),
       omega (arith, inside k, p .b-len),
@@ -144,53 +147,63 @@ enum-told-2 c = search needs
 enum-told-3 : tie.Need-enum-told-3 Inv-loop μ-loop
 enum-told-3 c = search needs
 
+-- the far end and the turn, from where its count is known
+abbrev far-end-of : tie.After-traversal-at Inv-loop μ-loop → tie.After-known-told Inv-loop μ-loop
+far-end-of c = far-of (c .before .before)
+
 add-m-3 : tie.Need-add-m-3 Inv-loop μ-loop
-add-m-3 c = search needs
+add-m-3 c = let h = more (turn-of (far-end-of (c .before .before))) in omega arith
 
 loop-less-3 : tie.Need-loop-less-3 Inv-loop μ-loop
-loop-less-3 c = search needs
+loop-less-3 c = let l = turn (turn-of (far-end-of (c .before .before))) in omega arith
 
 loop-again-3 : tie.Need-loop-again-3 Inv-loop μ-loop
 loop-again-3 c =
-    let k = c .before .before .before in
-    let l = turn-of (far-of k) in
-    best-first (far-of k .before .w .given .0 .0 .0) (c .before .before .traversal-at .result) (l .before .loop .inv)
-    (turn l) (taken k)
-    (c .before .before .traversal-at .ensures) (c .enum-told3 .given .1)
+    let t = c .before .before in
+    let k = far-end-of t in
+    let l = turn-of k in (
+      l .before .loop .inv .0,
+      best-first (k .before .w .given .0 .0 .0) (t .traversal-at .result) (l .before .loop .inv .1) (turn l)
+          (taken (t .before)) (t .traversal-at .ensures) (c .enum-told3 .given .1),
+    )
 
 add-m-4 : tie.Need-add-m-4 Inv-loop μ-loop
-add-m-4 c = search needs
+add-m-4 c = let h = more (turn-of (far-end-of (c .before .before .before))) in omega arith
 
 loop-less-4 : tie.Need-loop-less-4 Inv-loop μ-loop
-loop-less-4 c = search needs
+loop-less-4 c = let l = turn (turn-of (far-end-of (c .before .before .before))) in omega arith
 
 loop-again-4 : tie.Need-loop-again-4 Inv-loop μ-loop
 loop-again-4 c =
-    let k = c .before .before .before .before in
-    let l = turn-of (far-of k) in
-    best-lower (far-of k .before .w .given .0 .0 .0) (c .before .before .before .traversal-at .result)
-    (l .before .loop .inv) (turn l) (taken k)
-    (c .before .before .before .traversal-at .ensures) (c .before .enum-told2 .given .0 .0 .0)
-    (c .before .enum-told2 .given .1) (omega arith)
+    let t = c .before .before .before in
+    let k = far-end-of t in
+    let l = turn-of k in (
+      l .before .loop .inv .0,
+      best-lower (k .before .w .given .0 .0 .0) (t .traversal-at .result) (l .before .loop .inv .1) (turn l)
+          (taken (t .before)) (t .traversal-at .ensures) (c .before .enum-told2 .given .0 .0 .0)
+          (c .before .enum-told2 .given .1) (omega arith),
+    )
 
 add-m-5 : tie.Need-add-m-5 Inv-loop μ-loop
-add-m-5 c = search needs
+add-m-5 c = let h = more (turn-of (far-end-of (c .before .before .before))) in omega arith
 
 loop-less-5 : tie.Need-loop-less-5 Inv-loop μ-loop
-loop-less-5 c = search needs
+loop-less-5 c = let l = turn (turn-of (far-end-of (c .before .before .before))) in omega arith
 
 loop-again-5 : tie.Need-loop-again-5 Inv-loop μ-loop
 loop-again-5 c =
-    let k = c .before .before .before .before in
-    let l = turn-of (far-of k) in
-    best-higher (far-of k .before .w .given .0 .0 .0) (c .before .before .before .traversal-at .result)
-    (l .before .loop .inv) (turn l) (taken k)
-    (c .before .before .before .traversal-at .ensures) (c .before .enum-told2 .given .0 .0 .0)
-    (c .before .enum-told2 .given .1) (omega arith)
+    let t = c .before .before .before in
+    let k = far-end-of t in
+    let l = turn-of k in (
+      l .before .loop .inv .0,
+      best-higher (k .before .w .given .0 .0 .0) (t .traversal-at .result) (l .before .loop .inv .1) (turn l)
+          (taken (t .before)) (t .traversal-at .ensures) (c .before .enum-told2 .given .0 .0 .0)
+          (c .before .enum-told2 .given .1) (omega arith),
+    )
 
 returns : tie.Need-returns Inv-loop μ-loop
 unfolding nextVertex
-returns c = best-end (c .before .loop .inv) (omega arith)
+returns c = best-end (c .before .loop .inv .1) (omega (arith, c .before .loop .inv .0))
 
 pub next-at-spec : {M : Type 1} → statement M
 next-at-spec =
@@ -199,20 +212,13 @@ next-at-spec =
     Inv-loop
     μ-loop
     loop-holds
-    mul-neighbour
-    shared-slice-read-neighbour
-    mul-neighbour-2
-    shared-slice-read-neighbour-2
-    mul-neighbour-3
-    shared-slice-read-neighbour-3
-    neighbour-requires
+    far-end-requires
     enum-known-w
     enum-told
     add-m
     loop-less
     loop-again
-    mul-follows
-    shared-slice-read-follows
+    move-cost-requires
     follows-requires
     add-m-2
     loop-less-2

@@ -6,21 +6,21 @@ use Rattle.planner.proofs.finish_job.Statement.{statement}
 use Rattle.planner.proofs.finish_job.Tie as tie
 
 -- The two calls, from the return.
-abbrev masked : tie.After-finish-over-masks-arg5 → tie.After-fill-masks
+abbrev masked : tie.After-finish-over-masks-arg5 → tie.After-store-masks
 masked c = c .before .before .before .before .before .before .before
 
 abbrev finished : tie.After-slice-known11 → tie.After-finish-over-masks
 finished c = c .before .before .before .before .before .before .before .before .before .before
 
-fill-masks-requires : tie.Need-fill-masks-requires
-fill-masks-requires c κs = search needs
+store-masks-requires : tie.Need-store-masks-requires
+store-masks-requires c κs = search needs
 
 finish-over-masks-requires : tie.Need-finish-over-masks-requires
 finish-over-masks-requires c κs =
     let m = masked c in
     let P = m .before .before .before .before .before .before .before .before .before .pre in (
-      finishable-of (P .job) (P .lent) (P .costs) (m .fill-masks .ensures .len ∙ P .lent .work-len),
-      m .fill-masks .ensures .masks,
+      finishable-of (P .job) (P .lent) (P .costs) (m .store-masks .ensures .len ∙ P .lent .work-len),
+      m .store-masks .ensures .masks,
     )
 
 same-length : tie.Need-same-length
@@ -38,7 +38,7 @@ same-length-4 c = finished c .finish-over-masks .kept .1 .1 .1 .1 .1 .1 .1 .1 .1
 same-length-5 : tie.Need-same-length-5
 same-length-5 c =
     finished c .finish-over-masks .kept .1 .1 .1 .1 .1 .1 .1 .1 .1 .1 .1 .0
-    ∙ masked (finished c .before) .fill-masks .kept .1 .1 .1 .0
+    ∙ masked (finished c .before) .store-masks .kept .1 .1 .1 .0
 
 returns : tie.Need-returns
 returns c = search needs
@@ -47,7 +47,7 @@ pub finish-job-spec : {M : Type 1} → statement M
 finish-job-spec =
     tie.close
     (tie.spec
-    fill-masks-requires
+    store-masks-requires
     finish-over-masks-requires
     same-length
     same-length-2

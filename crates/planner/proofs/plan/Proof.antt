@@ -1,6 +1,7 @@
 -- `planner::plan` meets its contract: a job of bad shape is refused, and any other is planned. Assumes nothing.
 use mathlib.Core.Path.{refl, sym, _∙_}
-use Rattle.planner.proofs.Shaped.{good-job, plans-unfit, plans-fit}
+use Rattle.grid.proofs.Jobs.{good-job}
+use Rattle.planner.proofs.Shaped.{plans-unfit, plans-fit}
 use borrow.Author.Needs.{needs}
 use Rattle.planner.proofs.plan.Statement.{statement}
 use Rattle.planner.proofs.plan.Tie as tie
@@ -21,7 +22,7 @@ enum-known-job-2 c = search needs
 plan-job-requires : tie.Need-plan-job-requires
 plan-job-requires c κs =
     let at = c .before .before .before .before .before .before .before in
-    good-job _ _ _ (at .before .before .job-of .ensures) (at .job2 .given .1)
+    good-job _ _ _ _ _ _ _ (sym (at .before .before .job-of .ensures) ∙ at .job2 .given .1)
 
 returns : tie.Need-returns
 returns c = plans-unfit (sym (c .before .before .before .job-of .ensures) ∙ c .before .job .given .1) refl

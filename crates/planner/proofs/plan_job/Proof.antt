@@ -13,10 +13,10 @@ use Rattle.planner.proofs.plan_job.Tie as tie
 abbrev start : tie.After-lengths-good → tie.Start
 start c = c .before .before .before .before .before .before .before .before .before
 
-abbrev tested : tie.After-fill-masks → tie.Else1
+abbrev tested : tie.After-store-masks → tie.Else1
 tested c = c .before .before
 
-abbrev masked : tie.After-costs-over-masks → tie.After-fill-masks
+abbrev masked : tie.After-costs-over-masks → tie.After-store-masks
 masked c = c .before .before .before .before .before
 
 abbrev costed : tie.After-finish-over-masks-arg6 → tie.After-costs-over-masks
@@ -43,15 +43,15 @@ lengths-good-requires c κs = search needs
 returns : tie.Need-returns
 returns c = job-unsized (search lengths-bad) refl
 
-fill-masks-requires : tie.Need-fill-masks-requires
-fill-masks-requires c κs =
+store-masks-requires : tie.Need-store-masks-requires
+store-masks-requires c κs =
     (start (c .before .before) .pre .sized, lent (c .before) .work-len)
 
 costs-over-masks-requires : tie.Need-costs-over-masks-requires
 costs-over-masks-requires c κs =
     let m = c .before .before .before .before in (
-      costing-of (start (tested m .before) .pre) (lent (tested m)) (m .fill-masks .ensures .len),
-      m .fill-masks .ensures .masks,
+      costing-of (start (tested m .before) .pre) (lent (tested m)) (m .store-masks .ensures .len),
+      m .store-masks .ensures .masks,
     )
 
 finish-over-masks-requires : tie.Need-finish-over-masks-requires
@@ -81,7 +81,7 @@ same-length-6 c =
     let C = costed (at .before) in
     at .finish-over-masks .kept .1 .1 .1 .1 .1 .1 .1 .1 .1 .1 .1 .0
     ∙ C .costs-over-masks .kept .1 .1 .1 .1 .1 .1 .0
-    ∙ masked C .fill-masks .kept .1 .1 .1 .0
+    ∙ masked C .store-masks .kept .1 .1 .1 .0
 
 returns-2 : tie.Need-returns-2
 returns-2 c =
@@ -95,7 +95,7 @@ plan-job-spec =
     vertex-count-requires
     lengths-good-requires
     returns
-    fill-masks-requires
+    store-masks-requires
     costs-over-masks-requires
     finish-over-masks-requires
     same-length

@@ -2,7 +2,7 @@
 use mathlib.Core.Path.{sym, _∙_}
 use native.Mathlib.Omega.{arith}
 use Rattle.floor.specs.Floor.{Floor, floorOf}
-use Rattle.thinning.specs.Known.{Listed}
+use Rattle.thinning.specs.Known.{VertexList}
 use Rattle.thinning.proofs.Shapes.{joined-empty, joined-beyond, joined-off, joined-on}
 use borrow.Author.Needs.{needs}
 use Rattle.thinning.proofs.joined.Statement.{statement}
@@ -15,7 +15,7 @@ abbrev start : tie.Then3 → tie.Start
 start c = c .before .before .before .before .before .before
 
 -- Where each number is a vertex, the list is one of vertices.
-listed : (c : tie.Then3) → (let a = start c .args in Listed (a .w) (a .h) (a .list .now) (a .n))
+listed : (c : tie.Then3) → (let a = start c .args in VertexList (a .w) (a .h) (a .list .now) (a .n))
 listed c = record { within = omega arith; each = sym (c .before .all-vertices .ensures) ∙ c .if3 .taken }
 
 returns : tie.Need-returns

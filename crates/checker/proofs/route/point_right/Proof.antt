@@ -1,23 +1,18 @@
--- `checker::route::point_right` meets its contract, test by test, on the floor of any rows that the moves were made
--- from. Assumes nothing.
+-- `checker::route::point_right` meets its contract, test by test. Assumes nothing.
+use Prim.Native.Nat.{_<_}
 use mathlib.Core.Path.{_≡_, sym, ap, _∙_}
 use native.Mathlib.Omega.{arith}
-use Rattle.floor.specs.Floor.{floorOf}
+use Rattle.floor.specs.Floor.{floorOf, vertices}
 use Rattle.floor.proofs.Numbers.{vertices-le}
-use Rattle.moves.specs.declared.Rows.{Rows}
-use Rattle.moves.specs.Steps.{stepOf}
 use Rattle.paths.specs.Graph.{Graph}
 use Rattle.paths.specs.Sheet.{Sheet, sheetOf}
 use Rattle.paths.specs.Local.{localNext}
 use Rattle.grid.specs.Grid.{floorGraph}
-use Rattle.neighbours.specs.declared.Reach.{Reach}
-use Rattle.neighbours.specs.Reach.{tableOf}
-use Rattle.neighbours.proofs.Steps.{stepOf-off, stepOf-to}
-use Rattle.neighbours.proofs.Built.{Faces}
-use Rattle.checker.specs.Tests.{Routing}
-use Rattle.checker.proofs.Passes.{vertex-faces}
+use Rattle.neighbours.specs.Choice.{nextFrom}
+use Rattle.neighbours.proofs.Steps.{next-stuck, next-to}
+use Rattle.checker.proofs.Posed.{posed-readable, posed-agrees}
 use Rattle.checker.proofs.Points.{point-past, point-outside, point-end, point-short, point-stuck, point-next}
-use Rattle.checker.proofs.Points.{routing-in, routing-chooses, routing-counted, next-local}
+use Rattle.checker.proofs.Points.{next-local}
 use borrow.Author.Needs.{needs}
 use Rattle.checker.proofs.route.point_right.Statement.{statement}
 use Rattle.checker.proofs.route.point_right.Tie as tie
@@ -26,21 +21,19 @@ abbrev sheet : tie.Start → Sheet
 sheet s = sheetOf (s .args .d .now) (s .args .e .now) (s .args .f .now) (s .args .back .now) (s .args .route .now)
     (s .args .n)
 
-abbrev table : tie.Start → Reach
-table s = let a = s .args in tableOf (a .count) (a .row .now) (a .up .now) (a .down .now) (a .cost .now)
-
-abbrev Ready : tie.Start → Rows → Type 0
-Ready s q = Routing (s .args .w) (s .args .h) (s .args .map .now) q (table s) (s .args .b .0) (sheet s)
-
-abbrev graph : tie.Start → Rows → Graph
-graph s q = floorGraph (floorOf (s .args .w) (s .args .h) (s .args .map .now)) q
+abbrev graph : tie.Start → Graph
+graph s = floorGraph (floorOf (s .args .w) (s .args .h) (s .args .map .now)) (s .args .rows)
 
 abbrev start : tie.After-point → tie.Start
-start c = c .before .before .before .before .before .before .before .before .before .before .before .before
+start c = c .before .before .before .before .before .before .before .before .before
 
 -- the tests passed before: the place is one of the route's, and the point stands on the floor
 abbrev placed : tie.Else2 → tie.Else1
 placed c = c .before .before
+
+on-floor : (c : tie.Else2)
+    → let k = placed c .before in k .point .result .0 < vertices (start k .args .w) (start k .args .h)
+on-floor c = omega (arith, start (placed c .before) .pre .0 .shape .d)
 
 abbrev inside : tie.Else3 → tie.Else2
 inside c = c .before .before .before
@@ -49,17 +42,19 @@ inside c = c .before .before .before
 abbrev asked : tie.After-open-moves → tie.After-point
 asked c = placed (inside (c .before .before)) .before
 
-faces : (c : tie.After-open-moves) (q : Rows) → Ready (start (asked c)) q
-    → Faces (graph (start (asked c)) q) (table (start (asked c))) (c .open-moves .result) (asked c .point .result .0)
-faces c q p =
-    vertex-faces (p .posed .job .floor) (p .posed .job .listed) (p .built) (routing-in p (omega arith))
-    (c .open-moves .ensures)
-
 -- the next vertex, as the test asks for it
-next : (c : tie.After-next-at) (q : Rows) → Ready (start (asked (c .before))) q
-    → let s = start (asked (c .before)) in
-    c .next-at .result ≡ stepOf (localNext (graph s q) (s .args .b .0) (sheet s) (asked (c .before) .point .result .0))
-next c q p = c .next-at .ensures ∙ ap stepOf (next-local p (faces (c .before) q p))
+next : (c : tie.After-next-at)
+    → let k = asked (c .before) in
+    let s = start k in
+    c .next-at .result ≡ nextFrom (localNext (graph s) (s .args .b .0) (sheet s) (k .point .result .0))
+next c =
+    let o = c .before in
+    let s = start (asked o) in
+    c .next-at .ensures
+    ∙ ap nextFrom
+    (next-local
+    (posed-agrees (s .pre .0) (s .pre .1) (on-floor (inside (o .before .before))) (o .open-moves .ensures))
+    (s .args .b .0) (sheet s))
 
 mul-point : tie.Need-mul-point
 mul-point c = search needs
@@ -74,16 +69,15 @@ returns : tie.Need-returns
 returns c =
     let k = c .before .before in
     let s = start k in
-    λ q p. point-past (graph s q) (s .args .b .0) (sheet s) (s .args .i) (k .point .result .0) (k .point .ensures)
+    point-past (graph s) (s .args .b .0) (sheet s) (s .args .i) (k .point .result .0) (k .point .ensures)
     (c .before .if1 .taken)
 
 returns-2 : tie.Need-returns-2
 returns-2 c =
     let k = c .before .before .before in
     let s = start k in
-    λ q p. point-outside (graph s q) (s .args .b .0) (sheet s) (s .args .i) (k .point .result .0) (k .point .ensures)
-    (c .before .before .if1 .left)
-    (omega (arith, p .posed .shape .d))
+    point-outside (graph s) (s .args .b .0) (sheet s) (s .args .i) (k .point .result .0) (k .point .ensures)
+    (c .before .before .if1 .left) (omega (arith, s .pre .0 .shape .d))
 
 add-result : tie.Need-add-result
 add-result c = search needs
@@ -93,9 +87,8 @@ returns-3 c =
     let o = c .before .before .before in
     let k = placed o .before in
     let s = start k in
-    λ q p. point-end (graph s q) (s .args .b .0) (sheet s) (s .args .i) (k .point .result .0) (k .point .ensures)
-    (placed o .if1 .left)
-    (routing-in p (o .if2 .left)) (c .if3 .taken)
+    point-end (graph s) (s .args .b .0) (sheet s) (s .args .i) (k .point .result .0) (k .point .ensures)
+    (placed o .if1 .left) (on-floor o) (c .if3 .taken)
 
 add-if4 : tie.Need-add-if4
 add-if4 c = search needs
@@ -105,16 +98,23 @@ returns-4 c =
     let o = inside (c .before) in
     let k = placed o .before in
     let s = start k in
-    λ q p. point-short (graph s q) (s .args .b .0) (sheet s) (s .args .i) (k .point .result .0) (k .point .ensures)
-    (placed o .if1 .left) (routing-in p (o .if2 .left)) (c .before .if3 .left)
-    (c .if4 .taken)
+    point-short (graph s) (s .args .b .0) (sheet s) (s .args .i) (k .point .result .0) (k .point .ensures)
+    (placed o .if1 .left) (on-floor o) (c .before .if3 .left) (c .if4 .taken)
 
 open-moves-requires : tie.Need-open-moves-requires
 open-moves-requires c κs = search needs
 
 next-at-requires : tie.Need-next-at-requires
-next-at-requires c κs = let p = start (asked c) .pre .0 .1 in
-    (routing-chooses p (faces c (start (asked c) .pre .0 .0) p), routing-counted p)
+next-at-requires c κs =
+    let p = start (asked c) .pre in
+    let q = p .0 in (
+      record {
+        readable = posed-readable q (p .1) (on-floor (inside (c .before .before))) (c .open-moves .ensures);
+        goal-in = omega (arith, q .job .goal-in, q .shape .d);
+        e-len = q .shape .e ∙ sym (q .shape .d);
+      },
+      p .2,
+    )
 
 enum-known-u : tie.Need-enum-known-u
 enum-known-u c = search needs
@@ -129,25 +129,20 @@ returns-5 c =
     let s = start k in
     let i = n .before .before in
     let o = inside (i .before) in
-    λ q p. point-stuck (graph s q) (s .args .b .0) (sheet s) (s .args .i) (k .point .result .0) (k .point .ensures)
-    (placed o .if1 .left) (routing-in p (o .if2 .left)) (i .before .if3 .left)
-    (i .if4 .left)
-    (stepOf-off _ (sym (next n q p) ∙ c .enum-told .given .1))
+    point-stuck (graph s) (s .args .b .0) (sheet s) (s .args .i) (k .point .result .0) (k .point .ensures)
+    (placed o .if1 .left) (on-floor o) (i .before .if3 .left) (i .if4 .left)
+    (next-stuck _ (sym (next n) ∙ c .enum-told .given .1))
 
 add-point : tie.Need-add-point
-add-point c =
-    let o = c .before .before .before .before in
-    omega (arith, o .before .if4 .left, start (asked o) .fits .n)
+add-point c = search needs
 
 mul-point-2 : tie.Need-mul-point-2
 mul-point-2 c =
-    let p = start (asked (c .before .before .before .before)) .pre .0 .1 .posed in
-    let n = start (asked (c .before .before .before .before)) .pre .0 .1 .points in
-    omega (arith, p .shape .route, vertices-le (p .job .floor .wide) (p .job .floor .high))
+    let p = start (asked (c .before .before .before .before)) .pre in
+    omega (arith, p .3, p .0 .shape .route, vertices-le (p .0 .job .sized .wide) (p .0 .job .sized .high))
 
 shared-slice-read-point-2 : tie.Need-shared-slice-read-point-2
-shared-slice-read-point-2 c = let o = c .before .before .before .before .before in omega
-    (arith, start (asked o) .pre .0 .1 .points)
+shared-slice-read-point-2 c = search needs
 
 point-requires-2 : tie.Need-point-requires-2
 point-requires-2 c κs = search needs
@@ -160,11 +155,9 @@ returns-6 c =
     let i = n .before .before in
     let o = inside (i .before) in
     let u = c .before .before .before .before .before .u .given in
-    λ q p. point-next (graph s q) (s .args .b .0) (sheet s) (s .args .i) (k .point .result .0) (k .point .ensures)
-    (placed o .if1 .left) (routing-in p (o .if2 .left)) (i .before .if3 .left)
-    (i .if4 .left)
-    (u .0 .0 .0) (c .before .before .point2 .result .0) (stepOf-to _ _ (sym (next n q p) ∙ u .1))
-    (c .before .before .point2 .ensures)
+    point-next (graph s) (s .args .b .0) (sheet s) (s .args .i) (k .point .result .0) (k .point .ensures)
+    (placed o .if1 .left) (on-floor o) (i .before .if3 .left) (i .if4 .left) (u .0 .0 .0)
+    (c .before .before .point2 .result .0) (next-to _ _ (sym (next n) ∙ u .1)) (c .before .before .point2 .ensures)
 
 pub point-right-spec : {M : Type 1} → statement M
 point-right-spec =

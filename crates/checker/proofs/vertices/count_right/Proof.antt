@@ -6,22 +6,18 @@ use borrow.Author.Tests.{not-true, not-false}
 use lib.ListN.{length}
 use Rattle.paths.specs.Graph.{Graph}
 use Rattle.paths.specs.Local.{entry}
-use Rattle.neighbours.specs.declared.Reach.{Reach}
-use Rattle.neighbours.specs.Reach.{tableOf, star}
+use Rattle.neighbours.specs.Reading.{maskGraph}
 use Rattle.checker.proofs.Counts.{count-off, count-start, count-over, count-sum}
 use borrow.Author.Needs.{needs}
 use Rattle.checker.proofs.vertices.count_right.Statement.{statement}
 use Rattle.checker.proofs.vertices.count_right.Tie as tie
 
-abbrev table : tie.Start → Reach
-table s = let a = s .args in tableOf (a .count) (a .row .now) (a .up .now) (a .down .now) (a .cost .now)
-
 abbrev graph : tie.Start → Graph
-graph s = star (length (s .args .d .now)) (table s) (s .args .mask)
+graph s = maskGraph (length (s .args .d .now)) (s .args .rows) (s .args .shifts .now) (s .args .mask)
 
 -- where the count was read
-abbrev start : tie.After-shared-slice-known7 → tie.Start
-start c = c .before .before .before .before .before .before .before
+abbrev start : tie.After-shared-slice-known4 → tie.Start
+start c = c .before .before .before .before
 
 mul-x : tie.Need-mul-x
 mul-x c = search needs
@@ -59,7 +55,7 @@ returns-3 c =
     let a = s .args in
     count-over (graph s) (a .source) (a .on) (entry (a .d .now)) (entry (a .f .now)) (a .v)
     (not-false _ (i .before .before .if1 .left)) (i .before .if2 .left)
-    (omega (arith, i .before .before .before .shared-slice-known7 .given (a .v)))
+    (omega (arith, i .before .before .before .shared-slice-known4 .given (a .v)))
     (sym (i .inflow-at .ensures) ∙ c .enum-told .given .1)
 
 returns-4 : tie.Need-returns-4

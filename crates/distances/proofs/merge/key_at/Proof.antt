@@ -7,25 +7,19 @@ use borrow.Author.Needs.{needs}
 use Rattle.distances.proofs.merge.key_at.Statement.{statement}
 use Rattle.distances.proofs.merge.key_at.Tie as tie
 
-abbrev start : tie.After-wide → tie.Start
-start c = c .before .before .before .before .before
+abbrev start : tie.After-settled-at → tie.Start
+start c = c .before .before .before .before
 
-cost : (c : tie.After-wide)
-    → entry (start c .args .d .now) (c .wide .result)
+cost : (c : tie.After-settled-at)
+    → entry (start c .args .d .now) (c .settled-at .result)
     ≡ entry (start c .args .d .now) (entry (start c .args .work .now) (start c .args .p))
-cost c = ap (entry (start c .args .d .now)) (c .wide .ensures)
+cost c = ap (entry (start c .args .d .now)) (c .settled-at .ensures)
 
 returns : tie.Need-returns
 returns c = sym (key-out _ _ _ _ _ (c .if1 .taken))
 
-mul-wide : tie.Need-mul-wide
-mul-wide c = search needs
-
-shared-slice-read-wide : tie.Need-shared-slice-read-wide
-shared-slice-read-wide c = search needs
-
-wide-requires : tie.Need-wide-requires
-wide-requires c κs = search needs
+settled-at-requires : tie.Need-settled-at-requires
+settled-at-requires c κs = search needs
 
 mul-result : tie.Need-mul-result
 mul-result c = let s = start c in omega (arith, s .pre .0 .inside (s .args .p) (omega arith))
@@ -47,9 +41,7 @@ key-at-spec =
     tie.close
     (tie.spec
     returns
-    mul-wide
-    shared-slice-read-wide
-    wide-requires
+    settled-at-requires
     mul-result
     shared-slice-read-result
     add-result

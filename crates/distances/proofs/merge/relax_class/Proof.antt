@@ -20,10 +20,10 @@ Inv-loop shifts class p key n d₀ work₀ u mask k₀ j₀ d work k j =
 abbrev μ-loop : tie.MeasureT-loop
 μ-loop shifts class p key n d₀ work₀ u mask k₀ j₀ d work k j = 4 - j
 
-abbrev start : tie.After-wide Inv-loop μ-loop → tie.Start Inv-loop μ-loop
+abbrev start : tie.After-settled-at Inv-loop μ-loop → tie.Start Inv-loop μ-loop
 start c = c .before .before .before .before .before
 
-abbrev read : tie.At-loop Inv-loop μ-loop → tie.After-wide Inv-loop μ-loop
+abbrev read : tie.At-loop Inv-loop μ-loop → tie.After-settled-at Inv-loop μ-loop
 read l = l .before .before .before
 
 place-in : (s : tie.Start Inv-loop μ-loop) → s .args .p < length (s .args .work .now)
@@ -35,8 +35,8 @@ place-in s =
 few : (s : tie.Start Inv-loop μ-loop) → length (s .args .d .now) ≤ 16384
 few s = let S = s .pre .3 .ready .settled in omega (arith, S .d-len, S .few)
 
-vertex : (w : tie.After-wide Inv-loop μ-loop) → w .wide .result < length (start w .args .d .now)
-vertex w = omega (arith, w .wide .ensures, vertex-in (start w .pre .3))
+vertex : (w : tie.After-settled-at Inv-loop μ-loop) → w .settled-at .result < length (start w .args .d .now)
+vertex w = omega (arith, w .settled-at .ensures, vertex-in (start w .pre .3))
 
 -- A turn of the loop: where it begins, and the far end of its row.
 abbrev turned : tie.After-end-or-self Inv-loop μ-loop → tie.At-loop Inv-loop μ-loop
@@ -50,43 +50,29 @@ ends : (e : tie.After-end-or-self Inv-loop μ-loop)
     (classRow (a .class) (l .loop .j))
 ends e =
     let a = start (read (turned e)) .args in
-    far-at (a .shifts .now) (a .work .now) (length (a .d .now)) (read (turned e) .wide .ensures)
-    (e .before .row-of .ensures) (e .end-or-self .ensures)
+    far-at (a .shifts .now) (a .work .now) (length (a .d .now)) (read (turned e) .settled-at .ensures)
+    (turned e .before .mask-at .ensures) (e .before .class-row .ensures) (e .end-or-self .ensures)
 
-mul-wide : tie.Need-mul-wide Inv-loop μ-loop
-mul-wide c = omega (arith, place-in (c .before .before .before))
+settled-at-requires : tie.Need-settled-at-requires Inv-loop μ-loop
+settled-at-requires c κs = place-in (c .before .before .before .before)
 
-slice-read-wide : tie.Need-slice-read-wide Inv-loop μ-loop
-slice-read-wide c = place-in (c .before .before .before .before)
-
-wide-requires : tie.Need-wide-requires Inv-loop μ-loop
-wide-requires c κs = search needs
-
-mul-mask : tie.Need-mul-mask Inv-loop μ-loop
-mul-mask c = omega (arith, few (start c))
-
-add-mask : tie.Need-add-mask Inv-loop μ-loop
-add-mask c = let w = c .before in omega (arith, vertex w, few (start w))
-
-mul-mask-2 : tie.Need-mul-mask-2 Inv-loop μ-loop
-mul-mask-2 c = let w = c .before in omega (arith, vertex w, few (start w))
-
-slice-read-mask : tie.Need-slice-read-mask Inv-loop μ-loop
-slice-read-mask c =
-    let w = c .before .before in
+mask-at-requires : tie.Need-mask-at-requires Inv-loop μ-loop
+mask-at-requires c κs =
+    let w = c .before in
     let S = start w .pre .3 .ready .settled in
-    omega (arith, vertex w, S .d-len, S .work-len)
+    (few (start w), omega (arith, S .d-len, S .work-len), vertex w)
 
 loop-holds : tie.Need-loop-holds Inv-loop μ-loop
 loop-holds c = (λ g r a B. relaxed-none B, omega arith)
 
-row-of-requires : tie.Need-row-of-requires Inv-loop μ-loop
-row-of-requires c κs = let i : c .before .loop .j < 4 = omega arith in (row-low (start (read (c .before)) .pre .3) i, i)
+class-row-requires : tie.Need-class-row-requires Inv-loop μ-loop
+class-row-requires c κs = let i : c .before .loop .j < 4 = omega arith in (row-low (start (read (c .before)) .pre .3) i, i)
 
 end-or-self-requires : tie.Need-end-or-self-requires Inv-loop μ-loop
 end-or-self-requires c κs =
     let w = read (c .before .before) in
-    rw (w .wide .ensures, c .row-of .ensures) (reaching (start w .pre .3) (omega arith))
+    rw (c .before .before .before .mask-at .ensures, w .settled-at .ensures, c .class-row .ensures)
+    (reaching (start w .pre .3) (omega arith))
 
 offer-requires : tie.Need-offer-requires Inv-loop μ-loop
 offer-requires c κs =
@@ -132,15 +118,10 @@ relax-class-spec =
     (tie.spec
     Inv-loop
     μ-loop
-    mul-wide
-    slice-read-wide
-    wide-requires
-    mul-mask
-    add-mask
-    mul-mask-2
-    slice-read-mask
+    settled-at-requires
+    mask-at-requires
     loop-holds
-    row-of-requires
+    class-row-requires
     end-or-self-requires
     offer-requires
     add-j

@@ -1,12 +1,13 @@
 -- `planner::route::write_route` meets its contract: the points that are written are those of the route before the
 -- vertex where the walk stands, and it has a next vertex. Assumes nothing.
-use Prim.Native.Nat.{_+_, _-_, _*_, _≤_, _<_}
+use Prim.Native.Nat.{_-_, _<_}
+use mathlib.Core.Path.{_≡_}
 use native.Mathlib.Omega.{arith}
 use borrow.Author.Needs.{needs}
 use lib.ListN.{length}
 use Rattle.paths.specs.Graph.{Graph}
-use Rattle.neighbours.specs.declared.Reach.{Reach}
-use Rattle.neighbours.specs.Reach.{tableOf}
+use Rattle.neighbours.specs.Choice.{nextOf, nextFrom}
+use Rattle.workspace.specs.Regions.{maskAt}
 use Rattle.planner.specs.Parts.{Walkable}
 use Rattle.planner.proofs.Walking.{
   Walking,
@@ -26,25 +27,21 @@ use Rattle.planner.proofs.route.write_route.Statement.{statement}
 use Rattle.planner.proofs.route.write_route.Tie as tie
 
 abbrev Inv-loop : tie.InvT-loop
-Inv-loop count row up down cost a b d e f back work route₀ masks n₀ at₀ route n at =
-    Stepping (tableOf count row up down cost) a b d e f back work route₀ n at route
+Inv-loop rows shifts a b d e f back work route₀ n₀ at₀ route n at =
+    Stepping rows shifts a b d e f back work route₀ n at route
 
 abbrev μ-loop : tie.MeasureT-loop
-μ-loop count row up down cost a b d e f back work route₀ masks n₀ at₀ route n at = length d - n
+μ-loop rows shifts a b d e f back work route₀ n₀ at₀ route n at = length d - n
 
--- The place where the function begins, the moves as they are lent, and what is required: a graph, and that the lists
--- are of it.
+-- The place where the function begins, and what is required: a graph, and that the lists are of it.
 abbrev start : tie.At-loop Inv-loop μ-loop → tie.Start Inv-loop μ-loop
-start c = c .before .before .before .before .before .before .before .before .before .before .before
+start c = c .before .before .before .before .before .before .before .before
 
 abbrev graph : tie.At-loop Inv-loop μ-loop → Graph
 graph c = start c .pre .0
 
-abbrev table : tie.At-loop Inv-loop μ-loop → Reach
-table c = let a = start c .args in tableOf (a .count) (a .row .now) (a .up .now) (a .down .now) (a .cost .now)
-
 abbrev known : (c : tie.At-loop Inv-loop μ-loop)
-    → Walkable (graph c) (table c) (start c .args .a) (start c .args .b)
+    → Walkable (graph c) (start c .args .rows) (start c .args .shifts .now) (start c .args .a) (start c .args .b)
     (start c .args .d .now) (start c .args .e .now) (start c .args .f .now) (start c .args .back .now)
     (start c .args .work .now) (start c .args .route .now)
 known c = start c .pre .1
@@ -62,17 +59,6 @@ room c = omega (arith, walking-room (known c) (walk c), known c .few)
 fits : (c : tie.At-loop Inv-loop μ-loop) → c .loop .n < length (c .loop .route)
 fits c = omega (arith, walking-room (known c) (walk c), walk c .len)
 
-reads-mask : (c : tie.At-loop Inv-loop μ-loop)
-    → (2 * length (start c .args .d .now) + c .loop .at < length (start c .args .work .now))
-    × (length (start c .args .work .now) ≤ 65536)
-reads-mask c =
-    (omega (arith, walk c .inside, d-len (known c), known c .work-len), omega (arith, known c .few, known c .work-len))
-
-mul-masks : tie.Need-mul-masks Inv-loop μ-loop
-mul-masks c =
-    let s = c .before .before .before .before .before .before .before .before .before .before in
-    omega (arith, d-len (s .pre .1), s .pre .1 .few)
-
 loop-holds : tie.Need-loop-holds Inv-loop μ-loop
 loop-holds c = step-start
 
@@ -88,22 +74,28 @@ slice-write-route c = fits (c .before)
 add-n : tie.Need-add-n Inv-loop μ-loop
 add-n c = omega (arith, room (c .before))
 
-add-mask : tie.Need-add-mask Inv-loop μ-loop
-add-mask c = omega (arith, reads-mask (c .before))
-
-mul-mask : tie.Need-mul-mask Inv-loop μ-loop
-mul-mask c = omega (arith, reads-mask (c .before))
-
-shared-slice-read-mask : tie.Need-shared-slice-read-mask Inv-loop μ-loop
-shared-slice-read-mask c = reads-mask (c .before .before) .0
+mask-at-requires : tie.Need-mask-at-requires Inv-loop μ-loop
+mask-at-requires c κs =
+    let at = c .before in
+    let len = d-len (known at) in
+    (omega (arith, known at .few), omega (arith, known at .work-len), omega (arith, walk at .inside))
 
 next-at-requires : tie.Need-next-at-requires Inv-loop μ-loop
 next-at-requires c κs =
     let at = c .before .before in
     let lens = counts-len (known at) in (
-      walkable-choosing (known at) (at .loop .at) (walk at .inside),
+      rw (c .mask-at .ensures) (walkable-choosing (known at) (at .loop .at) (walk at .inside)),
       record { f-len = omega arith; b-len = omega arith; fit = product-fits (known at) },
     )
+
+-- The next vertex, by the mask where it stands.
+next : (c : tie.After-next-at Inv-loop μ-loop)
+    → let at = c .before .before .before in
+    let a = start at .args in
+    c .next-at .result
+    ≡ nextFrom (nextOf (a .rows) (a .shifts .now) (maskAt (length (a .d .now)) (a .work .now) (at .loop .at)) (a .d .now)
+    (a .e .now) (a .f .now) (a .back .now) (a .b) (at .loop .at))
+next c = rw (c .before .mask-at .ensures) at (c .next-at .ensures)
 
 enum-known-next : tie.Need-enum-known-next Inv-loop μ-loop
 enum-known-next c = search needs
@@ -120,8 +112,7 @@ returns : tie.Need-returns Inv-loop μ-loop
 returns c =
     let at = c .before .before .before .before .before in
     step-stuck (at .loop .inv) (c .before .before .before .before .loop-test .taken)
-    (c .before .before .next-at .result) (c .before .before .next-at .ensures) (c .enum-told .given .1) (graph at)
-    (known at)
+    (c .before .before .next-at .result) (next (c .before .before)) (c .enum-told .given .1) (graph at) (known at)
 
 loop-less : tie.Need-loop-less Inv-loop μ-loop
 loop-less c =
@@ -132,7 +123,7 @@ loop-again : tie.Need-loop-again Inv-loop μ-loop
 loop-again c =
     let at = c .before .before .before .before .before .before in
     step-more (at .loop .inv) (c .before .before .before .before .before .loop-test .taken)
-    (c .before .before .before .next-at .result) (c .before .before .before .next-at .ensures)
+    (c .before .before .before .next-at .result) (next (c .before .before .before))
     (c .before .next .given .0 .0 .0) (c .before .next .given .1)
 
 cast-route-2 : tie.Need-cast-route-2 Inv-loop μ-loop
@@ -159,15 +150,12 @@ write-route-spec =
     (tie.spec
     Inv-loop
     μ-loop
-    mul-masks
     loop-holds
     cast-route
     mul-route
     slice-write-route
     add-n
-    add-mask
-    mul-mask
-    shared-slice-read-mask
+    mask-at-requires
     next-at-requires
     enum-known-next
     enum-told

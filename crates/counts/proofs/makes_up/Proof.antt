@@ -1,10 +1,10 @@
--- `counts::on_way` meets its contract: the sums that are compared are those of the costs. Assumes nothing.
+-- `counts::makes_up` meets its contract: the sums that are compared are those of the costs. Assumes nothing.
 use Prim.Native.Nat.{_+_}
 use mathlib.Core.Path.{ap₂}
 use lib.Dec.{eqb}
 use borrow.Author.Needs.{needs}
-use Rattle.counts.proofs.on_way.Statement.{statement}
-use Rattle.counts.proofs.on_way.Tie as tie
+use Rattle.counts.proofs.makes_up.Statement.{statement}
+use Rattle.counts.proofs.makes_up.Tie as tie
 
 mul-wide : tie.Need-mul-wide
 mul-wide c = search needs
@@ -35,8 +35,8 @@ returns c =
     ap₂ eqb (ap₂ _+_ (c .before .before .before .wide .ensures .0) (c .before .wide2 .ensures .0))
     (c .wide3 .ensures .0)
 
-pub on-way-spec : {M : Type 1} → statement M
-on-way-spec =
+pub makes-up-spec : {M : Type 1} → statement M
+makes-up-spec =
     tie.close
     (tie.spec
     mul-wide

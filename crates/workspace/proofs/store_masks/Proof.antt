@@ -1,9 +1,9 @@
--- `distances::fill_masks` meets its contract: the masks are filled in a part of the working slice. Assumes nothing.
+-- `workspace::store_masks` meets its contract: the masks are filled in a part of the working slice. Assumes nothing.
 use Rattle.floor.specs.Floor.{floorOf}
-use Rattle.distances.proofs.Operations.{masks-filled}
+use Rattle.workspace.proofs.Regions.{masks-filled}
 use borrow.Author.Needs.{needs}
-use Rattle.distances.proofs.fill_masks.Statement.{statement}
-use Rattle.distances.proofs.fill_masks.Tie as tie
+use Rattle.workspace.proofs.store_masks.Statement.{statement}
+use Rattle.workspace.proofs.store_masks.Tie as tie
 
 vertex-count-requires : tie.Need-vertex-count-requires
 vertex-count-requires c κs = search needs
@@ -40,8 +40,8 @@ returns c =
     masks-filled (floorOf (a .w) (a .h) (a .map .now)) (n .result) (a .work .now) _ (n .ensures .0) (s .pre .1)
     (c .before .before .fill-masks .ensures)
 
-pub fill-masks-spec : {M : Type 1} → statement M
-fill-masks-spec =
+pub store-masks-spec : {M : Type 1} → statement M
+store-masks-spec =
     tie.close
     (tie.spec
     vertex-count-requires

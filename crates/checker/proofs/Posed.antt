@@ -1,0 +1,62 @@
+-- What a sheet posed with a good job has, and what the code knows at a vertex of its floor.
+--
+--   posed-uncounted          == the point count is no part of it
+--   posed-goal               == the goal is as good an end as the start
+--   posed-readable, -agrees  == the moves from a vertex can be read by its mask, and lead where those of the floor lead
+--   posed-shaped             == the slices are all as long as that of the costs from a
+use Prim.Native.Nat.{ℕ, _<_}
+use mathlib.Core.Path.{refl, sym, _∙_, subst}
+use mathlib.Core.List.{List}
+use lib.ListN.{length}
+use Rattle.floor.specs.Floor.{floorOf, vertices}
+use Rattle.moves.specs.declared.Rows.{Rows}
+use Rattle.moves.proofs.Table.{listed-lawful}
+use Rattle.masks.specs.Masks.{OpenAt}
+use Rattle.offsets.specs.Offsets.{Shifts}
+use Rattle.paths.specs.Sheet.{Sheet, sheetOf}
+use Rattle.paths.specs.Local.{Shaped}
+use Rattle.grid.specs.Grid.{floorGraph}
+use Rattle.neighbours.specs.Reading.{maskGraph, Readable}
+use Rattle.neighbours.proofs.Agree.{Agrees}
+use Rattle.neighbours.proofs.Shown.{Shows, mask-shows}
+use Rattle.checker.specs.Tests.{Posed}
+
+pub posed-uncounted : {w h : ℕ} {l : List ℕ} {r : Rows} {a b n : ℕ} {d e f back route : List ℕ}
+    → Posed w h l r a b (sheetOf d e f back route n) → Posed w h l r a b (sheetOf d e f back route 0)
+posed-uncounted p = record {
+  job = p .job;
+  shape = record { d = p .shape .d; e = p .shape .e; f = p .shape .f; b = p .shape .b; route = p .shape .route };
+}
+
+module _ {w h : ℕ} {l : List ℕ} {r : Rows} {a b : ℕ} {s : Sheet} (p : Posed w h l r a b s) where
+  pub posed-goal : Posed w h l r b b s
+  posed-goal = record {
+    job = record {
+      sized = p .job .sized;
+      listed = p .job .listed;
+      start-in = p .job .goal-in;
+      goal-in = p .job .goal-in;
+    };
+    shape = p .shape;
+  }
+
+  pub posed-shaped : Shaped (length (s .d)) s
+  posed-shaped = record {
+    d = refl;
+    e = p .shape .e ∙ sym (p .shape .d);
+    f = p .shape .f ∙ sym (p .shape .d);
+    b = p .shape .b ∙ sym (p .shape .d);
+    route = p .shape .route ∙ sym (p .shape .d);
+  }
+
+  module _ {m : List ℕ} (S : Shifts w m) {mask v : ℕ} (i : v < vertices w h) (o : OpenAt (floorOf w h l) v mask) where
+    shown : Shows (floorGraph (floorOf w h l) r) r m mask v
+    shown =
+        mask-shows (floorOf w h l) r (listed-lawful (p .job .listed)) S (p .job .sized .wide) (p .job .sized .high) mask
+        v i o
+
+    pub posed-readable : Readable (length (s .d)) r m mask v
+    posed-readable = subst (λ (n : ℕ). Readable n r m mask v) (sym (p .shape .d)) (shown .readable)
+
+    pub posed-agrees : Agrees (maskGraph (length (s .d)) r m mask) (floorGraph (floorOf w h l) r) v
+    posed-agrees = let q = shown .agrees in record { moves = q .moves; cost = q .cost; step = q .step }

@@ -1,0 +1,15 @@
+-- What planner and checker know of a job whose shape is good. Nobody has to believe these: they stand in contracts of
+-- functions behind the operations' doors, and `job-fit` shows that such a job has them.
+--
+--   GoodJob w h map rows a b == the floor, the rows of the neighbourhood and both ends are good
+use Prim.Native.Nat.{ℕ, _<_}
+use mathlib.Core.List.{List}
+use Rattle.floor.specs.Floor.{Sized, vertices}
+use Rattle.moves.specs.declared.Rows.{Rows}
+use Rattle.moves.specs.Table.{Listed}
+
+pub record GoodJob (w h : ℕ) (map : List ℕ) (rows : Rows) (a b : ℕ) : Type 0 where
+  pub sized : Sized w h map
+  pub listed : Listed rows
+  pub start-in : a < vertices w h
+  pub goal-in : b < vertices w h

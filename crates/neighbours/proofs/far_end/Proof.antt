@@ -1,0 +1,25 @@
+-- `neighbours::far_end` meets its contract: the far end of the move's row. Assumes nothing.
+use mathlib.Core.Path.{ap, _∙_}
+use Prim.Native.Nat.{ℕ}
+use native.Mathlib.Omega.{arith}
+use Rattle.offsets.specs.Offsets.{rowEnd, endOf}
+use borrow.Author.Needs.{needs}
+use Rattle.neighbours.proofs.far_end.Statement.{statement}
+use Rattle.neighbours.proofs.far_end.Tie as tie
+
+row-at-requires : tie.Need-row-at-requires
+row-at-requires c κs = search needs
+
+open-end-requires : tie.Need-open-end-requires
+open-end-requires c κs =
+    let s = c .before .before in
+    (omega (arith, c .row-at .ensures .1, s .pre .2), rw (c .row-at .ensures .0) (s .pre .3))
+
+returns : tie.Need-returns
+returns c =
+    let a = c .before .before .before .args in
+    c .open-end .ensures
+    ∙ ap (λ (k : ℕ). endOf (rowEnd (a .shifts .now) (a .mask) (a .v) k)) (c .before .row-at .ensures .0)
+
+pub far-end-spec : {M : Type 1} → statement M
+far-end-spec = tie.close (tie.spec row-at-requires open-end-requires returns)
