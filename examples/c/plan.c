@@ -15,7 +15,7 @@ static const uint8_t base[WIDTH * HEIGHT] = {
 };
 
 /* The closures, none of them held, and the map with them on it. */
-static uint32_t slots[64];
+static uint32_t slots[LURFANZI_TABLE];
 static uint8_t map[WIDTH * HEIGHT];
 
 /* The sheet, the working memory, and the kept positions. What they hold before a call does not matter. */

@@ -10,14 +10,14 @@ _Static_assert(offsetof(lurfanzi_post_result, slot) == 0, "place of slot");
 _Static_assert(offsetof(lurfanzi_post_result, answer) == 4, "place of answer");
 _Static_assert(LURFANZI_BAD_CLOSURE == 12 && LURFANZI_SLOTS_FULL == 13, "answers 12 and 13");
 _Static_assert(LURFANZI_SLOT_EMPTY == 14, "answer 14");
+_Static_assert(LURFANZI_SLOTS == 16 && LURFANZI_TABLE == 64, "size of a table");
 
 #define MOST UINT32_C(4294967295)
 #define HALF UINT32_C(2147483648)
-#define NUMBERS 64
 
 typedef struct {
     uint32_t width, height;
-    uint32_t slots[NUMBERS]; /* what the calls have left there */
+    uint32_t slots[LURFANZI_TABLE]; /* what the calls have left there */
 } table;
 
 typedef struct {
