@@ -38,7 +38,7 @@ use Rattle.grid.specs.declared.Job.the-variants.{Fit}
 use Rattle.grid.proofs.Lawful.{floor-lawful}
 use Rattle.grid.proofs.Jobs.{FitJob, job-fit}
 use Rattle.thinning.specs.Thinning.{seen, keptFrom, keptPositions, seesNext, joinedList}
-use Rattle.thinning.specs.Known.{Listed}
+use Rattle.thinning.specs.Known.{VertexList}
 use Rattle.thinning.proofs.Shapes.{vertex-yes, joined-on}
 use Rattle.records.specs.Lines.{routeLine, atLine, keptOf}
 use Rattle.jobs.specs.Text.{routeText}
@@ -135,7 +135,7 @@ module _ (w h : ℕ) (map : List ℕ) (nb a b : ℕ) (r : Rows) (e : jobOf w h m
       let n : ℕ = length route in
       let l : List ℕ = padded (vertices w h) route in
       let walk = route-walk g lawful a b (fit .start) (fit .end) reached in
-      let listed : Listed w h l n = record {
+      let listed : VertexList w h l n = record {
         within = omega (arith, length-padded (vertices w h) route central-length, central-length);
         each = every-all n _ (λ k i. vertex-yes w h l k
             (rw (getD-pad (vertices w h) k route) (route-inside g lawful a b (fit .start) (fit .end) k i)));

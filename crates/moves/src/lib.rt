@@ -6,7 +6,7 @@ ghost use lib.IntN.{natAbs};
 ghost use lib.ListN.{length};
 ghost use Rattle.floor.specs.Floor.{Sized, floorOf};
 ghost use Rattle.sight.specs.Sight.{segmentOf, sees};
-ghost use Rattle.moves.specs.Moves.{moves, moveOf, neighbourhoodOf, rowsOf, rowAt, moveAt};
+ghost use Rattle.moves.specs.Moves.{moves, moveOf, neighbourhoodOf, rowsOf, rowMove, rowAt, moveAt};
 ghost use Rattle.moves.specs.Steps.{up, down, shifted, farEndAt, openAt, stepOf};
 ghost use Rattle.moves.specs.Table.{lawfulRows, Short, OnFloor, Reaches, partsOf, placeOf, spotOf};
 use floor::Vertex;
@@ -137,13 +137,30 @@ pub fn row_at(rows: Rows, m: usize) -> usize
     first + past
 }
 
+// Row k of the table. The rows are named one by one: a place of the table that is known when the program is compiled is a
+// number there, and the table by a place that is not would be put together again at each reading.
+fn row_move(k: usize) -> Move
+    requires { ⌜ k < length moves ⌝ }
+    ensures { λ r. ⌜ r ≡ rowMove k ⌝ }
+{
+    match k {
+        0 => MOVES[0],
+        1 => MOVES[1],
+        2 => MOVES[2],
+        3 => MOVES[3],
+        4 => MOVES[4],
+        5 => MOVES[5],
+        6 => MOVES[6],
+        _ => MOVES[7],
+    }
+}
+
 // Move m of a neighbourhood.
 pub fn move_at(rows: Rows, m: usize) -> Move
     requires { ⌜ (lawfulRows rows ≡ true) × (m < rows .count) ⌝ }
     ensures { λ r. ⌜ r ≡ moveAt rows m ⌝ }
 {
-    let row = row_at(rows, m);
-    MOVES[row]
+    row_move(row_at(rows, m))
 }
 
 // A signed offset as how far it goes up and how far down.

@@ -57,7 +57,8 @@ fn far_end(rows: Rows, shifts: &[usize], mask: u32, v: usize, m: usize) -> OpenE
         × Movable mask v (rowAt rows m) (shiftedBy (now shifts) (rowAt rows m)) ⌝ }
     ensures { λ r. ⌜ r ≡ endOf (readStep rows (now (shifts .entry)) mask v m) ⌝ }
 {
-    offsets::open_end(mask, Vertex(v), moves::row_at(rows, m), shifts)
+    let k = moves::row_at(rows, m);
+    offsets::open_end(mask, Vertex(v), k, shifts[k])
 }
 
 // The cost of move m of the rows, in 64 bits.
@@ -74,7 +75,7 @@ pub fn end_or_self(mask: u32, v: Vertex, k: usize, shifts: &[usize]) -> Vertex
     requires { ⌜ (k < length (now shifts)) × Movable mask (v .0) k (shiftedBy (now shifts) k) ⌝ }
     ensures { λ r. ⌜ r .0 ≡ endAt (now (shifts .entry)) mask (v .0) k ⌝ }
 {
-    let OpenEnd::At(end) = offsets::open_end(mask, v, k, shifts) else {
+    let OpenEnd::At(end) = offsets::open_end(mask, v, k, shifts[k]) else {
         return v;
     };
     end

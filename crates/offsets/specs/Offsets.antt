@@ -5,7 +5,7 @@
 --   maskedEnd n v k o      == v moved by o where bit k of n is set
 --   Movable n v k o        == that can be worked out
 --   shiftBase, Shifts w l  == the offset of each row k, by 512 more, as place k of l: a number that is never negative
---   shiftedBy l k          == that offset again
+--   byShift x, shiftedBy l k == that offset again, of a number x of such a list, and of row k
 --   rowEnd l n v k         == the far end of row k from v by the mask n and the shifts l, if the move is open
 --   endOf o                == that far end as the code answers it
 use Prim.Native.Nat.{ℕ, suc, _+_, _-_, _*_, _^_, _≤_, _<_}
@@ -42,8 +42,11 @@ pub record Shifts (w : ℕ) (l : List ℕ) : Type 0 where
   pub at : (k : ℕ) → k < length moves
       → getD l k 0 + offsetOf w (rowMove k) .down ≡ shiftBase + offsetOf w (rowMove k) .up
 
+abbrev pub byShift : ℕ → Offset
+byShift x = record { up = x; down = shiftBase }
+
 abbrev pub shiftedBy : List ℕ → ℕ → Offset
-shiftedBy l k = record { up = getD l k 0; down = shiftBase }
+shiftedBy l k = byShift (getD l k 0)
 
 abbrev pub rowEnd : List ℕ → ℕ → ℕ → ℕ → Option ℕ
 rowEnd l n v k = maskedEnd n v k (shiftedBy l k)

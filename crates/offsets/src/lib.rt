@@ -3,10 +3,9 @@
 ghost use mathlib.Core.Path.{_≡_};
 ghost use mathlib.Core.Bool.{true};
 ghost use Prim.Native.Nat.{_<_, _≤_};
-ghost use lib.ListN.{length};
 ghost use Rattle.moves.specs.Moves.{moveAt};
 ghost use Rattle.moves.specs.Table.{Listed, lawfulRows};
-ghost use Rattle.offsets.specs.Offsets.{offsetOf, Movable, Shifts, shiftedBy, rowEnd, endOf};
+ghost use Rattle.offsets.specs.Offsets.{offsetOf, maskedEnd, Movable, Shifts, byShift, endOf};
 ghost use Rattle.offsets.specs.Classes.{classRow, classFor, Classes};
 use floor::Vertex;
 use moves::Offset;
@@ -49,13 +48,14 @@ pub fn offset_of(w: usize, rows: Rows, m: usize) -> Offset
     }
 }
 
-// Where row k of the table leads from v, by the mask of v's open moves and the shifts of `shifts_of`.
-pub fn open_end(mask: u32, v: Vertex, k: usize, shifts: &[usize]) -> OpenEnd
-    requires { ⌜ (k < length (now shifts)) × Movable mask (v .0) k (shiftedBy (now shifts) k) ⌝ }
-    ensures { λ r. ⌜ r ≡ endOf (rowEnd (now (shifts .entry)) mask (v .0) k) ⌝ }
+// Where row k of the table leads from v, by the mask of v's open moves and the row's place in the list of `shifts_of`. The
+// shift is read by the caller, before the test: with the reading behind it every call would be compiled to a branch.
+pub fn open_end(mask: u32, v: Vertex, k: usize, shift: usize) -> OpenEnd
+    requires { ⌜ Movable mask (v .0) k (byShift shift) ⌝ }
+    ensures { λ r. ⌜ r ≡ endOf (maskedEnd mask (v .0) k (byShift shift)) ⌝ }
 {
     if (mask >> k) % 2 == 1 {
-        return OpenEnd::At(Vertex(v.0 + shifts[k] - SHIFT_BASE));
+        return OpenEnd::At(Vertex(v.0 + shift - SHIFT_BASE));
     }
     OpenEnd::Shut
 }

@@ -1,5 +1,5 @@
 -- `moves::move_at` meets its contract: it reads the row of the move. Assumes nothing.
-use mathlib.Core.Path.{ap}
+use mathlib.Core.Path.{ap, _∙_}
 use Rattle.moves.specs.Moves.{rowMove}
 use borrow.Author.Needs.{needs}
 use Rattle.moves.proofs.move_at.Statement.{statement}
@@ -8,14 +8,11 @@ use Rattle.moves.proofs.move_at.Tie as tie
 row-at-requires : tie.Need-row-at-requires
 row-at-requires c κs = search needs
 
-mul-result : tie.Need-mul-result
-mul-result c = search needs
-
-array-copy-out-result : tie.Need-array-copy-out-result
-array-copy-out-result c = search needs
+row-move-requires : tie.Need-row-move-requires
+row-move-requires c κs = c .row-at .ensures .1
 
 returns : tie.Need-returns
-returns c = ap rowMove (c .before .row-at .ensures .0)
+returns c = c .row-move .ensures ∙ ap rowMove (c .before .row-at .ensures .0)
 
 pub move-at-spec : {M : Type 1} → statement M
-move-at-spec = tie.close (tie.spec row-at-requires mul-result array-copy-out-result returns)
+move-at-spec = tie.close (tie.spec row-at-requires row-move-requires returns)

@@ -10,16 +10,22 @@ use Rattle.neighbours.proofs.far_end.Tie as tie
 row-at-requires : tie.Need-row-at-requires
 row-at-requires c κs = search needs
 
+mul-open-end : tie.Need-mul-open-end
+mul-open-end c = search needs
+
+shared-slice-read-open-end : tie.Need-shared-slice-read-open-end
+shared-slice-read-open-end c = search needs
+
 open-end-requires : tie.Need-open-end-requires
-open-end-requires c κs =
-    let s = c .before .before in
-    (omega (arith, c .row-at .ensures .1, s .pre .2), rw (c .row-at .ensures .0) (s .pre .3))
+open-end-requires c κs = let r = c .before in rw (r .row-at .ensures .0) (r .before .before .pre .3)
 
 returns : tie.Need-returns
 returns c =
-    let a = c .before .before .before .args in
-    c .open-end .ensures
-    ∙ ap (λ (k : ℕ). endOf (rowEnd (a .shifts .now) (a .mask) (a .v) k)) (c .before .row-at .ensures .0)
+    let r = c .before .before in
+    let a = r .before .before .args in
+    c .open-end .ensures ∙ ap (λ (k : ℕ). endOf (rowEnd (a .shifts .now) (a .mask) (a .v) k)) (r .row-at .ensures .0)
 
 pub far-end-spec : {M : Type 1} → statement M
-far-end-spec = tie.close (tie.spec row-at-requires open-end-requires returns)
+far-end-spec =
+    tie.close
+    (tie.spec row-at-requires mul-open-end shared-slice-read-open-end open-end-requires returns)

@@ -23,29 +23,21 @@ cast-if1 c = search needs
 shr-if1 : tie.Need-shr-if1
 shr-if1 c = search needs
 
-mul-t9 : tie.Need-mul-t9
-mul-t9 c = search needs
+add-t9 : tie.Need-add-t9
+add-t9 c = search needs
 
-shared-slice-read-t11 : tie.Need-shared-slice-read-t11
-shared-slice-read-t11 c = search needs
-
-add-t12 : tie.Need-add-t12
-add-t12 c = search needs
-
-sub-t13 : tie.Need-sub-t13
-sub-t13 c =
-    let t = c .before .before in
-    omega (arith, t .before .pre .1 .enough (set t))
+sub-t10 : tie.Need-sub-t10
+sub-t10 c =
+    let t = c .before in
+    omega (arith, t .before .pre .enough (set t))
 
 returns : tie.Need-returns
 unfolding endOf
-returns c = rw (set (c .before .before)) (ap (λ n. At (record { 0 = n })) (omega arith))
+returns c = rw (set (c .before)) (ap (λ n. At (record { 0 = n })) (omega arith))
 
 returns-2 : tie.Need-returns-2
 unfolding endOf
 returns-2 c = rw (unset c)
 
 pub open-end-spec : {M : Type 1} → statement M
-open-end-spec =
-    tie.close
-    (tie.spec cast-if1 shr-if1 mul-t9 shared-slice-read-t11 add-t12 sub-t13 returns returns-2)
+open-end-spec = tie.close (tie.spec cast-if1 shr-if1 add-t9 sub-t10 returns returns-2)
