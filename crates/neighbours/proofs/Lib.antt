@@ -6,3 +6,4 @@ pub mod Choice
 pub mod Agree
 pub mod Shown
 pub mod Classed
+pub mod Columns

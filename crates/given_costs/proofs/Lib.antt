@@ -1,0 +1,2 @@
+pub mod RowMasks
+pub mod Tested
