@@ -10,7 +10,9 @@ use Rattle.sight.specs.declared.Obstacle.{Obstacle}
 use Rattle.sight.specs.declared.Obstacle.the-variants.{Clear, Cell, Step}
 use Rattle.sight.specs.declared.Sight.{Sight}
 use Rattle.sight.specs.declared.Sight.the-variants.{Answered, Unasked}
-use Rattle.planner.specs.Plan.{Slices, Plans, planNumber, planCost, planTotal, planPoints}
+use Rattle.planner.specs.Plan.{CostSlices, FillsCosts, costedNumber}
+use Rattle.planner.specs.Plan.{Slices, Finishes, planNumber, planCost, planTotal, planPoints}
+use Rattle.planner.specs.declared.Costed.{Costed}
 use Rattle.planner.specs.declared.Planned.{Planned}
 use Rattle.thinning.specs.Answer.{Thins, thinNumber, thinKept}
 use Rattle.thinning.specs.declared.Thinned.{Thinned}
@@ -21,7 +23,7 @@ use Rattle.closures.specs.declared.Striking.{Striking}
 use Rattle.closures.specs.declared.Writing.{Writing}
 use Rattle.stored_closures.specs.Stored.{PostsIn, StrikesIn, WritesFrom}
 use Rattle.capi.specs.Results.{obstacleNumber, obstaclePlace, obstacleResult, planResult, thinResult, postResult}
-use Rattle.capi.specs.Results.{PlansTo, ThinsTo, PostsTo, StrikesTo, WritesTo}
+use Rattle.capi.specs.Results.{FillsTo, FinishesTo, ThinsTo, PostsTo, StrikesTo, WritesTo}
 
 pub obstacle-refused : {s : Sight} {x : Refusal} {r : ℕ} → s ≡ Unasked x → r ≡ refusalNumber x
     → record { place = 0; answer = r } ≡ obstacleResult s
@@ -38,11 +40,16 @@ clear-alike (Answered (Cell c)) = refl
 clear-alike (Answered (Step v)) = refl
 clear-alike (Unasked r) = refl
 
-pub plans-to : {w h : ℕ} {map : List ℕ} {nb a b : ℕ} {s s' : Slices} {p : Planned} {t n c r : ℕ}
-    → Plans w h map nb a b s p s'
+pub fills-to : {w h : ℕ} {map : List ℕ} {nb a : ℕ} {s s' : CostSlices} {c : Costed} {r : ℕ}
+    → FillsCosts w h map nb a s c s' → r ≡ costedNumber c → FillsTo w h map nb a s r s'
+fills-to F e = record { answer = e ∙ ap costedNumber (F .answer); left = F .left }
+
+pub finishes-to : {w h : ℕ} {map : List ℕ} {nb a b : ℕ} {d : List ℕ} {s s' : Slices} {p : Planned} {t n c r : ℕ}
+    → Finishes w h map nb a b d s p s'
     → t ≡ planTotal p → n ≡ planPoints p → c ≡ planCost p → r ≡ planNumber p
-    → PlansTo w h map nb a b s (record { total = t; points = n; cost = c; answer = r }) s'
-plans-to {p = p} P et en ec er = record { answer = rw (et, en, ec, er) (ap planResult (P .answer)); left = P .left }
+    → FinishesTo w h map nb a b d s (record { total = t; points = n; cost = c; answer = r }) s'
+finishes-to {p = p} F et en ec er =
+    record { answer = rw (et, en, ec, er) (ap planResult (F .answer)); left = F .left }
 
 pub thins-to : {w h : ℕ} {map list out out' : List ℕ} {n k r : ℕ} {t : Thinned} → Thins w h map list out n t out'
     → k ≡ thinKept t → r ≡ thinNumber t → ThinsTo w h map list out n (record { kept = k; answer = r }) out'

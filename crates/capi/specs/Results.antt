@@ -3,10 +3,11 @@
 --   obstacleNumber o == what is in the way: 0 nothing, 101 a blocked cell that is entered, 102 a shut step
 --   obstaclePlace o  == the cell's number, or that of the vertex where the step begins; 0 where nothing is in the way
 --   obstacleResult s == an answer to the sight question, with what is in the way; at a refusal its number and place 0
---   planResult p     == an answer of the planner
+--   planResult p     == an answer of the planner's second operation
 --   thinResult t     == an answer of the thinning
 --   postResult p     == an answer of post
---   PlansTo ..       == the planner's statement: the answer r, and every lent slice afterwards
+--   FillsTo ..       == the statement of the planner's first operation: the answer r, and both lent slices afterwards
+--   FinishesTo ..    == that of its second: the answer r, and every slice lent to be written afterwards
 --   ThinsTo ..       == the thinning's statement: the answer r, and the output slice afterwards
 --   PostsTo, StrikesTo == the statements of post and strike: the answer, and the 64 numbers afterwards
 --   WritesTo ..      == the statement of writing the working map: the answer, and the slice afterwards
@@ -19,7 +20,8 @@ use Rattle.sight.specs.declared.Obstacle.{Obstacle}
 use Rattle.sight.specs.declared.Obstacle.the-variants.{Clear, Cell, Step}
 use Rattle.sight.specs.declared.Sight.{Sight}
 use Rattle.sight.specs.declared.Sight.the-variants.{Answered, Unasked}
-use Rattle.planner.specs.Plan.{Slices, planAnswer, planLeft, planNumber, planCost, planTotal, planPoints}
+use Rattle.planner.specs.Plan.{CostSlices, costsAnswer, costsLeft, costedNumber}
+use Rattle.planner.specs.Plan.{Slices, finishAnswer, finishLeft, planNumber, planCost, planTotal, planPoints}
 use Rattle.planner.specs.declared.Planned.{Planned}
 use Rattle.thinning.specs.Answer.{thinAnswer, thinOutput, thinNumber, thinKept}
 use Rattle.thinning.specs.declared.Thinned.{Thinned}
@@ -56,9 +58,14 @@ thinResult t = record { kept = thinKept t; answer = thinNumber t }
 abbrev pub postResult : Posting → PostResult
 postResult p = record { slot = postSlot p; answer = postNumber p }
 
-pub record PlansTo (w h : ℕ) (map : List ℕ) (nb a b : ℕ) (s : Slices) (r : PlanResult) (s' : Slices) : Type 0 where
-  pub answer : r ≡ planResult (planAnswer w h map nb a b s)
-  pub left : s' ≡ planLeft w h map nb a b s
+pub record FillsTo (w h : ℕ) (map : List ℕ) (nb a : ℕ) (s : CostSlices) (r : ℕ) (s' : CostSlices) : Type 0 where
+  pub answer : r ≡ costedNumber (costsAnswer w h map nb a s)
+  pub left : s' ≡ costsLeft w h map nb a s
+
+pub record FinishesTo (w h : ℕ) (map : List ℕ) (nb a b : ℕ) (d : List ℕ) (s : Slices) (r : PlanResult) (s' : Slices)
+    : Type 0 where
+  pub answer : r ≡ planResult (finishAnswer w h map nb a b d s)
+  pub left : s' ≡ finishLeft w h map nb a b d s
 
 pub record ThinsTo (w h : ℕ) (map list out : List ℕ) (n : ℕ) (r : ThinResult) (out' : List ℕ) : Type 0 where
   pub answer : r ≡ thinResult (thinAnswer w h map list out n)

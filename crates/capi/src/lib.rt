@@ -4,11 +4,11 @@
 ghost use mathlib.Core.Path.{_≡_};
 ghost use Rattle.sight.specs.Question.{sightAnswer, sightNumber};
 ghost use Rattle.paths.specs.Sheet.{sheetOf};
-ghost use Rattle.planner.specs.Plan.{slicesOf};
+ghost use Rattle.planner.specs.Plan.{costSlicesOf, slicesOf};
 ghost use Rattle.checker.specs.Answer.{checkAnswer, checkNumber};
 ghost use Rattle.stored_closures.specs.Stored.{rectangleOf};
 ghost use Rattle.capi.specs.Results.{obstacleNumber, obstaclePlace, obstacleResult};
-ghost use Rattle.capi.specs.Results.{PlansTo, ThinsTo, PostsTo, StrikesTo, WritesTo};
+ghost use Rattle.capi.specs.Results.{FillsTo, FinishesTo, ThinsTo, PostsTo, StrikesTo, WritesTo};
 use sight::Obstacle;
 use sight::Sight;
 
@@ -19,7 +19,7 @@ pub struct ObstacleResult {
     pub answer: u8,
 }
 
-// The planner's answer with its values, all 0 at a refusal.
+// The answer of the planner's second operation with its values, all 0 at a refusal.
 #[repr(C)]
 pub struct PlanResult {
     pub total: u64,
@@ -100,30 +100,54 @@ pub extern "C" fn lurfanzi_obstacle(
     }
 }
 
-// The planner.
+// The planner's first operation: the costs from a start.
 #[no_mangle]
-pub extern "C" fn lurfanzi_plan(
+pub extern "C" fn lurfanzi_costs(
+    width: u32,
+    height: u32,
+    map: &[u8],
+    neighbourhood: u32,
+    a: u32,
+    d: &mut [u32],
+    work: &mut [u32],
+) -> u8
+    ensures { λ r. ⌜ FillsTo width height (now (map .entry)) neighbourhood a
+        (costSlicesOf (now (d .entry)) (now (work .entry))) r (costSlicesOf (now (d .exit)) (now (work .exit))) ⌝ }
+{
+    let c = planner::fill_costs(
+        width as usize,
+        height as usize,
+        map,
+        neighbourhood as usize,
+        a as usize,
+        d,
+        work,
+    );
+    planner::costed_number(c)
+}
+
+// The planner's second operation: the rest of a job from given costs.
+#[no_mangle]
+pub extern "C" fn lurfanzi_finish(
     width: u32,
     height: u32,
     map: &[u8],
     neighbourhood: u32,
     a: u32,
     b: u32,
-    d: &mut [u32],
+    d: &[u32],
     e: &mut [u32],
     f: &mut [u64],
     back: &mut [u64],
     route: &mut [u16],
     work: &mut [u32],
 ) -> PlanResult
-    ensures { λ r. ⌜ PlansTo width height (now (map .entry)) neighbourhood a b
-        (slicesOf (now (d .entry)) (now (e .entry)) (now (f .entry)) (now (back .entry)) (now (route .entry))
-        (now (work .entry)))
+    ensures { λ r. ⌜ FinishesTo width height (now (map .entry)) neighbourhood a b (now (d .entry))
+        (slicesOf (now (e .entry)) (now (f .entry)) (now (back .entry)) (now (route .entry)) (now (work .entry)))
         r
-        (slicesOf (now (d .exit)) (now (e .exit)) (now (f .exit)) (now (back .exit)) (now (route .exit))
-        (now (work .exit))) ⌝ }
+        (slicesOf (now (e .exit)) (now (f .exit)) (now (back .exit)) (now (route .exit)) (now (work .exit))) ⌝ }
 {
-    let p = planner::plan(
+    let p = planner::finish(
         width as usize,
         height as usize,
         map,

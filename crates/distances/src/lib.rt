@@ -28,8 +28,7 @@ pub fn costs_over_masks(
     merge::settle(&shifts, classes, a.0, d, work)
 }
 
-// Fills d with the costs from a, and `work` with 0. One of the planner's two inner operations, whole by itself: it
-// relies on nothing that stands in the two slices. A whole plan, which needs the masks again, calls its parts instead.
+// Fills d with the costs from a, and `work` with 0. It relies on nothing that stands in the two slices.
 pub fn fill_costs(
     w: usize,
     h: usize,

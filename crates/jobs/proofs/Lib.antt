@@ -1,6 +1,7 @@
 pub mod Start
 pub mod Central
 pub mod Thinned
+pub mod Planning
 pub mod Telling
 pub mod Program
 pub mod Turns

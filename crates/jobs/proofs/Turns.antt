@@ -4,7 +4,6 @@ use Prim.Native.Nat.{ℕ, _+_, _≤_}
 use mathlib.Core.Path.{_≡_, sym, ap, _∙_}
 use mathlib.Core.List.{List, _++_}
 use native.Mathlib.Omega.{arith}
-use Rattle.planner.specs.Plan.{Slices}
 use Rattle.records.specs.Format.{recordAt}
 use Rattle.records.specs.Lines.{badLine, Written}
 use Rattle.records.specs.declared.stream.Cursor.{Cursor}
@@ -18,8 +17,8 @@ use Rattle.jobs.proofs.Start.{written-take, written-within}
 use Rattle.jobs.proofs.Program.{text-job, text-end, text-bad}
 
 module _ {s : List ℕ} {w h : ℕ} {map : List ℕ} {c : Cursor} where
-  pub turn-job : {j : JobRecord} {d : Cursor} {t t' : Slices} {kept kept' out out' : List ℕ} {n : ℕ}
-      → recordAt s c ≡ Job j d → Told w h map j t kept out n t' kept' out' → TurnTold s w h map c (More n d) out'
+  pub turn-job : {j : JobRecord} {d : Cursor} {kept kept' out out' : List ℕ} {n : ℕ}
+      → recordAt s c ≡ Job j d → Told w h map j kept out n kept' out' → TurnTold s w h map c (More n d) out'
   turn-job {j} {d} e told =
       let f = job-step s c j d e in
       record {

@@ -5,11 +5,12 @@
 --   roomOf v             == the bytes that the lines of a job on v vertices may take: 160 for the route line, 6 for
 --                           each vertex of the next and 3 for its word and its end
 --   Ready ..             == a small floor, the slices lent for it, and room for the lines
+--   JobPlanned ..        == the answer to a job, and after a route the route slice; what the planner leaves in the
+--                           other slices is nobody's
 --   answerKept f points kept r == what the slice of kept positions holds after the answer r, where it held `kept`
 --   keptLeft ..          == what the slice of kept positions holds after a job: the kept positions of its central
 --                           route, then 0; as it was where the job is refused
---   Told ..              == the lines of the job stand in the buffer, and every lent slice is as the planner and the
---                           thinning leave it
+--   Told ..              == the lines of the job stand in the buffer, and the kept positions in their slice
 --   Routable ..          == a small floor and a list of its vertices, each of which sees the next
 --   RouteTold ..         == the two lines of the route stand in the buffer from its start on
 --   CellsIn s m map      == the cells of the map m lie in the input s, and the slice has a place for each
@@ -30,8 +31,9 @@ use Rattle.floor.specs.Floor.{Floor, floorOf, vertices}
 use Rattle.floor.specs.Refusals.{floorShape}
 use Rattle.floor.specs.declared.Shape.the-variants.{Good}
 use Rattle.grid.specs.Grid.{jobOf}
+use Rattle.grid.specs.declared.Job.{Job}
 use Rattle.planner.specs.Parts.{FullSlices}
-use Rattle.planner.specs.Plan.{Slices, planLeft}
+use Rattle.planner.specs.Plan.{Slices}
 use Rattle.planner.specs.declared.Planned.{Planned}
 use Rattle.planner.specs.declared.Planned.the-variants.{Found, Refused}
 use Rattle.thinning.specs.Thinning.{keptPositions, joinedList}
@@ -49,17 +51,25 @@ pub record SmallFloor (w h : ℕ) (map : List ℕ) : Type 0 where
   pub wide : w ≤ 31
   pub high : h ≤ 31
 
-pub record JobSlices (v : ℕ) (s : Slices) (kept : List ℕ) : Type 0 where
-  pub full : FullSlices v (s .d) (s .e) (s .f) (s .b) (s .route) (s .work)
+pub record JobSlices (v : ℕ) (d : List ℕ) (s : Slices) (kept : List ℕ) : Type 0 where
+  pub full : FullSlices v d (s .e) (s .f) (s .b) (s .route) (s .work)
   pub kept-len : length kept ≡ v
 
 abbrev pub roomOf : ℕ → ℕ
 roomOf v = 160 + (3 + 6 * v)
 
-pub record Ready (w h : ℕ) (map : List ℕ) (s : Slices) (kept out : List ℕ) : Type 0 where
+pub record Ready (w h : ℕ) (map d : List ℕ) (s : Slices) (kept out : List ℕ) : Type 0 where
   pub floor : SmallFloor w h map
-  pub lent : JobSlices (vertices w h) s kept
+  pub lent : JobSlices (vertices w h) d s kept
   pub room : roomOf (vertices w h) ≤ length out
+
+abbrev pub shapeOf : ℕ → ℕ → List ℕ → JobRecord → Job
+shapeOf w h map j = jobOf w h map (j .neighbourhood) (j .start) (j .end)
+
+pub record JobPlanned (w h : ℕ) (map : List ℕ) (j : JobRecord) (r : Planned) (route : List ℕ) : Type 0 where
+  pub answer : r ≡ answerOf (floorOf w h map) (j .start) (j .end) (shapeOf w h map j)
+  pub points : (c t n : ℕ) → r ≡ Found c t n
+      → route ≡ padded (vertices w h) (pointsOf (floorOf w h map) (j .start) (j .end) (shapeOf w h map j))
 
 abbrev pub answerKept : Floor → List ℕ → List ℕ → Planned → List ℕ
 answerKept f points kept (Found cost total count) = padded (length kept) (keptPositions f points count)
@@ -68,16 +78,15 @@ answerKept f points kept (Refused r) = kept
 unfoldable pub keptLeft : ℕ → ℕ → List ℕ → JobRecord → List ℕ → List ℕ
 keptLeft w h map j kept =
     let f = floorOf w h map in
-    let shape = jobOf w h map (j .neighbourhood) (j .start) (j .end) in
+    let shape = shapeOf w h map j in
     answerKept f (pointsOf f (j .start) (j .end) shape) kept (answerOf f (j .start) (j .end) shape)
 
--- Before the job the slices hold s, kept and out, after it s', kept' and out'; n is the length of the text.
-pub record Told (w h : ℕ) (map : List ℕ) (j : JobRecord) (s : Slices) (kept out : List ℕ) (n : ℕ)
-    (s' : Slices) (kept' out' : List ℕ) : Type 0 where
+-- Before the job the slices hold kept and out, after it kept' and out'; n is the length of the text.
+pub record Told (w h : ℕ) (map : List ℕ) (j : JobRecord) (kept out : List ℕ) (n : ℕ) (kept' out' : List ℕ)
+    : Type 0 where
   pub size : n ≡ length (jobText w h map j)
   pub text : take n out' ≡ jobText w h map j
   pub written : Written out 0 (jobText w h map j) out' n
-  pub sheet : s' ≡ planLeft w h map (j .neighbourhood) (j .start) (j .end) s
   pub positions : kept' ≡ keptLeft w h map j kept
 
 -- ---- the lines of a route

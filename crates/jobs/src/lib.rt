@@ -1,16 +1,20 @@
 // One job of the program, planned, thinned and written as lines, and one turn of the program.
 ghost use mathlib.Core.Path.{_≡_};
 ghost use Prim.Native.Nat.{_≤_};
-ghost use Rattle.floor.specs.Floor.{storedCells, floorOf};
+ghost use Rattle.floor.specs.Floor.{storedCells, floorOf, vertices};
 ghost use Rattle.planner.specs.Plan.{slicesOf};
+ghost use Rattle.planner.specs.Parts.{FullSlices};
 ghost use Rattle.records.specs.Format.{cellsOf};
-ghost use Rattle.jobs.specs.Contract.{Ready, Told, Routable, RouteTold, CellsIn, bytesOf, TurnTold};
+ghost use Rattle.jobs.specs.Contract.{Ready, JobPlanned, Told, Routable, RouteTold, CellsIn, bytesOf, TurnTold};
 use planner::Planned;
 use records::lines;
 use records::stream::Cursor;
 use records::stream::JobRecord;
 use records::stream::MapRecord;
 use records::stream::Record;
+
+// The planner's number for costs that are not those from the start.
+const FALSE_COSTS: u8 = 9;
 
 // What a turn wrote: so many bytes, and where the program goes on, or that they are the last.
 pub enum Turn {
@@ -50,10 +54,38 @@ fn route_text(
     lines::put_at(out, next, points, kept, k)
 }
 
+// Plans a job from the costs that stand in d, those from the start of the job before it. Where they are not the costs
+// from this job's start, fills d and plans again, so that the costs from one dock are worked out once for all its jobs.
+fn plan_job(
+    w: usize,
+    h: usize,
+    map: &[u8],
+    job: JobRecord,
+    d: &mut [u32],
+    e: &mut [u32],
+    f: &mut [u64],
+    back: &mut [u64],
+    route: &mut [u16],
+    work: &mut [u32],
+) -> Planned
+    requires { ⌜ FullSlices (vertices w h) (now d) (now e) (now f) (now back) (now route) (now work) ⌝ }
+    ensures { λ r. ⌜ JobPlanned w h (now (map .entry)) job r (now (route .exit)) ⌝ }
+{
+    let nb = job.neighbourhood;
+    let a = job.start;
+    let b = job.end;
+    let first = planner::finish(w, h, map, nb, a, b, d, e, f, back, route, work);
+    if planner::plan_number(first) != FALSE_COSTS {
+        return first;
+    }
+    planner::fill_costs(w, h, map, nb, a, d, work);
+    planner::finish(w, h, map, nb, a, b, d, e, f, back, route, work)
+}
+
 // The lines of a job, written at the start of `out`; answers how many bytes they are.
 //
 // Lent are the sheet's slices, the working slice and a slice for the kept positions, as the planner and the thinning
-// take them, and room for the lines.
+// take them, and room for the lines. What stands in d may be kept for the next job.
 pub fn job_text(
     w: usize,
     h: usize,
@@ -68,31 +100,13 @@ pub fn job_text(
     kept: &mut [u16],
     out: &mut [u8],
 ) -> usize
-    requires { ⌜ Ready w h (now map)
-        (slicesOf (now d) (now e) (now f) (now back) (now route) (now work)) (now kept) (now out) ⌝ }
-    ensures { λ r. ⌜ Told w h (now (map .entry)) job
-        (slicesOf (now (d .entry)) (now (e .entry)) (now (f .entry)) (now (back .entry)) (now (route .entry))
-        (now (work .entry)))
-        (now (kept .entry)) (now (out .entry)) r
-        (slicesOf (now (d .exit)) (now (e .exit)) (now (f .exit)) (now (back .exit)) (now (route .exit))
-        (now (work .exit)))
+    requires { ⌜ Ready w h (now map) (now d)
+        (slicesOf (now e) (now f) (now back) (now route) (now work)) (now kept) (now out) ⌝ }
+    ensures { λ r. ⌜ Told w h (now (map .entry)) job (now (kept .entry)) (now (out .entry)) r
         (now (kept .exit)) (now (out .exit)) ⌝ }
 {
     let number = job.number;
-    let answer = planner::plan(
-        w,
-        h,
-        map,
-        job.neighbourhood,
-        job.start,
-        job.end,
-        d,
-        e,
-        f,
-        back,
-        route,
-        work,
-    );
+    let answer = plan_job(w, h, map, job, d, e, f, back, route, work);
     match answer {
         Planned::Refused(r) => lines::put_refused(out, 0, number, floor::refusal_number(r)),
         Planned::Found {
@@ -130,8 +144,8 @@ pub fn take_turn(
     kept: &mut [u16],
     out: &mut [u8],
 ) -> Turn
-    requires { ⌜ (1 ≤ c .due) × Ready w h (now map)
-        (slicesOf (now d) (now e) (now f) (now back) (now route) (now work)) (now kept) (now out) ⌝ }
+    requires { ⌜ (1 ≤ c .due) × Ready w h (now map) (now d)
+        (slicesOf (now e) (now f) (now back) (now route) (now work)) (now kept) (now out) ⌝ }
     ensures { λ r. ⌜ TurnTold (now (s .entry)) w h (now (map .entry)) c r (now (out .exit)) ⌝ }
 {
     match c.step(s) {

@@ -114,10 +114,10 @@ module _ {w h : ℕ} {map : List ℕ} {rows : Rows} {a b : ℕ} {d e f back rout
 
       module _ {r : Bool} {work″ f′ back′ : List ℕ} (filled : Filled g rows shifts a b r work″ f′ back′) where
         pub found-many : r ≡ false
-            → Finished g a b (Refused TooMany) (slicesOf d e′ f′ back′ route (zeros (4 * vertices w h)))
+            → Finished g a b (Refused TooMany) (slicesOf e′ f′ back′ route (zeros (4 * vertices w h)))
         found-many over =
             let K = subst (λ z. Filled g rows shifts a b z work″ f′ back′) over filled in
-            finished-many (F .finishable .costs) refl (F .reached) e-true (sym (K .answer)) (K .f-left) (K .back-left)
+            finished-many refl (F .reached) e-true (sym (K .answer)) (K .f-left) (K .back-left)
             (F .route-blank)
 
         module _ (fit : r ≡ true) where
@@ -155,9 +155,9 @@ module _ {w h : ℕ} {map : List ℕ} {rows : Rows} {a b : ℕ} {d e f back rout
 
           pub found-route : {route′ : List ℕ} (k : ℕ) → Routed g a b route′ k
               → Finished g a b (Found (entry d b) (entry f′ b) k)
-              (slicesOf d e′ f′ back′ route′ (zeros (4 * vertices w h)))
+              (slicesOf e′ f′ back′ route′ (zeros (4 * vertices w h)))
           found-route k R =
-              finished-route (F .finishable .costs) refl (F .reached) e-true (entry d b) (entry f′ b) k
+              finished-route refl (F .reached) e-true (entry d b) (entry f′ b) k
               (sym (K .answer)) cost-at total-at (R .points) (K .f-left) (K .back-left) (R .list)
 
 -- ---- from a job of good shape and the costs from a
@@ -173,9 +173,9 @@ module _ {w h : ℕ} {map : List ℕ} {rows : Rows} {a b : ℕ} {d e f back rout
   goal-cost = ap (λ l. entry l b) (P .costs) ∙ getD-tabulate (vertices w h) b (distance graph a) (P .job .goal-in)
 
   pub finish-none : {e′ work′ : List ℕ} → entry d b ≡ unreachable → e′ ≡ zeros (length e) → work′ ≡ zeros (length work)
-      → Finished graph a b (Refused NoRoute) (slicesOf d e′ f′ back′ route′ work′)
+      → Finished graph a b (Refused NoRoute) (slicesOf e′ f′ back′ route′ work′)
   finish-none far e-blank work-blank =
-      finished-none (P .costs) (work-blank ∙ ap zeros (P .lent .work-len)) (sym goal-cost ∙ far)
+      finished-none (work-blank ∙ ap zeros (P .lent .work-len)) (sym goal-cost ∙ far)
       (e-blank ∙ ap zeros (P .lent .sheet .e)) (f-blank ∙ ap zeros (P .lent .sheet .f))
       (back-blank ∙ ap zeros (P .lent .sheet .b)) (route-blank ∙ ap zeros (P .lent .sheet .route))
 
@@ -210,7 +210,7 @@ module _ {w h : ℕ} {map : List ℕ} {rows : Rows} {a b : ℕ} {d e f back rout
       near-ne q = near (goal-cost ∙ q)
 
 -- What stood in the working slice does not matter: it is cleared.
-pub finish-cleared : {g : Graph} {a b n k : ℕ} {r : Planned} {d e f back route work : List ℕ}
-    → Finished g a b r (slicesOf d e f back route (zeros k)) → n ≡ k → work ≡ zeros n
-    → Finished g a b r (slicesOf d e f back route work)
+pub finish-cleared : {g : Graph} {a b n k : ℕ} {r : Planned} {e f back route work : List ℕ}
+    → Finished g a b r (slicesOf e f back route (zeros k)) → n ≡ k → work ≡ zeros n
+    → Finished g a b r (slicesOf e f back route work)
 finish-cleared F same blank = rw (blank, same) F

@@ -2,3 +2,4 @@ pub mod Walking
 pub mod Finishing
 pub mod Finding
 pub mod Shaped
+pub mod Together

@@ -1,34 +1,41 @@
--- The shape of a job as the planner tests it, and what each test says of the planner's answer.
+-- The shape of a job as the planner's operations test it, and what each test says of the answer.
 --
---   lent-of                   == slices whose lengths pass the test have the lengths that they need
---   lengths-bad               == slices whose lengths do not pass the test lack the lengths that they need
---   costing-of, finishable-of == what the costs from a take, and what the rest takes then
---   plans-unfit, plans-fit    == the planner's answer by the shape of the job
---   job-unsized, job-sized    == and by the lengths of the slices
+--   lent-of                       == slices whose lengths pass the test have the lengths that they need
+--   full-sized                    == and are not refused with 6
+--   lengths-bad                   == slices whose lengths do not pass the test lack the lengths that they need
+--   fills-unfit, fills-fit        == the first operation's answer by the shape of the job
+--   costs-long, -cramped, -filled == and by the lengths of its slices
+--   start-alone                   == the start of a good job is one by itself
+--   finishes-unfit, finishes-fit  == the second operation's answer by the shape of the job
+--   job-unsized, -false, -true    == and by the lengths of its slices and the test of d
+--   job-finishable                == what a job takes to be finished, once d has passed
+--   finishable-on                 == a working slice of the same length serves as well
 use Prim.Native.Nat.{ℕ, _*_}
-use mathlib.Core.Path.{_≡_, sym, ap, _∙_}
+use mathlib.Core.Path.{_≡_, sym, _∙_}
 use mathlib.Core.Bool.{Bool, true, false, not}
 use mathlib.Core.List.{List}
-use borrow.Author.Tests.{eqb-true, eq-eqb, not-true}
+use borrow.Author.Tests.{eqb-true, eq-eqb, ne-eqb, not-true, not-false}
 use lib.Dec.{eqb}
 use lib.ListN.{length}
-use Rattle.basics.specs.Lists.{tabulate}
-use Rattle.basics.proofs.Lists.{length-tabulate}
 use Rattle.basics.proofs.Bools.{all-six}
 use Rattle.floor.specs.Floor.{floorOf, vertices}
 use Rattle.floor.specs.declared.Refusal.{Refusal}
-use Rattle.floor.specs.declared.Refusal.the-variants.{SliceLength}
+use Rattle.floor.specs.declared.Refusal.the-variants.{SliceLength, FalseSheet}
 use Rattle.moves.specs.declared.Rows.{Rows}
-use Rattle.paths.specs.Distance.{distance}
 use Rattle.grid.specs.Grid.{floorGraph, jobOf}
 use Rattle.grid.specs.declared.Job.{Job}
 use Rattle.grid.specs.declared.Job.the-variants.{Fit, Unfit}
 use Rattle.grid.specs.Known.{GoodJob}
-use Rattle.distances.specs.Costs.{Costing}
+use Rattle.distances.specs.Costs.{FilledCosts}
+use Rattle.given_costs.specs.Given.{costsTrue}
+use Rattle.given_costs.proofs.Tested.{true-list}
+use Rattle.planner.specs.declared.Costed.{Costed}
+use Rattle.planner.specs.declared.Costed.the-variants.{Filled, Refused as NotFilled}
 use Rattle.planner.specs.declared.Planned.{Planned}
 use Rattle.planner.specs.declared.Planned.the-variants.{Refused}
-use Rattle.planner.specs.Plan.{Slices, slicesOf, slicesSized, planAnswer, planLeft, Plans}
-use Rattle.planner.specs.Parts.{lengthsGood, FullSlices, Finishable, Finished, PlansJob}
+use Rattle.planner.specs.Plan.{CostSlices, costSlicesOf, costsSized, costsAnswer, costsLeft, FillsCosts}
+use Rattle.planner.specs.Plan.{Slices, slicesOf, slicesSized, finishAnswer, finishLeft, Finishes}
+use Rattle.planner.specs.Parts.{lengthsGood, FullSlices, Finishable, Finished, FillsJob, FinishesJob}
 
 lent-at : (v : ℕ) (d e f back route work : List ℕ)
     → true ≡ lengthsGood v (length d) (length e) (length f) (length back) (length route) (length work)
@@ -54,7 +61,7 @@ pub lent-of : {v k : ℕ} {r : Bool} (d e f back route work : List ℕ) → v �
 lent-of {k = k} d e f back route work n q t = lent-at k d e f back route work (sym t ∙ (rw n at q))
 
 pub full-sized : {v : ℕ} {d e f back route work : List ℕ} → FullSlices v d e f back route work
-    → slicesSized v (slicesOf d e f back route work) ≡ true
+    → slicesSized v d (slicesOf e f back route work) ≡ true
 unfolding slicesSized
 full-sized L =
     let s = L .sheet in rw (eq (s .d), eq (s .e), eq (s .f), eq (s .b), eq (s .route), eq (L .work-len))
@@ -64,55 +71,103 @@ full-sized L =
 
 pub lengths-bad : (v k : ℕ) (d e f back route work : List ℕ) (r : Bool) → v ≡ k
     → r ≡ lengthsGood v (length d) (length e) (length f) (length back) (length route) (length work) → not r ≡ true
-    → slicesSized k (slicesOf d e f back route work) ≡ false
+    → slicesSized k d (slicesOf e f back route work) ≡ false
 unfolding slicesSized lengthsGood
 lengths-bad v k d e f back route work r n q t = sym (rw n at q) ∙ not-true r t
 
 module _ {w h : ℕ} {map : List ℕ} where
-  module _ {nb a b : ℕ} {s : Slices} where
-    pub plans-unfit : {z : Refusal} {s′ : Slices} → jobOf w h map nb a b ≡ Unfit z → s′ ≡ s
-        → Plans w h map nb a b s (Refused z) s′
-    unfolding planAnswer planLeft
-    plans-unfit t q = record { answer = rw t; left = rw t q }
+  -- ---- the first operation
 
-    pub plans-fit : {rows : Rows} {j : Job} {r : Planned} {s′ : Slices} → j ≡ jobOf w h map nb a b → j ≡ Fit rows
-        → PlansJob w h map rows a b s r s′ → Plans w h map nb a b s r s′
-    unfolding planAnswer planLeft
-    plans-fit q t P = let e = sym q ∙ t in record { answer = rw e (P .answer); left = rw e (P .left) }
+  module _ {nb a : ℕ} {s : CostSlices} where
+    pub fills-unfit : {z : Refusal} {s′ : CostSlices} → jobOf w h map nb a a ≡ Unfit z → s′ ≡ s
+        → FillsCosts w h map nb a s (NotFilled z) s′
+    unfolding costsAnswer costsLeft
+    fills-unfit t q = record { answer = rw t; left = rw t q }
+
+    pub fills-fit : {rows : Rows} {j : Job} {r : Costed} {s′ : CostSlices} → j ≡ jobOf w h map nb a a → j ≡ Fit rows
+        → FillsJob w h map rows a s r s′ → FillsCosts w h map nb a s r s′
+    unfolding costsAnswer costsLeft
+    fills-fit q t P = let e = sym q ∙ t in record { answer = rw e (P .answer); left = rw e (P .left) }
+
+  module _ {rows : Rows} {a v : ℕ} {d work : List ℕ} (n : v ≡ vertices w h) where
+    pub costs-long : {s′ : CostSlices} → (length d ≡ v → ⊥) → s′ ≡ costSlicesOf d work
+        → FillsJob w h map rows a (costSlicesOf d work) (NotFilled SliceLength) s′
+    unfolding costsSized
+    costs-long t q =
+        let z = ne-eqb (length d) (vertices w h) (rw n at t) in record { answer = rw z; left = rw z q }
+
+    module _ (d-len : length d ≡ v) where
+      pub costs-cramped : {s′ : CostSlices} → (length work ≡ 4 * v → ⊥) → s′ ≡ costSlicesOf d work
+          → FillsJob w h map rows a (costSlicesOf d work) (NotFilled SliceLength) s′
+      unfolding costsSized
+      costs-cramped t q =
+          let y = eq-eqb (length d) (vertices w h) (d-len ∙ n) in
+          let z = ne-eqb (length work) (4 * vertices w h) (rw n at t) in
+          record { answer = rw (y, z); left = rw (y, z) q }
+
+      pub costs-filled : {d′ work′ : List ℕ} → length work ≡ 4 * v
+          → FilledCosts (floorGraph (floorOf w h map) rows) a d′ work′
+          → FillsJob w h map rows a (costSlicesOf d work) Filled (costSlicesOf d′ work′)
+      unfolding costsSized
+      costs-filled t F =
+          let y = eq-eqb (length d) (vertices w h) (d-len ∙ n) in
+          let z = eq-eqb (length work) (4 * vertices w h) (rw n at t) in
+          record { answer = rw (y, z); left = rw (y, z, F .costs, F .clear) }
+
+  -- ---- the second operation
+
+  pub start-alone : {rows : Rows} {a b : ℕ} → GoodJob w h map rows a b → GoodJob w h map rows a a
+  start-alone J =
+      record { sized = J .sized; listed = J .listed; start-in = J .start-in; goal-in = J .start-in }
+
+  module _ {nb a b : ℕ} {d : List ℕ} {s : Slices} where
+    pub finishes-unfit : {z : Refusal} {s′ : Slices} → jobOf w h map nb a b ≡ Unfit z → s′ ≡ s
+        → Finishes w h map nb a b d s (Refused z) s′
+    unfolding finishAnswer finishLeft
+    finishes-unfit t q = record { answer = rw t; left = rw t q }
+
+    pub finishes-fit : {rows : Rows} {j : Job} {r : Planned} {s′ : Slices} → j ≡ jobOf w h map nb a b → j ≡ Fit rows
+        → FinishesJob w h map rows a b d s r s′ → Finishes w h map nb a b d s r s′
+    unfolding finishAnswer finishLeft
+    finishes-fit q t P = let e = sym q ∙ t in record { answer = rw e (P .answer); left = rw e (P .left) }
 
   module _ {rows : Rows} {a b : ℕ} {d e f back route work : List ℕ} where
-    pub job-unsized : {s′ : Slices} → slicesSized (vertices w h) (slicesOf d e f back route work) ≡ false
-        → s′ ≡ slicesOf d e f back route work
-        → PlansJob w h map rows a b (slicesOf d e f back route work) (Refused SliceLength) s′
+    pub job-unsized : {s′ : Slices} → slicesSized (vertices w h) d (slicesOf e f back route work) ≡ false
+        → s′ ≡ slicesOf e f back route work
+        → FinishesJob w h map rows a b d (slicesOf e f back route work) (Refused SliceLength) s′
     job-unsized z q = record { answer = rw z; left = rw z q }
 
-    pub job-sized : {r : Planned} {s′ : Slices} → FullSlices (vertices w h) d e f back route work
-        → Finished (floorGraph (floorOf w h map) rows) a b r s′
-        → PlansJob w h map rows a b (slicesOf d e f back route work) r s′
-    job-sized L F = let q = full-sized L in record { answer = rw q (F .answer); left = rw q (F .left) }
+    module _ (L : FullSlices (vertices w h) d e f back route work) where
+      pub job-false : {t : Bool} {s′ : Slices} → t ≡ costsTrue (floorGraph (floorOf w h map) rows) a d → not t ≡ true
+          → s′ ≡ slicesOf e f back route work
+          → FinishesJob w h map rows a b d (slicesOf e f back route work) (Refused FalseSheet) s′
+      job-false {t} p z q =
+          let y = full-sized L in
+          let n = sym p ∙ not-true t z in
+          record { answer = rw (y, n); left = rw (y, n) q }
 
-    module _ (J : GoodJob w h map rows a b) (L : FullSlices (vertices w h) d e f back route work) where
-      pub costing-of : {work′ : List ℕ} → length work′ ≡ length work → Costing w h map rows a d work′
-      costing-of same = record {
-        job = record { sized = J .sized; listed = J .listed; start-in = J .start-in; goal-in = J .start-in };
-        d-len = L .sheet .d;
-        work-len = same ∙ L .work-len;
-      }
+      pub job-true : {t : Bool} {r : Planned} {s′ : Slices} → t ≡ costsTrue (floorGraph (floorOf w h map) rows) a d
+          → not t ≡ false
+          → Finished (floorGraph (floorOf w h map) rows) a b r s′
+          → FinishesJob w h map rows a b d (slicesOf e f back route work) r s′
+      job-true {t} p z F =
+          let y = full-sized L in
+          let n = sym p ∙ not-false t z in
+          record { answer = rw (y, n) (F .answer); left = rw (y, n) (F .left) }
 
-      pub finishable-of : {d′ work′ : List ℕ}
-          → d′ ≡ tabulate (vertices w h) (distance (floorGraph (floorOf w h map) rows) a)
-          → length work′ ≡ 4 * vertices w h → Finishable w h map rows a b d′ e f back route work′
-      finishable-of costs work-len = record {
+      pub job-finishable : GoodJob w h map rows a b → {t : Bool}
+          → t ≡ costsTrue (floorGraph (floorOf w h map) rows) a d → not t ≡ false
+          → Finishable w h map rows a b d e f back route work
+      job-finishable J {t} p z = record {
         job = J;
-        lent = record {
-          sheet = record {
-            d = ap length costs ∙ length-tabulate (vertices w h) _;
-            e = L .sheet .e;
-            f = L .sheet .f;
-            b = L .sheet .b;
-            route = L .sheet .route;
-          };
-          work-len = work-len;
-        };
-        costs = costs;
+        lent = L;
+        costs = true-list (floorGraph (floorOf w h map) rows) a d (sym p ∙ not-false t z);
       }
+
+    pub finishable-on : {work′ : List ℕ} → Finishable w h map rows a b d e f back route work
+        → length work′ ≡ length work → Finishable w h map rows a b d e f back route work′
+    finishable-on F same = record {
+      job = F .job;
+      lent = record { sheet = F .lent .sheet; work-len = same ∙ F .lent .work-len };
+      costs = F .costs;
+    }

@@ -64,7 +64,8 @@ pub record Walking (g : Graph) (a b n v : ℕ) (r : List ℕ) : Type 0 where
   pub written : (i : ℕ) → i < n → entry r i ≡ getD (centralRoute g a b) i 0
   pub blank : (i : ℕ) → n ≤ i → entry r i ≡ 0
 
-module _ {g : Graph} {rows : Rows} {shifts : List ℕ} {a b : ℕ} {d e f back work r : List ℕ} (W : Walkable g rows shifts a b d e f back work r) where
+module _ {g : Graph} {rows : Rows} {shifts : List ℕ} {a b : ℕ} {d e f back work r : List ℕ}
+    (W : Walkable g rows shifts a b d e f back work r) where
   pub d-len : length d ≡ g .size
   d-len = ap length (W .d-true) ∙ length-tabulate (g .size) _
 
@@ -109,7 +110,9 @@ module _ {g : Graph} {rows : Rows} {shifts : List ℕ} {a b : ℕ} {d e f back w
     pub next-central : nextOf rows shifts (maskAt (length d) work v) d e f back b v ≡ centralNext g a b v
     unfolding onWay
     next-central =
-        rw d-len (nextVertex-agrees (W .masked .shows v i .agrees) (entry d) (onShortest (entry d) (entry e) b) (traversalOf f back))
+        rw d-len
+        (nextVertex-agrees (W .masked .shows v i .agrees) (entry d) (onShortest (entry d) (entry e) b)
+        (traversalOf f back))
         ∙ next-same g (W .lawful) (onShortest (entry d) (entry e) b) (onWay g a b) (entry d) (distance g a)
         (traversalOf f back) (traversals g a b)
         (λ u k. shortest-same (entry d) (distance g a) (entry e) (λ w. distance g w b) b u (d-at u k) (e-at u k)
@@ -203,7 +206,8 @@ module _ {g : Graph} {rows : Rows} {shifts : List ℕ} {a b : ℕ} {d e f back w
 
 -- ---- the loop
 
-pub record Stepping (rows : Rows) (shifts : List ℕ) (a b : ℕ) (d e f back work r₀ : List ℕ) (n v : ℕ) (r : List ℕ) : Type 0 where
+pub record Stepping (rows : Rows) (shifts : List ℕ) (a b : ℕ) (d e f back work r₀ : List ℕ) (n v : ℕ) (r : List ℕ)
+    : Type 0 where
   pub walking : (g : Graph) → Walkable g rows shifts a b d e f back work r₀ → Walking g a b n v r
 
 module _ {rows : Rows} {shifts : List ℕ} {a b : ℕ} {d e f back work r₀ : List ℕ} where
@@ -211,8 +215,10 @@ module _ {rows : Rows} {shifts : List ℕ} {a b : ℕ} {d e f back work r₀ : L
   step-start = record { walking = λ g W. walking-start W }
 
   module _ {n v : ℕ} {r : List ℕ} (h : Stepping rows shifts a b d e f back work r₀ n v r) where
-    module _ (ne : v ≡ b → ⊥) (s : Next) (q : s ≡ nextFrom (nextOf rows shifts (maskAt (length d) work v) d e f back b v)) where
-      pub step-more : (w : ℕ) → s ≡ To (record { 0 = w }) → Stepping rows shifts a b d e f back work r₀ (n + 1) w (set r n v)
+    module _ (ne : v ≡ b → ⊥) (s : Next)
+        (q : s ≡ nextFrom (nextOf rows shifts (maskAt (length d) work v) d e f back b v)) where
+      pub step-more : (w : ℕ) → s ≡ To (record { 0 = w })
+          → Stepping rows shifts a b d e f back work r₀ (n + 1) w (set r n v)
       step-more w p = record {
         walking = λ g W.
             let k = h .walking g W in
@@ -226,7 +232,8 @@ module _ {rows : Rows} {shifts : List ℕ} {a b : ℕ} {d e f back work r₀ : L
           let stuck = next-stuck (nextOf rows shifts (maskAt (length d) work v) d e f back b v) (sym q ∙ p) in
           none-some (sym stuck ∙ next-central W v (k .inside) ∙ walking-goes W k ne .1)
 
-    pub step-end : v ≡ b → (g : Graph) → Walkable g rows shifts a b d e f back work r₀ → Routed g a b (set r n v) (n + 1)
+    pub step-end : v ≡ b → (g : Graph) → Walkable g rows shifts a b d e f back work r₀
+        → Routed g a b (set r n v) (n + 1)
     step-end q g W = walking-end W (h .walking g W) q
 
     -- A store keeps the length.

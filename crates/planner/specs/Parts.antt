@@ -1,17 +1,17 @@
 -- The parts of the planner: what the walk of the route and the finishing of a job from known costs are handed, and what
 -- they leave. Nobody has to believe these: they stand in contracts of functions that the planner alone calls.
 --
---   Walkable g rows shifts a b d e f back work route == the lists hold the true costs and counts of a job on graph g that has a
---                                route, and the masks; the route is all 0
+--   Walkable g rows shifts a b d e f back work route == the lists hold the true costs and counts of a job on graph g
+--                                that has a route, and the masks; the route is all 0
 --   Routed g a b route n      == the route slice holds the central route, and n is the number of its points
 --   lengthsGood v ..          == the slices of these lengths have the places that a floor of v vertices needs
 --   FullSlices v ..           == the slices have the lengths that they need
 --   Finishable ..             == so they have, for a good job, and d holds the costs from a
 --   Findable ..               == the same, the masks stand in the working slice, a walk joins the ends, and counts and
 --                                route are all 0
---   PlansJob ..               == the answer r and the slices s' are the planner's, where none of refusals 1 to 5
---                                applies
 --   Finished g a b r s        == the answer r and the slices s are those of the job from a to b on graph g
+--   FillsJob .., FinishesJob .. == the answer r and the slices s' are those of the first operation, and of the second,
+--                                where none of refusals 1 to 5 applies
 use Prim.Native.Nat.{ℕ, _*_, _^_, _≤_, _<_}
 use mathlib.Core.Path.{_≡_}
 use mathlib.Core.Bool.{Bool, _&&_}
@@ -30,8 +30,10 @@ use Rattle.grid.specs.Grid.{floorGraph}
 use Rattle.grid.specs.Known.{GoodJob}
 use Rattle.grid.specs.declared.Job.the-variants.{Fit}
 use Rattle.workspace.specs.Regions.{Masked, MasksIn}
+use Rattle.planner.specs.declared.Costed.{Costed}
 use Rattle.planner.specs.declared.Planned.{Planned}
-use Rattle.planner.specs.Plan.{Slices, routeAnswer, routeLeft, answered, jobLeft}
+use Rattle.planner.specs.Plan.{CostSlices, Slices, routeAnswer, routeLeft}
+use Rattle.planner.specs.Plan.{jobCosts, jobCostsLeft, jobAnswer, jobLeft}
 
 pub record Walkable (g : Graph) (rows : Rows) (shifts : List ℕ) (a b : ℕ) (d e f back work route : List ℕ)
     : Type 0 where
@@ -77,7 +79,13 @@ pub record Finished (g : Graph) (a b : ℕ) (r : Planned) (s : Slices) : Type 0 
   pub answer : r ≡ routeAnswer g a b
   pub left : s ≡ routeLeft g a b
 
-pub record PlansJob (w h : ℕ) (map : List ℕ) (rows : Rows) (a b : ℕ) (s : Slices) (r : Planned) (s' : Slices)
+pub record FillsJob (w h : ℕ) (map : List ℕ) (rows : Rows) (a : ℕ) (s : CostSlices) (r : Costed) (s' : CostSlices)
     : Type 0 where
-  pub answer : r ≡ answered w h map a b s (Fit rows)
-  pub left : s' ≡ jobLeft w h map a b s (Fit rows)
+  pub answer : r ≡ jobCosts w h s (Fit rows)
+  pub left : s' ≡ jobCostsLeft w h map a s (Fit rows)
+
+pub record FinishesJob (w h : ℕ) (map : List ℕ) (rows : Rows) (a b : ℕ) (d : List ℕ) (s : Slices) (r : Planned)
+    (s' : Slices)
+    : Type 0 where
+  pub answer : r ≡ jobAnswer w h map a b d s (Fit rows)
+  pub left : s' ≡ jobLeft w h map a b d s (Fit rows)

@@ -1,12 +1,19 @@
--- Document 01, "Answers by number", for the planner: what it answers, and what it leaves in every lent slice.
+-- Document 01, "Answers by number", for the planner's two operations: what each answers, and what it leaves in every
+-- lent slice. The first fills d with the costs from a start. The second is handed d, which it only reads, and finishes
+-- e, f, b and the route.
 --
---   Slices             == the sheet's slices and the working slice
---   routeAnswer g a b  == the answer for the job from a to b on graph g, once its shape is good: 0, 7 or 8
+--   CostSlices         == the slices lent to the first operation: d and its working slice
+--   Slices             == those lent to the second: the sheet's others, and its working slice
+--   routeAnswer g a b  == the answer for the job from a to b on graph g, once its shape is good and d is true: 0, 7
+--                         or 8
 --   routeLeft g a b    == the slices that this answer leaves
---   planAnswer ..      == the answer for every input
---   planLeft ..        == the slices afterwards, for every input: untouched at answers 1 to 6
---   Plans ..         == both, as the planner promises them
---   planNumber, planCost, planTotal, planPoints == document 01's number and values of an answer
+--   costsAnswer ..     == the first operation's answer, for every input: 0, or a refusal of 1 to 6
+--   costsLeft ..       == its slices afterwards, for every input: untouched at a refusal
+--   FillsCosts ..      == both, as the first operation promises them
+--   finishAnswer ..    == the second operation's answer, for every input: 9 where d is not the costs from a
+--   finishLeft ..      == its slices afterwards, for every input: untouched at answers 1 to 6 and 9
+--   Finishes ..        == both, as the second operation promises them
+--   costedNumber, planNumber, planCost, planTotal, planPoints == document 01's number and values of an answer
 use Prim.Native.Nat.{ℕ, _*_}
 use mathlib.Core.Path.{_≡_}
 use mathlib.Core.Bool.{Bool, _&&_}
@@ -17,7 +24,7 @@ use Rattle.basics.specs.Bounded.{pick}
 use Rattle.basics.specs.Lists.{tabulate, zeros}
 use Rattle.floor.specs.Floor.{floorOf, vertices}
 use Rattle.floor.specs.Refusals.{refusalNumber}
-use Rattle.floor.specs.declared.Refusal.the-variants.{SliceLength, NoRoute, TooMany}
+use Rattle.floor.specs.declared.Refusal.the-variants.{SliceLength, NoRoute, TooMany, FalseSheet}
 use Rattle.paths.specs.Graph.{Graph}
 use Rattle.paths.specs.Distance.{distance, pathCount}
 use Rattle.paths.specs.Route.{centralRoute}
@@ -25,29 +32,40 @@ use Rattle.paths.specs.Sheet.{Sheet, joined, fits, routeSheet, noRouteSheet}
 use Rattle.grid.specs.Grid.{floorGraph, jobOf}
 use Rattle.grid.specs.declared.Job.{Job}
 use Rattle.grid.specs.declared.Job.the-variants.{Fit, Unfit}
+use Rattle.given_costs.specs.Given.{costsTrue}
+use Rattle.planner.specs.declared.Costed.{Costed}
+use Rattle.planner.specs.declared.Costed.the-variants.{Filled, Refused as NotFilled}
 use Rattle.planner.specs.declared.Planned.{Planned}
 use Rattle.planner.specs.declared.Planned.the-variants.{Found, Refused}
 
-pub record Slices : Type 0 where
+pub record CostSlices : Type 0 where
   pub d : List ℕ
+  pub work : List ℕ
+
+abbrev pub costSlicesOf : List ℕ → List ℕ → CostSlices
+costSlicesOf d work = record { d = d; work = work }
+
+pub record Slices : Type 0 where
   pub e : List ℕ
   pub f : List ℕ
   pub b : List ℕ
   pub route : List ℕ
   pub work : List ℕ
 
-abbrev pub slicesOf : List ℕ → List ℕ → List ℕ → List ℕ → List ℕ → List ℕ → Slices
-slicesOf d e f b route work = record { d = d; e = e; f = f; b = b; route = route; work = work }
+abbrev pub slicesOf : List ℕ → List ℕ → List ℕ → List ℕ → List ℕ → Slices
+slicesOf e f b route work = record { e = e; f = f; b = b; route = route; work = work }
 
--- A sheet in the lent slices, with the working slice all 0.
+-- ---- the second operation, once the job's shape is good and d is true
+
+-- A sheet but for d in the lent slices, with the working slice all 0.
 abbrev pub sheetSlices : ℕ → Sheet → Slices
-sheetSlices v s = slicesOf (s .d) (s .e) (s .f) (s .b) (s .route) (zeros (4 * v))
+sheetSlices v s = slicesOf (s .e) (s .f) (s .b) (s .route) (zeros (4 * v))
 
 -- Answer 8: the costs are true, counts and route are 0.
-abbrev pub costsAlone : Graph → ℕ → ℕ → Slices
-costsAlone g a b =
-    slicesOf (tabulate (g .size) (distance g a)) (tabulate (g .size) (λ v. distance g v b))
-    (zeros (g .size)) (zeros (g .size)) (zeros (g .size)) (zeros (4 * g .size))
+abbrev pub costsAlone : Graph → ℕ → Slices
+costsAlone g b =
+    slicesOf (tabulate (g .size) (λ v. distance g v b)) (zeros (g .size)) (zeros (g .size)) (zeros (g .size))
+    (zeros (4 * g .size))
 
 unfoldable pub routeAnswer : Graph → ℕ → ℕ → Planned
 routeAnswer g a b =
@@ -57,35 +75,76 @@ routeAnswer g a b =
 
 unfoldable pub routeLeft : Graph → ℕ → ℕ → Slices
 routeLeft g a b =
-    pick (joined g a b) (pick (fits g a b) (sheetSlices (g .size) (routeSheet g a b)) (costsAlone g a b))
+    pick (joined g a b) (pick (fits g a b) (sheetSlices (g .size) (routeSheet g a b)) (costsAlone g b))
     (sheetSlices (g .size) (noRouteSheet g a))
 
+-- ---- the first operation, for every input. A start alone is the job from it to itself.
+
+-- Refusal 6 does not apply: d has V places, the working slice 4 * V.
+unfoldable pub costsSized : ℕ → CostSlices → Bool
+costsSized v s = eqb (length (s .d)) v && eqb (length (s .work)) (4 * v)
+
+abbrev pub jobCosts : ℕ → ℕ → CostSlices → Job → Costed
+jobCosts w h s (Fit rows) = pick (costsSized (vertices w h) s) Filled (NotFilled SliceLength)
+jobCosts w h s (Unfit r) = NotFilled r
+
+abbrev pub jobCostsLeft : ℕ → ℕ → List ℕ → ℕ → CostSlices → Job → CostSlices
+jobCostsLeft w h map a s (Fit rows) =
+    let v = vertices w h in
+    pick (costsSized v s)
+    (costSlicesOf (tabulate v (distance (floorGraph (floorOf w h map) rows) a)) (zeros (4 * v))) s
+jobCostsLeft w h map a s (Unfit r) = s
+
+unfoldable pub costsAnswer : ℕ → ℕ → List ℕ → ℕ → ℕ → CostSlices → Costed
+costsAnswer w h map nb a s = jobCosts w h s (jobOf w h map nb a a)
+
+unfoldable pub costsLeft : ℕ → ℕ → List ℕ → ℕ → ℕ → CostSlices → CostSlices
+costsLeft w h map nb a s = jobCostsLeft w h map a s (jobOf w h map nb a a)
+
+-- The first operation's promise: s before, s' after, and the answer r.
+pub record FillsCosts (w h : ℕ) (map : List ℕ) (nb a : ℕ) (s : CostSlices) (r : Costed) (s' : CostSlices)
+    : Type 0 where
+  pub answer : r ≡ costsAnswer w h map nb a s
+  pub left : s' ≡ costsLeft w h map nb a s
+
+-- ---- the second operation, for every input
+
 -- Refusal 6 does not apply: the sheet's slices have V places, the working slice 4 * V.
-unfoldable pub slicesSized : ℕ → Slices → Bool
-slicesSized v s =
-    eqb (length (s .d)) v && eqb (length (s .e)) v && eqb (length (s .f)) v && eqb (length (s .b)) v
+unfoldable pub slicesSized : ℕ → List ℕ → Slices → Bool
+slicesSized v d s =
+    eqb (length d) v && eqb (length (s .e)) v && eqb (length (s .f)) v && eqb (length (s .b)) v
     && eqb (length (s .route)) v && eqb (length (s .work)) (4 * v)
 
-abbrev pub answered : ℕ → ℕ → List ℕ → ℕ → ℕ → Slices → Job → Planned
-answered w h map a b s (Fit rows) =
-    pick (slicesSized (vertices w h) s) (routeAnswer (floorGraph (floorOf w h map) rows) a b) (Refused SliceLength)
-answered w h map a b s (Unfit r) = Refused r
+abbrev pub jobAnswer : ℕ → ℕ → List ℕ → ℕ → ℕ → List ℕ → Slices → Job → Planned
+jobAnswer w h map a b d s (Fit rows) =
+    let g = floorGraph (floorOf w h map) rows in
+    pick (slicesSized (vertices w h) d s) (pick (costsTrue g a d) (routeAnswer g a b) (Refused FalseSheet))
+    (Refused SliceLength)
+jobAnswer w h map a b d s (Unfit r) = Refused r
 
-abbrev pub jobLeft : ℕ → ℕ → List ℕ → ℕ → ℕ → Slices → Job → Slices
-jobLeft w h map a b s (Fit rows) =
-    pick (slicesSized (vertices w h) s) (routeLeft (floorGraph (floorOf w h map) rows) a b) s
-jobLeft w h map a b s (Unfit r) = s
+abbrev pub jobLeft : ℕ → ℕ → List ℕ → ℕ → ℕ → List ℕ → Slices → Job → Slices
+jobLeft w h map a b d s (Fit rows) =
+    let g = floorGraph (floorOf w h map) rows in
+    pick (slicesSized (vertices w h) d s) (pick (costsTrue g a d) (routeLeft g a b) s) s
+jobLeft w h map a b d s (Unfit r) = s
 
-unfoldable pub planAnswer : ℕ → ℕ → List ℕ → ℕ → ℕ → ℕ → Slices → Planned
-planAnswer w h map nb a b s = answered w h map a b s (jobOf w h map nb a b)
+unfoldable pub finishAnswer : ℕ → ℕ → List ℕ → ℕ → ℕ → ℕ → List ℕ → Slices → Planned
+finishAnswer w h map nb a b d s = jobAnswer w h map a b d s (jobOf w h map nb a b)
 
-unfoldable pub planLeft : ℕ → ℕ → List ℕ → ℕ → ℕ → ℕ → Slices → Slices
-planLeft w h map nb a b s = jobLeft w h map a b s (jobOf w h map nb a b)
+unfoldable pub finishLeft : ℕ → ℕ → List ℕ → ℕ → ℕ → ℕ → List ℕ → Slices → Slices
+finishLeft w h map nb a b d s = jobLeft w h map a b d s (jobOf w h map nb a b)
 
--- The planner's promise: s before, s' after, and the answer r.
-pub record Plans (w h : ℕ) (map : List ℕ) (nb a b : ℕ) (s : Slices) (r : Planned) (s' : Slices) : Type 0 where
-  pub answer : r ≡ planAnswer w h map nb a b s
-  pub left : s' ≡ planLeft w h map nb a b s
+-- The second operation's promise: s before, s' after, and the answer r.
+pub record Finishes (w h : ℕ) (map : List ℕ) (nb a b : ℕ) (d : List ℕ) (s : Slices) (r : Planned) (s' : Slices)
+    : Type 0 where
+  pub answer : r ≡ finishAnswer w h map nb a b d s
+  pub left : s' ≡ finishLeft w h map nb a b d s
+
+-- ---- numbers and values of an answer
+
+abbrev pub costedNumber : Costed → ℕ
+costedNumber Filled = 0
+costedNumber (NotFilled r) = refusalNumber r
 
 abbrev pub planNumber : Planned → ℕ
 planNumber (Found c t n) = 0

@@ -1,12 +1,12 @@
-// The planner: costs, counts and the central route of a job.
+// The planner, in two operations: costs from a start, and then counts and central route of a job.
 //
-//     plan               the operation of document 01, for every input
-//     plan_job           the same where none of refusals 1 to 5 applies
-//     finish_job         the same from given costs from the start: answers 0, 7 and 8
+//     fill_costs         the costs from a start, for every input
+//     fill_job           the same where none of refusals 1 to 5 applies
+//     finish             the rest of a job from given costs, which it does not trust, for every input
+//     finish_given       the same where none of refusals 1 to 5 applies
+//     finish_job         the same from true costs: answers 0, 7 and 8
 //     finish_over_masks  the same where the working slice has the masks of the open moves
 //     find_route         the same where a walk joins the ends: answers 0 and 8
-//
-// A whole plan makes the masks once, for the costs from the start and for all that follows.
 mod route; // route.rt: the central route, written as it is walked
 
 ghost use mathlib.Core.Path.{_≡_};
@@ -16,14 +16,22 @@ ghost use Rattle.floor.specs.Floor.{floorOf, vertices};
 ghost use Rattle.grid.specs.Grid.{floorGraph};
 ghost use Rattle.grid.specs.Known.{GoodJob};
 ghost use Rattle.workspace.specs.Regions.{MasksIn};
-ghost use Rattle.planner.specs.Plan.{planNumber, planCost, planTotal, planPoints, slicesOf, Plans};
-ghost use Rattle.planner.specs.Parts.{lengthsGood, Finishable, Findable, Finished, PlansJob};
+ghost use Rattle.planner.specs.Plan.{costSlicesOf, slicesOf, FillsCosts, Finishes};
+ghost use Rattle.planner.specs.Plan.{costedNumber, planNumber, planCost, planTotal, planPoints};
+ghost use Rattle.planner.specs.Parts.{lengthsGood, Finishable, Findable, Finished, FillsJob, FinishesJob};
 use floor::Refusal;
 use floor::Vertex;
 use grid::Job;
 use moves::Rows;
 
-// The answer: a route's cost, the number of cheapest routes and the number of its points, or a refusal.
+// The first operation's answer: d is filled, or a refusal.
+pub enum Costed {
+    Filled,
+    Refused(Refusal),
+}
+
+// The second operation's answer: a route's cost, the number of cheapest routes and the number of its points, or a
+// refusal.
 pub enum Planned {
     Found {
         cost: u32,
@@ -33,7 +41,17 @@ pub enum Planned {
     Refused(Refusal),
 }
 
-// Document 01's number of an answer.
+// Document 01's number of the first operation's answer.
+pub fn costed_number(c: Costed) -> u8
+    ensures { λ r. ⌜ r ≡ costedNumber c ⌝ }
+{
+    match c {
+        Costed::Filled => 0,
+        Costed::Refused(r) => floor::refusal_number(r),
+    }
+}
+
+// Document 01's number of the second operation's answer.
 pub fn plan_number(p: Planned) -> u8
     ensures { λ r. ⌜ r ≡ planNumber p ⌝ }
 {
@@ -139,7 +157,7 @@ fn find_route(
     requires { ⌜ Findable w h (now map) rows (a .0) (b .0)
         (now d) (now e) (now f) (now back) (now route) (now work) ⌝ }
     ensures { λ r. ⌜ Finished (floorGraph (floorOf w h (now (map .entry))) rows) (a .0) (b .0) r
-        (slicesOf (now (d .entry)) (now (e .exit)) (now (f .exit)) (now (back .exit)) (now (route .exit))
+        (slicesOf (now (e .exit)) (now (f .exit)) (now (back .exit)) (now (route .exit))
         (zeros (4 * vertices w h))) ⌝ }
 {
     let n = distances::costs_over_masks(w, h, map, rows, b, e, work);
@@ -176,8 +194,7 @@ fn finish_over_masks(
         (now d) (now e) (now f) (now back) (now route) (now work) ⌝ }
     requires { ⌜ MasksIn (floorOf w h (now map)) (now work) ⌝ }
     ensures { λ r. ⌜ Finished (floorGraph (floorOf w h (now (map .entry))) rows) (a .0) (b .0) r
-        (slicesOf (now (d .entry)) (now (e .exit)) (now (f .exit)) (now (back .exit)) (now (route .exit))
-        (now (work .exit))) ⌝ }
+        (slicesOf (now (e .exit)) (now (f .exit)) (now (back .exit)) (now (route .exit)) (now (work .exit))) ⌝ }
 {
     basics::clear_u64(f);
     basics::clear_u64(back);
@@ -193,9 +210,8 @@ fn finish_over_masks(
     found
 }
 
-// Finishes a job of good shape from the costs d from a: answers 0, 7 or 8, and leaves the other slices as document 01
-// says. With `distances::fill_costs` one of the planner's two inner operations, whole by itself: it relies on nothing
-// that stands in the other slices. A whole plan has the masks already and calls `finish_over_masks` instead.
+// Finishes a job of good shape from the true costs d from a: answers 0, 7 or 8, and leaves the other slices as document
+// 01 says. It relies on nothing that stands in them.
 pub fn finish_job(
     w: usize,
     h: usize,
@@ -213,22 +229,71 @@ pub fn finish_job(
     requires { ⌜ Finishable w h (now map) rows (a .0) (b .0)
         (now d) (now e) (now f) (now back) (now route) (now work) ⌝ }
     ensures { λ r. ⌜ Finished (floorGraph (floorOf w h (now (map .entry))) rows) (a .0) (b .0) r
-        (slicesOf (now (d .entry)) (now (e .exit)) (now (f .exit)) (now (back .exit)) (now (route .exit))
-        (now (work .exit))) ⌝ }
+        (slicesOf (now (e .exit)) (now (f .exit)) (now (back .exit)) (now (route .exit)) (now (work .exit))) ⌝ }
 {
     workspace::store_masks(w, h, map, work);
     finish_over_masks(w, h, map, rows, a, b, d, e, f, back, route, work)
 }
 
-// Plans a job whose floor, neighbourhood and ends have a good shape: refusal 6, or the answer and slices of the job.
-fn plan_job(
+// The costs from a start, where floor, neighbourhood and start have a good shape: refusal 6, or d filled and the
+// working slice cleared.
+fn fill_job(
+    w: usize,
+    h: usize,
+    map: &[u8],
+    rows: Rows,
+    a: Vertex,
+    d: &mut [u32],
+    work: &mut [u32],
+) -> Costed
+    requires { ⌜ GoodJob w h (now map) rows (a .0) (a .0) ⌝ }
+    ensures { λ r. ⌜ FillsJob w h (now (map .entry)) rows (a .0)
+        (costSlicesOf (now (d .entry)) (now (work .entry))) r (costSlicesOf (now (d .exit)) (now (work .exit))) ⌝ }
+{
+    let v = floor::vertex_count(w, h);
+    if d.len() != v {
+        return Costed::Refused(Refusal::SliceLength);
+    }
+    if work.len() != 4 * v {
+        return Costed::Refused(Refusal::SliceLength);
+    }
+    distances::fill_costs(w, h, map, rows, a, d, work);
+    Costed::Filled
+}
+
+// The first operation: fills d with the costs from a. For every input it gives document 01's answer for a start alone,
+// and leaves both lent slices as document 01 says: a refusal touches nothing.
+//
+// Lent are d, of V places, and a working slice of 4 * V.
+pub fn fill_costs(
+    w: usize,
+    h: usize,
+    map: &[u8],
+    nb: usize,
+    a: usize,
+    d: &mut [u32],
+    work: &mut [u32],
+) -> Costed
+    ensures { λ r. ⌜ FillsCosts w h (now (map .entry)) nb a
+        (costSlicesOf (now (d .entry)) (now (work .entry))) r (costSlicesOf (now (d .exit)) (now (work .exit))) ⌝ }
+{
+    let job = grid::job_of(w, h, map, nb, a, a);
+    match job {
+        Job::Unfit(r) => Costed::Refused(r),
+        Job::Fit(rows) => fill_job(w, h, map, rows, Vertex(a), d, work),
+    }
+}
+
+// Finishes a job whose floor, neighbourhood and ends have a good shape from the costs d that a caller hands in: refusal
+// 6, 9, or the answer and slices of the job. Nothing is written before d has passed the test.
+fn finish_given(
     w: usize,
     h: usize,
     map: &[u8],
     rows: Rows,
     a: Vertex,
     b: Vertex,
-    d: &mut [u32],
+    d: &[u32],
     e: &mut [u32],
     f: &mut [u64],
     back: &mut [u64],
@@ -236,11 +301,9 @@ fn plan_job(
     work: &mut [u32],
 ) -> Planned
     requires { ⌜ GoodJob w h (now map) rows (a .0) (b .0) ⌝ }
-    ensures { λ r. ⌜ PlansJob w h (now (map .entry)) rows (a .0) (b .0)
-        (slicesOf (now (d .entry)) (now (e .entry)) (now (f .entry)) (now (back .entry)) (now (route .entry))
-        (now (work .entry))) r
-        (slicesOf (now (d .exit)) (now (e .exit)) (now (f .exit)) (now (back .exit)) (now (route .exit))
-        (now (work .exit))) ⌝ }
+    ensures { λ r. ⌜ FinishesJob w h (now (map .entry)) rows (a .0) (b .0) (now (d .entry))
+        (slicesOf (now (e .entry)) (now (f .entry)) (now (back .entry)) (now (route .entry)) (now (work .entry))) r
+        (slicesOf (now (e .exit)) (now (f .exit)) (now (back .exit)) (now (route .exit)) (now (work .exit))) ⌝ }
 {
     let v = floor::vertex_count(w, h);
     if !lengths_good(
@@ -254,40 +317,40 @@ fn plan_job(
     ) {
         return Planned::Refused(Refusal::SliceLength);
     }
-    workspace::store_masks(w, h, map, work);
-    distances::costs_over_masks(w, h, map, rows, a, d, work);
-    finish_over_masks(w, h, map, rows, a, b, d, e, f, back, route, work)
+    if !given_costs::costs_true(w, h, map, rows, a, d) {
+        return Planned::Refused(Refusal::FalseSheet);
+    }
+    finish_job(w, h, map, rows, a, b, d, e, f, back, route, work)
 }
 
-// The planner. For every input it gives document 01's answer, and leaves every lent slice as document 01 says: answers
-// 1 to 6 touch nothing.
+// The second operation: finishes the job from a to b from d, which it only reads. For every input it gives document
+// 01's answer, 9 where d is not the costs from a, and leaves every lent slice as document 01 says: answers 1 to 6 and 9
+// touch nothing.
 //
 // Lent are the sheet's slices d, e, f, back (document 01's b) and route, of V places each, and a working slice of
 // 4 * V.
-pub fn plan(
+pub fn finish(
     w: usize,
     h: usize,
     map: &[u8],
     nb: usize,
     a: usize,
     b: usize,
-    d: &mut [u32],
+    d: &[u32],
     e: &mut [u32],
     f: &mut [u64],
     back: &mut [u64],
     route: &mut [u16],
     work: &mut [u32],
 ) -> Planned
-    ensures { λ r. ⌜ Plans w h (now (map .entry)) nb a b
-        (slicesOf (now (d .entry)) (now (e .entry)) (now (f .entry)) (now (back .entry)) (now (route .entry))
-        (now (work .entry))) r
-        (slicesOf (now (d .exit)) (now (e .exit)) (now (f .exit)) (now (back .exit)) (now (route .exit))
-        (now (work .exit))) ⌝ }
+    ensures { λ r. ⌜ Finishes w h (now (map .entry)) nb a b (now (d .entry))
+        (slicesOf (now (e .entry)) (now (f .entry)) (now (back .entry)) (now (route .entry)) (now (work .entry))) r
+        (slicesOf (now (e .exit)) (now (f .exit)) (now (back .exit)) (now (route .exit)) (now (work .exit))) ⌝ }
 {
     let job = grid::job_of(w, h, map, nb, a, b);
     match job {
         Job::Unfit(r) => Planned::Refused(r),
-        Job::Fit(rows) => plan_job(
+        Job::Fit(rows) => finish_given(
             w,
             h,
             map,

@@ -2,6 +2,8 @@
 --
 --   cells-lent   == the slice lent for the cells of the map fits them
 --   few-cells    == there are at most 31 * 31 of them
+--   map-sides    == its sides are within the bound of a floor
+--   few-places   == and it has at most 32 * 32 vertices
 --   jobs-start   == past the map the first job is due, and the cells that were copied are a small floor
 --   first-step   == what the first step found stands at the start of the input
 --   goes-on      == the cursor of a turn that is not the last has moved on within the input
@@ -11,6 +13,7 @@ use mathlib.Core.List.{List}
 use native.Mathlib.Omega.{arith}
 use native.Mathlib.Nat.{mul-le-mul}
 use lib.ListN.{length}
+use Rattle.floor.specs.Floor.{vertices}
 use Rattle.records.specs.Format.{recordAt, first, cellsOf}
 use Rattle.records.specs.declared.stream.Cursor.{Cursor}
 use Rattle.records.specs.declared.stream.MapRecord.{MapRecord}
@@ -32,6 +35,16 @@ module _ (s : List ℕ) (m : MapRecord) (c : Cursor) (e : recordAt s first ≡ M
   few-cells =
       let f = map-step s first m c e in
       mul-le-mul {n₂ = 31} {m₂ = 31} (f .wide) (f .high)
+
+  pub map-sides : (m .wide ≤ 127) × (m .high ≤ 127)
+  map-sides =
+      let f = map-step s first m c e in
+      (omega (arith, f .wide), omega (arith, f .high))
+
+  pub few-places : vertices (m .wide) (m .high) ≤ 1024
+  few-places =
+      let f = map-step s first m c e in
+      mul-le-mul {n₂ = 32} {m₂ = 32} (omega (arith, f .high)) (omega (arith, f .wide))
 
   pub jobs-start : (map : List ℕ) → map ≡ cellsOf s m → (1 ≤ c .due) × SmallFloor (m .wide) (m .high) map
   jobs-start map same =

@@ -21,20 +21,20 @@ few-vertices f = mul-le-mul {n₂ = 32} {m₂ = 32} (omega (arith, f .high)) (om
 pub taken : (v : ℕ) (xs : List ℕ) → v ≤ length xs → v ≡ length (take v xs)
 taken v xs h = sym (length-take-le v xs h)
 
--- The parts of arrays of 1,024 places, or 4,096, and of a buffer of 6,307 bytes.
-pub lent : {w h v : ℕ} {map : List ℕ} → SmallFloor w h map → v ≡ vertices w h
-    → (d e f b route work kept out : List ℕ) → 1024 ≤ length d → 1024 ≤ length e → 1024 ≤ length f → 1024 ≤ length b
+-- The parts of arrays of 1,024 places, or 4,096, and of a buffer of 6,307 bytes, beside costs of the right length.
+pub lent : {w h v : ℕ} {map d : List ℕ} → SmallFloor w h map → length d ≡ vertices w h → v ≡ vertices w h
+    → (e f b route work kept out : List ℕ) → 1024 ≤ length e → 1024 ≤ length f → 1024 ≤ length b
     → 1024 ≤ length route → 4096 ≤ length work → 1024 ≤ length kept → 6307 ≤ length out
-    → Ready w h map
-    (slicesOf (take v d) (take v e) (take v f) (take v b) (take v route) (take (4 * v) work)) (take v kept) out
-lent {w} {h} {v} {map} small same d e f b route work kept out hd he hf hb hr hw hk ho =
+    → Ready w h map d
+    (slicesOf (take v e) (take v f) (take v b) (take v route) (take (4 * v) work)) (take v kept) out
+lent {w} {h} {v} {map} {d} small d-len same e f b route work kept out he hf hb hr hw hk ho =
     let few = few-vertices small in
     record {
       floor = small;
       lent = record {
         full = record {
           sheet = record {
-            d = length-take-le v d (omega arith) ∙ same;
+            d = d-len;
             e = length-take-le v e (omega arith) ∙ same;
             f = length-take-le v f (omega arith) ∙ same;
             b = length-take-le v b (omega arith) ∙ same;

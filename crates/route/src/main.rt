@@ -7,6 +7,7 @@
 ghost use mathlib.Core.Path.{_≡_};
 ghost use Prim.Native.Nat.{_*_, _≤_};
 ghost use lib.ListN.{length};
+ghost use Rattle.floor.specs.Floor.{vertices};
 ghost use Rattle.planner.specs.Plan.{slicesOf};
 ghost use Rattle.records.specs.Format.{recordAt, first};
 ghost use Rattle.records.specs.declared.stream.Record.the-variants.{Map};
@@ -35,8 +36,8 @@ fn write_turn(
     kept: &mut [u16],
     out: &mut [u8],
 ) -> Turn
-    requires { ⌜ (1 ≤ c .due) × Ready w h (now map)
-        (slicesOf (now d) (now e) (now f) (now back) (now route) (now work)) (now kept) (now out) ⌝ }
+    requires { ⌜ (1 ≤ c .due) × Ready w h (now map) (now d)
+        (slicesOf (now e) (now f) (now back) (now route) (now work)) (now kept) (now out) ⌝ }
     ensures { λ r. ⌜ GoesOn (now (s .entry)) c r ⌝ }
 {
     let t = jobs::take_turn(s, c, w, h, map, d, e, f, back, route, work, kept, out);
@@ -47,14 +48,14 @@ fn write_turn(
     Turn::Last(n)
 }
 
-// Lends the arrays for one turn: a place for each of the at most 32 * 32 vertices, and room for the lines of a job.
-fn lend_turn(s: &[u8], c: Cursor, w: usize, h: usize, map: &[u8]) -> Turn
-    requires { ⌜ (1 ≤ c .due) × SmallFloor w h (now map) ⌝ }
+// Lends the arrays for one turn: a place for each of the at most 32 * 32 vertices, and room for the lines of a job. The
+// costs d are the caller's: they are kept from turn to turn.
+fn lend_turn(s: &[u8], c: Cursor, w: usize, h: usize, map: &[u8], d: &mut [u32]) -> Turn
+    requires { ⌜ (1 ≤ c .due) × SmallFloor w h (now map) × (length (now d) ≡ vertices w h) ⌝ }
     ensures { λ r. ⌜ GoesOn (now (s .entry)) c r ⌝ }
 {
     let v = floor::vertex_count(w, h);
     let z = 4 * v;
-    let mut d = [0u32; 1024];
     let mut e = [0u32; 1024];
     let mut f = [0u64; 1024];
     let mut back = [0u64; 1024];
@@ -68,7 +69,7 @@ fn lend_turn(s: &[u8], c: Cursor, w: usize, h: usize, map: &[u8]) -> Turn
         w,
         h,
         map,
-        &mut d[..v],
+        d,
         &mut e[..v],
         &mut f[..v],
         &mut back[..v],
@@ -79,29 +80,33 @@ fn lend_turn(s: &[u8], c: Cursor, w: usize, h: usize, map: &[u8]) -> Turn
     )
 }
 
-// The jobs that follow the map m, with a slice for its cells.
-fn run_jobs(s: &[u8], m: MapRecord, past: Cursor, map: &mut [u8])
-    requires { ⌜ (recordAt (now s) first ≡ Map m past) × (length (now map) ≡ m .wide * m .high) ⌝ }
+// The jobs that follow the map m, with a slice for its cells and one for the costs from a start, which the next job may
+// share.
+fn run_jobs(s: &[u8], m: MapRecord, past: Cursor, map: &mut [u8], d: &mut [u32])
+    requires { ⌜ (recordAt (now s) first ≡ Map m past) × (length (now map) ≡ m .wide * m .high)
+        × (length (now d) ≡ vertices (m .wide) (m .high)) ⌝ }
 {
     jobs::copy_cells(s, m, map);
     let w = m.wide;
     let h = m.high;
     let mut c = past;
     loop {
-        let Turn::More(_, next) = lend_turn(s, c, w, h, map) else {
+        let Turn::More(_, next) = lend_turn(s, c, w, h, map, d) else {
             return;
         };
         c = next;
     }
 }
 
-// Lends the array for the cells.
+// Lends the arrays for the cells and for the costs.
 fn lend_map(s: &[u8], m: MapRecord, past: Cursor)
     requires { ⌜ recordAt (now s) first ≡ Map m past ⌝ }
 {
     let n = m.wide * m.high;
+    let v = floor::vertex_count(m.wide, m.high);
     let mut map = [0u8; 961];
-    run_jobs(s, m, past, &mut map[..n]);
+    let mut d = [0u32; 1024];
+    run_jobs(s, m, past, &mut map[..n], &mut d[..v]);
 }
 
 // Writes the line of a bad record at place k.

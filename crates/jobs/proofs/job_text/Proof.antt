@@ -1,27 +1,27 @@
 -- `jobs::job_text` meets its contract: the planner's answer is that of the job, and where it is a route, the route
 -- slice holds a list that can be thinned. Assumes nothing.
-use Rattle.jobs.proofs.Telling.{plans-as, routable, told-refused, told-route}
+use Rattle.jobs.proofs.Telling.{planned-as, routable, told-refused, told-route}
 use borrow.Author.Needs.{needs}
 use Rattle.jobs.proofs.job_text.Statement.{statement}
 use Rattle.jobs.proofs.job_text.Tie as tie
 
-abbrev plan-of : tie.After-slice-known14 → tie.After-plan
+abbrev plan-of : tie.After-slice-known14 → tie.After-plan-job
 plan-of c = c .before .before .before .before .before .before .before .before .before .before .before .before
 
-abbrev start : tie.After-plan → tie.Start
+abbrev start : tie.After-plan-job → tie.Start
 start c =
     c .before .before .before .before .before .before .before .before .before .before .before .before .before .before
     .before .before
 
 -- The call of the planner, from the two returns.
-abbrev refused : tie.After-slice-known15 → tie.After-plan
+abbrev refused : tie.After-slice-known15 → tie.After-plan-job
 refused c = plan-of (c .before .before .before .before .before .before .before .before)
 
-abbrev found : tie.After-slice-known17 → tie.After-plan
+abbrev found : tie.After-slice-known17 → tie.After-plan-job
 found c = plan-of (c .before .before .before .before .before .before .before .before .before .before .before)
 
-plan-requires : tie.Need-plan-requires
-plan-requires c κs = search needs
+plan-job-requires : tie.Need-plan-job-requires
+plan-job-requires c κs = search needs
 
 enum-known-answer : tie.Need-enum-known-answer
 enum-known-answer c = c .match .keys1
@@ -39,25 +39,25 @@ route-text-requires : tie.Need-route-text-requires
 route-text-requires c κs =
     let a = c .before .before .before .before in
     let p = plan-of (a .before .before) in
-    routable (start p .args .job) (start p .pre) (plans-as (a .answer2 .given .1) (p .plan .ensures))
+    routable (start p .args .job) (start p .pre) (planned-as (a .answer2 .given .1) (p .plan-job .ensures))
 
 same-length : tie.Need-same-length
-same-length c = refused c .plan .kept .1 .1 .1 .1 .1 .1 .0
+same-length c = refused c .plan-job .kept .1 .1 .1 .1 .0
 
 same-length-2 : tie.Need-same-length-2
-same-length-2 c = refused c .plan .kept .1 .1 .1 .1 .1 .1 .1 .0
+same-length-2 c = refused c .plan-job .kept .1 .1 .1 .1 .1 .0
 
 same-length-3 : tie.Need-same-length-3
-same-length-3 c = refused c .plan .kept .1 .1 .1 .1 .1 .1 .1 .1 .0
+same-length-3 c = refused c .plan-job .kept .1 .1 .1 .1 .1 .1 .0
 
 same-length-4 : tie.Need-same-length-4
-same-length-4 c = refused c .plan .kept .1 .1 .1 .1 .1 .1 .1 .1 .1 .0
+same-length-4 c = refused c .plan-job .kept .1 .1 .1 .1 .1 .1 .1 .0
 
 same-length-5 : tie.Need-same-length-5
-same-length-5 c = refused c .plan .kept .1 .1 .1 .1 .1 .1 .1 .1 .1 .1 .0
+same-length-5 c = refused c .plan-job .kept .1 .1 .1 .1 .1 .1 .1 .1 .0
 
 same-length-6 : tie.Need-same-length-6
-same-length-6 c = refused c .plan .kept .1 .1 .1 .1 .1 .1 .1 .1 .1 .1 .1 .0
+same-length-6 c = refused c .plan-job .kept .1 .1 .1 .1 .1 .1 .1 .1 .1 .0
 
 same-length-7 : tie.Need-same-length-7
 same-length-7 c = c .before .before .put-refused .kept .0
@@ -67,26 +67,26 @@ returns c =
     let t = c .before .before in
     let a = t .before .before .before .before in
     let p = plan-of (a .before .before) in
-    told-refused (start p .args .job) (start p .pre) (plans-as (a .answer .given .1) (p .plan .ensures))
+    told-refused (start p .args .job) (start p .pre) (planned-as (a .answer .given .1) (p .plan-job .ensures))
     (t .before .refusal-number .ensures) (t .put-refused .ensures)
 
 same-length-8 : tie.Need-same-length-8
-same-length-8 c = found c .plan .kept .1 .1 .1 .1 .1 .1 .0
+same-length-8 c = found c .plan-job .kept .1 .1 .1 .1 .0
 
 same-length-9 : tie.Need-same-length-9
-same-length-9 c = found c .plan .kept .1 .1 .1 .1 .1 .1 .1 .0
+same-length-9 c = found c .plan-job .kept .1 .1 .1 .1 .1 .0
 
 same-length-10 : tie.Need-same-length-10
-same-length-10 c = found c .plan .kept .1 .1 .1 .1 .1 .1 .1 .1 .0
+same-length-10 c = found c .plan-job .kept .1 .1 .1 .1 .1 .1 .0
 
 same-length-11 : tie.Need-same-length-11
-same-length-11 c = found c .plan .kept .1 .1 .1 .1 .1 .1 .1 .1 .1 .0
+same-length-11 c = found c .plan-job .kept .1 .1 .1 .1 .1 .1 .1 .0
 
 same-length-12 : tie.Need-same-length-12
-same-length-12 c = found c .plan .kept .1 .1 .1 .1 .1 .1 .1 .1 .1 .1 .0
+same-length-12 c = found c .plan-job .kept .1 .1 .1 .1 .1 .1 .1 .1 .0
 
 same-length-13 : tie.Need-same-length-13
-same-length-13 c = found c .plan .kept .1 .1 .1 .1 .1 .1 .1 .1 .1 .1 .1 .0
+same-length-13 c = found c .plan-job .kept .1 .1 .1 .1 .1 .1 .1 .1 .1 .0
 
 same-length-14 : tie.Need-same-length-14
 same-length-14 c = c .before .before .before .before .route-text .kept .1 .1 .1 .1 .1 .1 .1 .1 .0
@@ -99,14 +99,14 @@ returns-2 c =
     let t = c .before .before .before .before in
     let a = t .before .before .before .before .before in
     let p = plan-of (a .before .before) in
-    told-route (start p .args .job) (start p .pre) (plans-as (a .answer2 .given .1) (p .plan .ensures))
+    told-route (start p .args .job) (start p .pre) (planned-as (a .answer2 .given .1) (p .plan-job .ensures))
     (t .route-text .ensures)
 
 pub job-text-spec : {M : Type 1} → statement M
 job-text-spec =
     tie.close
     (tie.spec
-    plan-requires
+    plan-job-requires
     enum-known-answer
     refusal-number-requires
     put-refused-requires

@@ -60,7 +60,8 @@ work-same c =
     c .fill-counts .kept .1 .1 .1 .1 .1 .1 .1 .0
     ∙ ordered (shifted c) .costs-over-masks .kept .1 .1 .1 .1 .1 .1 .0
 
-goal-read : (c : tie.Else1) → start (shifted (counted c)) .args .b .0 < length (start (shifted (counted c)) .args .d .now)
+goal-read : (c : tie.Else1)
+    → let s = start (shifted (counted c)) .args in s .b .0 < length (s .d .now)
 goal-read c = found-sized (start (shifted (counted c)) .pre) .1
 
 goal-small : (c : tie.Else1) → start (shifted (counted c)) .args .b .0 < 16384

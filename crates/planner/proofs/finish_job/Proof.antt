@@ -1,6 +1,7 @@
--- `planner::finish_job` meets its contract: the masks are stored, and then the job is finished over them. Assumes nothing.
+-- `planner::finish_job` meets its contract: the masks are stored, and then the job is finished over them. Assumes
+-- nothing.
 use mathlib.Core.Path.{_∙_}
-use Rattle.planner.proofs.Shaped.{finishable-of}
+use Rattle.planner.proofs.Shaped.{finishable-on}
 use borrow.Author.Needs.{needs}
 use Rattle.planner.proofs.finish_job.Statement.{statement}
 use Rattle.planner.proofs.finish_job.Tie as tie
@@ -19,7 +20,7 @@ finish-over-masks-requires : tie.Need-finish-over-masks-requires
 finish-over-masks-requires c κs =
     let m = masked c in
     let P = m .before .before .before .before .before .before .before .before .before .pre in (
-      finishable-of (P .job) (P .lent) (P .costs) (m .store-masks .ensures .len ∙ P .lent .work-len),
+      finishable-on P (m .store-masks .ensures .len),
       m .store-masks .ensures .masks,
     )
 

@@ -93,10 +93,12 @@ same-length-6 c = found c .find-route .kept .1 .1 .1 .1 .1 .1 .1 .0
 
 same-length-7 : tie.Need-same-length-7
 same-length-7 c =
-    found c .find-route .kept .1 .1 .1 .1 .1 .1 .1 .1 .0 ∙ cleared-f (cleared-back (joined (found c))) .clear-u64 .kept .0
+    found c .find-route .kept .1 .1 .1 .1 .1 .1 .1 .1 .0
+    ∙ cleared-f (cleared-back (joined (found c))) .clear-u64 .kept .0
 
 same-length-8 : tie.Need-same-length-8
-same-length-8 c = found c .find-route .kept .1 .1 .1 .1 .1 .1 .1 .1 .1 .0 ∙ cleared-back (joined (found c)) .clear-u642 .kept .0
+same-length-8 c =
+    found c .find-route .kept .1 .1 .1 .1 .1 .1 .1 .1 .1 .0 ∙ cleared-back (joined (found c)) .clear-u642 .kept .0
 
 same-length-9 : tie.Need-same-length-9
 same-length-9 c = found c .find-route .kept .1 .1 .1 .1 .1 .1 .1 .1 .1 .1 .0 ∙ joined (found c) .clear-u16 .kept .0

@@ -1,9 +1,10 @@
--- `route::lend_map` meets its contract: a map has at most 961 cells. Depends on libc's write.
-use mathlib.Core.Path.{sym}
+-- `route::lend_map` meets its contract: a map has at most 961 cells, and so at most 1,024 vertices. Depends on libc's
+-- write.
+use mathlib.Core.Path.{sym, _∙_}
 use Prim.Native.Nat.{_*_, _≤_}
 use native.Mathlib.Omega.{arith}
 use Rattle.route.proofs.Sizes.{taken}
-use Rattle.route.proofs.Running.{few-cells}
+use Rattle.route.proofs.Running.{few-cells, map-sides, few-places}
 use borrow.Author.Needs.{needs}
 use Rattle.route.proofs.lend_map.Statement.{statement}
 use Rattle.route.proofs.lend_map.Tie as tie
@@ -11,17 +12,34 @@ use Rattle.route.proofs.lend_map.Tie as tie
 few : (c : tie.After-struct-known) → c .before .before .args .m .wide * c .before .before .args .m .high ≤ 961
 few c = few-cells _ _ _ (c .before .before .pre)
 
+few-costs : (c : tie.After-vertex-count) → c .vertex-count .result ≤ 1024
+few-costs c = omega (arith, few-places _ _ _ (c .before .before .before .pre), c .vertex-count .ensures .0)
+
 mul-n : tie.Need-mul-n
 mul-n c = omega (arith, few c)
 
+vertex-count-requires : tie.Need-vertex-count-requires
+vertex-count-requires c κs = map-sides _ _ _ (c .before .before .pre)
+
 array-borrow-prefix-map : tie.Need-array-borrow-prefix-map
-array-borrow-prefix-map c = few c
+array-borrow-prefix-map c = few (c .before)
 
 slice-aggregate-run-jobs : tie.Need-slice-aggregate-run-jobs
-slice-aggregate-run-jobs c = taken _ _ (few (c .before))
+slice-aggregate-run-jobs c = taken _ _ (few (c .before .before))
+
+array-borrow-prefix-d : tie.Need-array-borrow-prefix-d
+array-borrow-prefix-d c = few-costs (c .before)
+
+slice-aggregate-run-jobs-2 : tie.Need-slice-aggregate-run-jobs-2
+slice-aggregate-run-jobs-2 c = taken _ _ (few-costs (c .before .before))
 
 run-jobs-requires : tie.Need-run-jobs-requires
-run-jobs-requires c κs = (c .before .before .before .pre, sym (taken _ _ (few (c .before))))
+run-jobs-requires c κs =
+    let v = c .before .before in (
+      v .before .before .before .pre,
+      sym (taken _ _ (few (v .before))),
+      sym (taken _ _ (few-costs v)) ∙ v .vertex-count .ensures .0,
+    )
 
 returns : tie.Need-returns
 returns c = search needs
@@ -29,4 +47,12 @@ returns c = search needs
 pub lend-map-spec : {M : Type 1} → statement M
 lend-map-spec =
     tie.close
-    (tie.spec mul-n array-borrow-prefix-map slice-aggregate-run-jobs run-jobs-requires returns)
+    (tie.spec
+    mul-n
+    vertex-count-requires
+    array-borrow-prefix-map
+    slice-aggregate-run-jobs
+    array-borrow-prefix-d
+    slice-aggregate-run-jobs-2
+    run-jobs-requires
+    returns)

@@ -8,7 +8,7 @@ use Rattle.route.proofs.lend_turn.Statement.{statement}
 use Rattle.route.proofs.lend_turn.Tie as tie
 
 few : (c : tie.After-vertex-count) → c .vertex-count .result ≤ 1024
-few c = omega (arith, few-vertices (c .before .before .before .pre .1), c .vertex-count .ensures .0)
+few c = omega (arith, few-vertices (c .before .before .before .before .pre .1), c .vertex-count .ensures .0)
 
 vertex-count-requires : tie.Need-vertex-count-requires
 vertex-count-requires c κs = search needs
@@ -16,60 +16,56 @@ vertex-count-requires c κs = search needs
 mul-z : tie.Need-mul-z
 mul-z c = search needs
 
-array-borrow-prefix-d : tie.Need-array-borrow-prefix-d
-array-borrow-prefix-d c = few c
-
-slice-aggregate-write-turn : tie.Need-slice-aggregate-write-turn
-slice-aggregate-write-turn c = taken _ _ (few (c .before))
-
 array-borrow-prefix-e : tie.Need-array-borrow-prefix-e
 array-borrow-prefix-e c = few (c .before)
 
-slice-aggregate-write-turn-2 : tie.Need-slice-aggregate-write-turn-2
-slice-aggregate-write-turn-2 c = taken _ _ (few (c .before .before))
+slice-aggregate-write-turn : tie.Need-slice-aggregate-write-turn
+slice-aggregate-write-turn c = taken _ _ (few (c .before .before))
 
 array-borrow-prefix-f : tie.Need-array-borrow-prefix-f
 array-borrow-prefix-f c = few (c .before .before)
 
-slice-aggregate-write-turn-3 : tie.Need-slice-aggregate-write-turn-3
-slice-aggregate-write-turn-3 c = taken _ _ (few (c .before .before .before))
+slice-aggregate-write-turn-2 : tie.Need-slice-aggregate-write-turn-2
+slice-aggregate-write-turn-2 c = taken _ _ (few (c .before .before .before))
 
 array-borrow-prefix-back : tie.Need-array-borrow-prefix-back
 array-borrow-prefix-back c = few (c .before .before .before)
 
-slice-aggregate-write-turn-4 : tie.Need-slice-aggregate-write-turn-4
-slice-aggregate-write-turn-4 c = taken _ _ (few (c .before .before .before .before))
+slice-aggregate-write-turn-3 : tie.Need-slice-aggregate-write-turn-3
+slice-aggregate-write-turn-3 c = taken _ _ (few (c .before .before .before .before))
 
 array-borrow-prefix-route : tie.Need-array-borrow-prefix-route
 array-borrow-prefix-route c = few (c .before .before .before .before)
 
-slice-aggregate-write-turn-5 : tie.Need-slice-aggregate-write-turn-5
-slice-aggregate-write-turn-5 c = taken _ _ (few (c .before .before .before .before .before))
+slice-aggregate-write-turn-4 : tie.Need-slice-aggregate-write-turn-4
+slice-aggregate-write-turn-4 c = taken _ _ (few (c .before .before .before .before .before))
 
 array-borrow-prefix-work : tie.Need-array-borrow-prefix-work
 array-borrow-prefix-work c = omega (arith, few (c .before .before .before .before .before))
 
-slice-aggregate-write-turn-6 : tie.Need-slice-aggregate-write-turn-6
-slice-aggregate-write-turn-6 c = taken _ _ (omega (arith, few (c .before .before .before .before .before .before)))
+slice-aggregate-write-turn-5 : tie.Need-slice-aggregate-write-turn-5
+slice-aggregate-write-turn-5 c = taken _ _ (omega (arith, few (c .before .before .before .before .before .before)))
 
 array-borrow-prefix-kept : tie.Need-array-borrow-prefix-kept
 array-borrow-prefix-kept c = few (c .before .before .before .before .before .before)
 
-slice-aggregate-write-turn-7 : tie.Need-slice-aggregate-write-turn-7
-slice-aggregate-write-turn-7 c = taken _ _ (few (c .before .before .before .before .before .before .before))
+slice-aggregate-write-turn-6 : tie.Need-slice-aggregate-write-turn-6
+slice-aggregate-write-turn-6 c = taken _ _ (few (c .before .before .before .before .before .before .before))
 
-slice-aggregate-write-turn-8 : tie.Need-slice-aggregate-write-turn-8
-slice-aggregate-write-turn-8 c = search needs
+slice-aggregate-write-turn-7 : tie.Need-slice-aggregate-write-turn-7
+slice-aggregate-write-turn-7 c = search needs
 
 write-turn-requires : tie.Need-write-turn-requires
 write-turn-requires c κs =
     let v = c .before .before .before .before .before .before .before .before in
-    let s = v .before .before .before in (
+    let s = v .before .before .before .before in (
       s .pre .0,
-      lent (s .pre .1) (v .vertex-count .ensures .0) _ _ _ _ _ _ _ _
-          (omega arith) (omega arith) (omega arith) (omega arith)
-          (omega arith) (omega arith) (omega arith) (omega arith),
+      lent (s .pre .1) (s .pre .2) (v .vertex-count .ensures .0) _ _ _ _ _ _ _
+          (omega arith) (omega arith) (omega arith) (omega arith) (omega arith) (omega arith) (omega arith),
     )
+
+same-length : tie.Need-same-length
+same-length c = search needs
 
 returns : tie.Need-returns
 returns c = search needs
@@ -80,20 +76,19 @@ lend-turn-spec =
     (tie.spec
     vertex-count-requires
     mul-z
-    array-borrow-prefix-d
-    slice-aggregate-write-turn
     array-borrow-prefix-e
-    slice-aggregate-write-turn-2
+    slice-aggregate-write-turn
     array-borrow-prefix-f
-    slice-aggregate-write-turn-3
+    slice-aggregate-write-turn-2
     array-borrow-prefix-back
-    slice-aggregate-write-turn-4
+    slice-aggregate-write-turn-3
     array-borrow-prefix-route
-    slice-aggregate-write-turn-5
+    slice-aggregate-write-turn-4
     array-borrow-prefix-work
-    slice-aggregate-write-turn-6
+    slice-aggregate-write-turn-5
     array-borrow-prefix-kept
+    slice-aggregate-write-turn-6
     slice-aggregate-write-turn-7
-    slice-aggregate-write-turn-8
     write-turn-requires
+    same-length
     returns)

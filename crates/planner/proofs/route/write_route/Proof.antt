@@ -93,8 +93,8 @@ next : (c : tie.After-next-at Inv-loop μ-loop)
     → let at = c .before .before .before in
     let a = start at .args in
     c .next-at .result
-    ≡ nextFrom (nextOf (a .rows) (a .shifts .now) (maskAt (length (a .d .now)) (a .work .now) (at .loop .at)) (a .d .now)
-    (a .e .now) (a .f .now) (a .back .now) (a .b) (at .loop .at))
+    ≡ nextFrom (nextOf (a .rows) (a .shifts .now) (maskAt (length (a .d .now)) (a .work .now) (at .loop .at))
+    (a .d .now) (a .e .now) (a .f .now) (a .back .now) (a .b) (at .loop .at))
 next c = rw (c .before .mask-at .ensures) at (c .next-at .ensures)
 
 enum-known-next : tie.Need-enum-known-next Inv-loop μ-loop

@@ -1,17 +1,16 @@
--- `capi::lurfanzi_plan` meets its contract: it hands its numbers and slices on to `planner::plan`. Assumes nothing.
-use Rattle.capi.proofs.Given.{plans-to}
+-- `capi::lurfanzi_finish` meets its contract: it hands its numbers and slices on to `planner::finish`. Assumes nothing.
+use Rattle.capi.proofs.Given.{finishes-to}
 use borrow.Author.Needs.{needs}
-use Rattle.capi.proofs.lurfanzi_plan.Statement.{statement}
-use Rattle.capi.proofs.lurfanzi_plan.Tie as tie
+use Rattle.capi.proofs.lurfanzi_finish.Statement.{statement}
+use Rattle.capi.proofs.lurfanzi_finish.Tie as tie
 
 -- The call of the planner, from the return.
-abbrev planned : tie.After-plan-number → tie.After-plan
-planned c =
+abbrev finished : tie.After-plan-number → tie.After-finish
+finished c =
     c .before .before .before .before .before .before .before .before .before .before .before .before .before .before
-    .before .before
 
-plan-requires : tie.Need-plan-requires
-plan-requires c κs = search needs
+finish-requires : tie.Need-finish-requires
+finish-requires c κs = search needs
 
 plan-total-requires : tie.Need-plan-total-requires
 plan-total-requires c κs = search needs
@@ -26,33 +25,30 @@ plan-number-requires : tie.Need-plan-number-requires
 plan-number-requires c κs = search needs
 
 same-length : tie.Need-same-length
-same-length c = planned c .plan .kept .1 .1 .1 .1 .1 .1 .0
+same-length c = finished c .finish .kept .1 .1 .1 .1 .1 .1 .1 .0
 
 same-length-2 : tie.Need-same-length-2
-same-length-2 c = planned c .plan .kept .1 .1 .1 .1 .1 .1 .1 .0
+same-length-2 c = finished c .finish .kept .1 .1 .1 .1 .1 .1 .1 .1 .0
 
 same-length-3 : tie.Need-same-length-3
-same-length-3 c = planned c .plan .kept .1 .1 .1 .1 .1 .1 .1 .1 .0
+same-length-3 c = finished c .finish .kept .1 .1 .1 .1 .1 .1 .1 .1 .1 .0
 
 same-length-4 : tie.Need-same-length-4
-same-length-4 c = planned c .plan .kept .1 .1 .1 .1 .1 .1 .1 .1 .1 .0
+same-length-4 c = finished c .finish .kept .1 .1 .1 .1 .1 .1 .1 .1 .1 .1 .0
 
 same-length-5 : tie.Need-same-length-5
-same-length-5 c = planned c .plan .kept .1 .1 .1 .1 .1 .1 .1 .1 .1 .1 .0
-
-same-length-6 : tie.Need-same-length-6
-same-length-6 c = planned c .plan .kept .1 .1 .1 .1 .1 .1 .1 .1 .1 .1 .1 .0
+same-length-5 c = finished c .finish .kept .1 .1 .1 .1 .1 .1 .1 .1 .1 .1 .1 .0
 
 returns : tie.Need-returns
 returns c =
-    plans-to (planned c .plan .ensures) (c .before .before .before .plan-total .ensures)
+    finishes-to (finished c .finish .ensures) (c .before .before .before .plan-total .ensures)
     (c .before .before .plan-points .ensures) (c .before .plan-cost .ensures) (c .plan-number .ensures)
 
-pub lurfanzi-plan-spec : {M : Type 1} → statement M
-lurfanzi-plan-spec =
+pub lurfanzi-finish-spec : {M : Type 1} → statement M
+lurfanzi-finish-spec =
     tie.close
     (tie.spec
-    plan-requires
+    finish-requires
     plan-total-requires
     plan-points-requires
     plan-cost-requires
@@ -62,5 +58,4 @@ lurfanzi-plan-spec =
     same-length-3
     same-length-4
     same-length-5
-    same-length-6
     returns)
