@@ -39,7 +39,7 @@
 extern "C" {
 #endif
 
-/* The answers. A call gives the first refusal that applies, in the order of these numbers. */
+/* The answers. A call gives the first refusal that applies, in the order in which its function lists them below. */
 enum {
     LURFANZI_OK = 0,
     LURFANZI_BAD_SIZE = 1,          /* a side is not 1 to 127 */
@@ -50,7 +50,8 @@ enum {
     LURFANZI_BAD_SLICE_LENGTH = 6,  /* a lent slice has another length than asked */
     LURFANZI_NO_ROUTE = 7,          /* no open walk joins the ends; from lurfanzi_check: a true no-route sheet */
     LURFANZI_TOO_MANY = 8,          /* the cheapest routes number more than 2^64 - 1 */
-    LURFANZI_FALSE_SHEET = 9,       /* the sheet is not a true one */
+    LURFANZI_FALSE_SHEET = 9,       /* numbers handed in are not the true ones: the costs that lurfanzi_finish is
+                                       given, the sheet that lurfanzi_check is asked about */
     LURFANZI_NOT_JOINED = 10,       /* n is 0 or above list_length, or one of the first n numbers is not below V or
                                        does not see the next */
     LURFANZI_BAD_CLOSURE = 12,      /* the rectangle is empty or leaves the floor */
@@ -75,7 +76,7 @@ enum {
 
 /* Do the vertices a and b see each other?
  *
- * Answers LURFANZI_SIGHT_YES or LURFANZI_SIGHT_NO, or refuses with 1, 2, 3 or 5. Writes nothing.
+ * Answers LURFANZI_SIGHT_YES or LURFANZI_SIGHT_NO, or refuses with 1, 2, 3 or 5, in this order. Writes nothing.
  */
 uint8_t lurfanzi_sight(uint32_t width, uint32_t height, const uint8_t *map, size_t map_length, uint32_t a, uint32_t b);
 
@@ -93,47 +94,78 @@ typedef struct {
  *                           equals least far in rows: map[place] is its byte
  * 102         a vertex      a step of a segment along a grid line is shut: the vertex where the first one begins, going
  *                           from a
- * 1, 2, 3, 5  0             refused
+ * 1, 2, 3, 5  0             refused, in this order
  *
  * Asked from b to a it may name another cell or step; whether the way is clear stays the same.
  */
 lurfanzi_obstacle_result lurfanzi_obstacle(
     uint32_t width, uint32_t height, const uint8_t *map, size_t map_length, uint32_t a, uint32_t b);
 
+/* A job is planned in two calls: lurfanzi_costs fills d, the costs from its first end, and lurfanzi_finish does the
+ * rest. The costs serve every job from that vertex with the same floor and neighbourhood, so that forty carts from one
+ * dock need one call of the first and forty of the second.
+ *
+ * Fills d with the costs from vertex a.
+ *
+ * d          V costs from a; LURFANZI_UNREACHABLE where there is no walk
+ * work       4 * V numbers of working memory; what it holds at entry does not matter
+ *
+ * answer     d          work
+ * 0          true       0
+ * 1 to 6     untouched  untouched
+ *
+ * Refuses with 1, 2, 3, 4, 5 for a, and 6 for d and work, in this order.
+ */
+uint8_t lurfanzi_costs(
+    uint32_t width, uint32_t height, const uint8_t *map, size_t map_length, uint32_t neighbourhood, uint32_t a,
+    uint32_t *d, size_t d_length, uint32_t *work, size_t work_length);
+
 typedef struct {
     uint64_t total;  /* the number of cheapest routes */
     size_t points;   /* the number of vertices of the central route, its ends among them */
     uint32_t cost;   /* its cost */
-    uint8_t answer;  /* 0, or a refusal 1 to 8; the other members are 0 at a refusal */
+    uint8_t answer;  /* 0, or a refusal 1 to 9; the other members are 0 at a refusal */
 } lurfanzi_plan_result;
 
-/* Plans the central route from vertex a to vertex b, and fills its sheet. From each vertex the route takes, of the open
- * moves that lead on along a cheapest route, the one to the vertex with the highest f * back, of equals the first in
- * the order of moves. With a = b it is that one vertex, at cost 0.
+/* Finishes the job from vertex a to vertex b: plans its central route and fills the rest of its sheet. From each vertex
+ * the route takes, of the open moves that lead on along a cheapest route, the one to the vertex with the highest
+ * f * back, of equals the first in the order of moves. With a = b it is that one vertex, at cost 0.
  *
- * d, e       V costs: d from a, e to b; LURFANZI_UNREACHABLE where there is no walk
+ * d          V costs from a, as lurfanzi_costs leaves them. They are read, and never written: many jobs may be finished
+ *            from one d, also by calls at the same time. They are tested, and not trusted: where any of them is not
+ *            true the answer is 9, whoever made them.
+ * e          V costs to b; LURFANZI_UNREACHABLE where there is no walk
  * f, back    V counts of cheapest walks: f from a, back to b; 0 off the cheapest routes
  * route      V vertices: the points of the route, then 0
  * work       4 * V numbers of working memory; what it holds at entry does not matter
  *
- * answer     d          e          f, back    route      work
- * 0          true       true       true       true       0
- * 1 to 6     untouched  untouched  untouched  untouched  untouched
- * 7          true       0          0          0          0
- * 8          true       true       0          0          0
+ * answer     e          f, back    route      work
+ * 0          true       true       true       0
+ * 1 to 6     untouched  untouched  untouched  untouched
+ * 9          untouched  untouched  untouched  untouched
+ * 7          0          0          0          0
+ * 8          true       0          0          0
+ *
+ * Refuses with 1, 2, 3, 4, 5 for a or b, 6 for each of the six slices, 9, 7 and 8, in this order. A call is of good
+ * shape where none of 1 to 6 and 9 applies: a d that is not true is answered with 9 also where no walk joins the ends,
+ * and where the routes are too many.
  */
-lurfanzi_plan_result lurfanzi_plan(
+lurfanzi_plan_result lurfanzi_finish(
     uint32_t width, uint32_t height, const uint8_t *map, size_t map_length,
     uint32_t neighbourhood, uint32_t a, uint32_t b,
-    uint32_t *d, size_t d_length, uint32_t *e, size_t e_length, uint64_t *f, size_t f_length,
+    const uint32_t *d, size_t d_length, uint32_t *e, size_t e_length, uint64_t *f, size_t f_length,
     uint64_t *back, size_t back_length, uint16_t *route, size_t route_length, uint32_t *work, size_t work_length);
 
 /* Checks a filled sheet from any planner, with n the number of its route's points. Writes nothing.
  *
- * Answers 0 exactly when every slice and n are the true route sheet, as lurfanzi_plan leaves it at answer 0;
- * LURFANZI_NO_ROUTE exactly when they are the true no-route sheet, as it leaves it at answer 7, with n = 0; and
- * LURFANZI_FALSE_SHEET for every other sheet, also for an n above V and for every sheet of a job that lurfanzi_plan
- * answers with 8. Or it refuses with 1 to 6: each of the five slices must have V places.
+ * answer
+ * 0          exactly when every slice and n are the true route sheet: d as lurfanzi_costs leaves it, the rest as
+ *            lurfanzi_finish does at answer 0
+ * 7          exactly when they are the true no-route sheet: d as lurfanzi_costs leaves it, the rest as lurfanzi_finish
+ *            does at answer 7, with n = 0
+ * 9          every other sheet, also for an n above V, and every sheet of a job that lurfanzi_finish answers with 8
+ *            from true costs
+ * 1 to 6     refused before these, in this order: 5 for a or b, 6 for each of the five slices, which have V places
  */
 uint8_t lurfanzi_check(
     uint32_t width, uint32_t height, const uint8_t *map, size_t map_length,
@@ -153,6 +185,8 @@ typedef struct {
  *
  * list       at most 16,384 places; those past n are not read
  * out        as long as list: at answer 0 the kept positions in list, then 0; untouched at a refusal
+ *
+ * Refuses with 1, 2, 3, 6 where list has more places or out has another length, and 10, in this order.
  */
 lurfanzi_thin_result lurfanzi_thin(
     uint32_t width, uint32_t height, const uint8_t *map, size_t map_length,
@@ -182,7 +216,7 @@ typedef struct {
  *
  * answer     slots
  * 0          the four numbers of the slot answered are column, row, columns, rows; all others are untouched
- * 1, 12, 13  untouched
+ * 1, 12, 13  untouched; refused, in this order
  */
 lurfanzi_post_result lurfanzi_post(
     uint32_t width, uint32_t height, uint32_t slots[LURFANZI_TABLE],
@@ -192,7 +226,7 @@ lurfanzi_post_result lurfanzi_post(
  *
  * answer     slots
  * 0          the four numbers of that slot are 0; all others are untouched
- * 1, 14      untouched
+ * 1, 14      untouched; refused, in this order
  */
 uint8_t lurfanzi_strike(uint32_t width, uint32_t height, uint32_t slots[LURFANZI_TABLE], uint32_t slot);
 
@@ -202,8 +236,8 @@ uint8_t lurfanzi_strike(uint32_t width, uint32_t height, uint32_t slots[LURFANZI
  * base       width * height bytes, a map; read
  * map        as long as base: at answer 0 the working map; untouched at a refusal
  *
- * Answers 0, or refuses with 1, with 2 or 3 for the base map, or with 6 where map_length is not base_length. The table
- * is read, and tested for nothing.
+ * Answers 0, or refuses with 1, with 2 or 3 for the base map, or with 6 where map_length is not base_length, in this
+ * order. The table is read, and tested for nothing.
  */
 uint8_t lurfanzi_working_map(
     uint32_t width, uint32_t height, const uint32_t slots[LURFANZI_TABLE],

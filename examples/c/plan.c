@@ -1,5 +1,6 @@
-/* Plans a route round a wall, then round a closure that is posted on the floor and struck again. Each sheet is checked,
- * and each route thinned to the vertices that a cart needs. */
+/* Plans two jobs from one dock round a wall, then round a closure that is posted on the floor and struck again. The
+ * costs from the dock are worked out once for each map. Each sheet is checked, and each route thinned to the vertices
+ * that a cart needs. */
 #include <inttypes.h>
 #include <stdio.h>
 #include "lurfanzi.h"
@@ -59,17 +60,25 @@ static int show_obstacle(uint32_t a, uint32_t b)
     }
 }
 
-/* Plans from vertex a to vertex b, checks the sheet and thins the route; whether all three answered 0. */
-static int show_plan(uint32_t a, uint32_t b)
+/* Finishes the job from vertex a to vertex b from the costs in d. */
+static lurfanzi_plan_result finish_job(uint32_t a, uint32_t b)
 {
-    lurfanzi_plan_result plan = lurfanzi_plan(
+    return lurfanzi_finish(
         WIDTH, HEIGHT, map, sizeof map, NEIGHBOURHOOD, a, b,
         d, VERTICES, e, VERTICES, f, VERTICES, back, VERTICES, route, VERTICES, work, 4 * VERTICES);
+}
+
+/* Finishes a job, checks the sheet and thins the route; whether all three answered 0. */
+static int show_job(uint32_t a, uint32_t b)
+{
+    lurfanzi_plan_result plan = finish_job(a, b);
+    printf("to");
+    print_vertex(b);
     if (plan.answer != LURFANZI_OK) {
-        printf("the planner refused: %d\n", plan.answer);
+        printf(": refused %d\n", plan.answer);
         return 0;
     }
-    printf("cost %" PRIu32 ", cheapest routes %" PRIu64 ", points %zu\n", plan.cost, plan.total, plan.points);
+    printf(": cost %" PRIu32 ", cheapest routes %" PRIu64 ", points %zu\n", plan.cost, plan.total, plan.points);
     printf("route:");
     for (size_t k = 0; k < plan.points; k++) print_vertex(route[k]);
     printf("\n");
@@ -87,6 +96,14 @@ static int show_plan(uint32_t a, uint32_t b)
     return verdict == LURFANZI_OK && thin.answer == LURFANZI_OK;
 }
 
+/* Plans two jobs from one dock: their costs from it are worked out once. */
+static int show_jobs(uint32_t dock, uint32_t b, uint32_t c)
+{
+    uint8_t answer = lurfanzi_costs(
+        WIDTH, HEIGHT, map, sizeof map, NEIGHBOURHOOD, dock, d, VERTICES, work, 4 * VERTICES);
+    return answer == LURFANZI_OK && show_job(dock, b) && show_job(dock, c);
+}
+
 /* Writes the map with the closures on it; whether the library took it. */
 static int draw_map(void)
 {
@@ -95,18 +112,20 @@ static int draw_map(void)
 
 int main(void)
 {
-    const uint32_t a = vertex(0, 4), b = vertex(7, 5), corner = vertex(4, 1);
+    const uint32_t dock = vertex(0, 4), b = vertex(7, 5), c = vertex(7, 0), corner = vertex(4, 1);
 
-    if (!draw_map() || !show_obstacle(a, b) || !show_plan(a, b)) return 1;
+    if (!draw_map() || !show_obstacle(dock, b) || !show_jobs(dock, b, c)) return 1;
 
     /* A wet floor of 2 by 2 cells, from column 4 and row 1 on. */
     lurfanzi_post_result posted = lurfanzi_post(WIDTH, HEIGHT, slots, 4, 1, 2, 2);
     if (posted.answer != LURFANZI_OK) return 1;
     printf("posted in slot %" PRIu32 "\n", posted.slot);
-    if (!draw_map() || !show_obstacle(corner, b) || !show_plan(a, b)) return 1;
+    if (!draw_map() || !show_obstacle(corner, b)) return 1;
+    printf("from the costs of the map before: answer %d\n", finish_job(dock, b).answer);
+    if (!show_jobs(dock, b, c)) return 1;
 
     if (lurfanzi_strike(WIDTH, HEIGHT, slots, posted.slot) != LURFANZI_OK) return 1;
     printf("struck slot %" PRIu32 "\n", posted.slot);
-    if (!draw_map() || !show_obstacle(corner, b) || !show_plan(a, b)) return 1;
+    if (!draw_map() || !show_obstacle(corner, b) || !show_jobs(dock, b, c)) return 1;
     return 0;
 }

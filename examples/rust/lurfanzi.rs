@@ -22,10 +22,9 @@ pub struct Job {
     pub b: u32,
 }
 
-/// The five slices of a sheet, to be filled. Each has a place for every vertex.
+/// The slices of a sheet that `finish` fills: all but d. Each has a place for every vertex.
 #[derive(Debug)]
 pub struct SheetMut<'a> {
-    pub d: &'a mut [u32],
     pub e: &'a mut [u32],
     pub f: &'a mut [u64],
     pub back: &'a mut [u64],
@@ -96,6 +95,7 @@ pub enum Refusal {
     BadSliceLength,
     NoRoute,
     TooMany,
+    FalseCosts,
     NotJoined,
     BadClosure,
     SlotsFull,
@@ -115,6 +115,7 @@ impl Refusal {
             6 => Refusal::BadSliceLength,
             7 => Refusal::NoRoute,
             8 => Refusal::TooMany,
+            9 => Refusal::FalseCosts,
             10 => Refusal::NotJoined,
             12 => Refusal::BadClosure,
             13 => Refusal::SlotsFull,
@@ -133,6 +134,7 @@ impl Refusal {
             Refusal::BadSliceLength => 6,
             Refusal::NoRoute => 7,
             Refusal::TooMany => 8,
+            Refusal::FalseCosts => 9,
             Refusal::NotJoined => 10,
             Refusal::BadClosure => 12,
             Refusal::SlotsFull => 13,
@@ -153,6 +155,7 @@ impl std::fmt::Display for Refusal {
             Refusal::BadSliceLength => "a slice has another length than asked",
             Refusal::NoRoute => "no open walk joins the ends",
             Refusal::TooMany => "the cheapest routes number more than 2^64 - 1",
+            Refusal::FalseCosts => "the costs handed in are not those from the first end",
             Refusal::NotJoined => "the list is not a joined list of vertices",
             Refusal::BadClosure => "the rectangle is empty or leaves the floor",
             Refusal::SlotsFull => "no slot is free",
@@ -173,9 +176,9 @@ impl Floor<'_> {
 }
 
 impl SheetMut<'_> {
-    /// The sheet as it stands, for `check`.
-    pub fn read(&self, points: usize) -> Sheet<'_> {
-        Sheet { d: self.d, e: self.e, f: self.f, back: self.back, route: self.route, points }
+    /// The sheet as it stands, with the costs from the first end, for `check`.
+    pub fn read<'b>(&'b self, d: &'b [u32], points: usize) -> Sheet<'b> {
+        Sheet { d, e: self.e, f: self.f, back: self.back, route: self.route, points }
     }
 }
 
@@ -233,10 +236,17 @@ pub fn obstacle(floor: Floor, a: u32, b: u32) -> Result<Obstacle, Refusal> {
     }
 }
 
-/// Plans the central route and fills its sheet; `work` has four places for every vertex. The header says what each
-/// slice holds at each refusal.
-pub fn plan(floor: Floor, job: Job, sheet: &mut SheetMut, work: &mut [u32]) -> Result<Plan, Refusal> {
-    let result = call::plan(floor, job, sheet, work);
+/// Fills `d` with the costs from the vertex `a`; `work` has four places for every vertex. Every job from `a` with this
+/// floor and neighbourhood can be finished from them.
+pub fn costs(floor: Floor, neighbourhood: u32, a: u32, d: &mut [u32], work: &mut [u32]) -> Result<(), Refusal> {
+    done(call::costs(floor, neighbourhood, a, d, work))
+}
+
+/// Plans the central route and fills the rest of its sheet, from the costs `d` from the job's first end, which are
+/// tested; `work` has four places for every vertex. Many jobs may share `d`. The header says what each slice holds at
+/// each refusal.
+pub fn finish(floor: Floor, job: Job, d: &[u32], sheet: &mut SheetMut, work: &mut [u32]) -> Result<Plan, Refusal> {
+    let result = call::finish(floor, job, d, sheet, work);
     match result.answer {
         0 => Ok(Plan { cost: result.cost, total: result.total, points: result.points }),
         number => Err(Refusal::from_number(number)),
@@ -315,9 +325,14 @@ mod call {
             base: *const u8, base_length: usize, map: *mut u8, map_length: usize,
         ) -> u8;
 
-        fn lurfanzi_plan(
+        fn lurfanzi_costs(
+            width: u32, height: u32, map: *const u8, map_length: usize, neighbourhood: u32, a: u32,
+            d: *mut u32, d_length: usize, work: *mut u32, work_length: usize,
+        ) -> u8;
+
+        fn lurfanzi_finish(
             width: u32, height: u32, map: *const u8, map_length: usize, neighbourhood: u32, a: u32, b: u32,
-            d: *mut u32, d_length: usize, e: *mut u32, e_length: usize, f: *mut u64, f_length: usize,
+            d: *const u32, d_length: usize, e: *mut u32, e_length: usize, f: *mut u64, f_length: usize,
             back: *mut u64, back_length: usize, route: *mut u16, route_length: usize,
             work: *mut u32, work_length: usize,
         ) -> PlanResult;
@@ -365,12 +380,22 @@ mod call {
         }
     }
 
-    pub fn plan(floor: Floor, job: Job, sheet: &mut SheetMut, work: &mut [u32]) -> PlanResult {
-        // SAFETY: the map is a shared slice, the six others are exclusive ones.
+    pub fn costs(floor: Floor, neighbourhood: u32, a: u32, d: &mut [u32], work: &mut [u32]) -> u8 {
+        // SAFETY: the map is a shared slice, the two others are exclusive ones.
         unsafe {
-            lurfanzi_plan(
+            lurfanzi_costs(
+                floor.width, floor.height, floor.map.as_ptr(), floor.map.len(), neighbourhood, a,
+                d.as_mut_ptr(), d.len(), work.as_mut_ptr(), work.len(),
+            )
+        }
+    }
+
+    pub fn finish(floor: Floor, job: Job, d: &[u32], sheet: &mut SheetMut, work: &mut [u32]) -> PlanResult {
+        // SAFETY: the map and d are shared slices, the five others are exclusive ones.
+        unsafe {
+            lurfanzi_finish(
                 floor.width, floor.height, floor.map.as_ptr(), floor.map.len(), job.neighbourhood, job.a, job.b,
-                sheet.d.as_mut_ptr(), sheet.d.len(), sheet.e.as_mut_ptr(), sheet.e.len(),
+                d.as_ptr(), d.len(), sheet.e.as_mut_ptr(), sheet.e.len(),
                 sheet.f.as_mut_ptr(), sheet.f.len(), sheet.back.as_mut_ptr(), sheet.back.len(),
                 sheet.route.as_mut_ptr(), sheet.route.len(), work.as_mut_ptr(), work.len(),
             )
@@ -410,14 +435,16 @@ mod tests {
 
     type Answers = (Result<Plan, Refusal>, Result<Verdict, Refusal>);
 
-    /// Slices of the given lengths, planned on: the answer, and the checker's for the same slices.
+    /// Slices of the given lengths, filled by both calls: the first refusal, or the plan, and the checker's answer for
+    /// the same slices.
     fn plan_and_check(floor: Floor, job: Job, length: usize, work: usize) -> Answers {
         let (mut d, mut e, mut f) = (vec![7; length], vec![7; length], vec![7; length]);
         let (mut back, mut route, mut work) = (vec![7; length], vec![7; length], vec![7; work]);
-        let mut sheet = SheetMut { d: &mut d, e: &mut e, f: &mut f, back: &mut back, route: &mut route };
-        let planned = plan(floor, job, &mut sheet, &mut work);
+        let mut sheet = SheetMut { e: &mut e, f: &mut f, back: &mut back, route: &mut route };
+        let planned = costs(floor, job.neighbourhood, job.a, &mut d, &mut work)
+            .and_then(|()| finish(floor, job, &d, &mut sheet, &mut work));
         let points = planned.map_or(0, |route| route.points);
-        (planned, check(floor, job, sheet.read(points)))
+        (planned, check(floor, job, sheet.read(&d, points)))
     }
 
     fn refused(floor: Floor, job: Job, length: usize, refusal: Refusal) {
@@ -446,6 +473,37 @@ mod tests {
         refused(OPEN, JOB, 5, Refusal::BadSliceLength);
         refused(OPEN, JOB, 0, Refusal::BadSliceLength);
         assert_eq!(plan_and_check(OPEN, JOB, 6, 23).0, Err(Refusal::BadSliceLength));
+    }
+
+    /// Finishes a job from these costs, with an output slice of the given length; nothing is touched at a refusal of
+    /// shape.
+    fn finish_from(floor: Floor, job: Job, d: &[u32], length: usize) -> Result<Plan, Refusal> {
+        let (mut e, mut f, mut back, mut route, mut work) = ([7; 6], [7; 6], [7; 6], vec![7; length], [7; 24]);
+        let mut sheet = SheetMut { e: &mut e, f: &mut f, back: &mut back, route: &mut route };
+        let planned = finish(floor, job, d, &mut sheet, &mut work);
+        if !matches!(planned, Ok(_) | Err(Refusal::NoRoute)) {
+            assert_eq!((e, f, back, route, work), ([7; 6], [7; 6], [7; 6], vec![7; length], [7; 24]));
+        }
+        planned
+    }
+
+    #[test]
+    fn one_start() {
+        let (mut d, mut work) = ([7; 6], [7; 24]);
+        assert_eq!(costs(OPEN, 8, 0, &mut d, &mut work), Ok(()));
+        assert_eq!((d, work), ([0, 408, 816, 408, 577, 985], [0; 24]));
+        assert_eq!(finish_from(OPEN, JOB, &d, 6), Ok(Plan { cost: 985, total: 2, points: 3 }));
+        assert_eq!(finish_from(OPEN, Job { b: 4, ..JOB }, &d, 6), Ok(Plan { cost: 577, total: 1, points: 2 }));
+        assert_eq!(finish_from(OPEN, Job { b: 0, ..JOB }, &d, 6), Ok(Plan { cost: 0, total: 1, points: 1 }));
+        assert_eq!(finish_from(OPEN, Job { a: 1, ..JOB }, &d, 6), Err(Refusal::FalseCosts));
+        assert_eq!(finish_from(OPEN, Job { neighbourhood: 4, ..JOB }, &d, 6), Err(Refusal::FalseCosts));
+        assert_eq!(finish_from(SHUT, JOB, &d, 6), Err(Refusal::FalseCosts));
+        assert_eq!(finish_from(SHUT, JOB, &d, 5), Err(Refusal::BadSliceLength));
+        assert_eq!(finish_from(OPEN, JOB, &d[..5], 6), Err(Refusal::BadSliceLength));
+        assert_eq!(finish_from(OPEN, Job { b: 6, ..JOB }, &d[..5], 6), Err(Refusal::BadEnd));
+        assert_eq!(costs(SHUT, 8, 0, &mut d, &mut work), Ok(()));
+        assert_eq!(d, [0, 408, UNREACHABLE, 408, 577, UNREACHABLE]);
+        assert_eq!(finish_from(SHUT, JOB, &d, 6), Err(Refusal::NoRoute));
     }
 
     #[test]

@@ -1,15 +1,17 @@
-//! Plans a route round a wall, then round a closure that is posted on the floor and struck again. Each sheet is
-//! checked, and each route thinned to the vertices that a cart needs.
+//! Plans two jobs from one dock round a wall, then round a closure that is posted on the floor and struck again. The
+//! costs from the dock are worked out once for each map. Each sheet is checked, and each route thinned to the vertices
+//! that a cart needs.
 
 // Not every item of the wrapper is used here.
 #[allow(dead_code)]
 mod lurfanzi;
 
-use lurfanzi::{check, obstacle, plan, thin, Closures, Floor, Job, Obstacle, Rectangle, Refusal, SheetMut};
+use lurfanzi::{check, costs, finish, obstacle, thin, Closures, Floor, Job, Obstacle, Rectangle, Refusal, SheetMut};
 
 const WIDTH: u32 = 7;
 const HEIGHT: u32 = 5;
 const COLUMNS: u32 = WIDTH + 1;
+const NEIGHBOURHOOD: u32 = 8;
 
 const BASE: [u8; 35] = [
     0, 0, 0, 0, 0, 0, 0, //
@@ -42,17 +44,17 @@ fn show_obstacle(floor: Floor, a: u32, b: u32) -> Result<(), Refusal> {
     Ok(())
 }
 
-/// Plans, checks the sheet and thins the route.
-fn show_plan(floor: Floor, job: Job) -> Result<(), Refusal> {
+/// Finishes a job from the costs of its first end, checks the sheet and thins the route.
+fn show_job(floor: Floor, job: Job, d: &[u32]) -> Result<(), Refusal> {
     let vertices = floor.vertices();
-    let (mut d, mut e, mut f) = (vec![0; vertices], vec![0; vertices], vec![0; vertices]);
+    let (mut e, mut f) = (vec![0; vertices], vec![0; vertices]);
     let (mut back, mut route) = (vec![0; vertices], vec![0; vertices]);
-    let mut sheet = SheetMut { d: &mut d, e: &mut e, f: &mut f, back: &mut back, route: &mut route };
+    let mut sheet = SheetMut { e: &mut e, f: &mut f, back: &mut back, route: &mut route };
 
-    let found = plan(floor, job, &mut sheet, &mut vec![0; 4 * vertices])?;
-    println!("cost {}, cheapest routes {}, points {}", found.cost, found.total, found.points);
+    let found = finish(floor, job, d, &mut sheet, &mut vec![0; 4 * vertices])?;
+    println!("to {}: cost {}, cheapest routes {}, points {}", point(job.b), found.cost, found.total, found.points);
     println!("route:{}", text(sheet.route.iter().copied().take(found.points)));
-    println!("the checker says {:?}", check(floor, job, sheet.read(found.points))?);
+    println!("the checker says {:?}", check(floor, job, sheet.read(d, found.points))?);
 
     let mut kept = vec![0; vertices];
     let count = thin(floor, sheet.route, &mut kept, found.points)?;
@@ -61,12 +63,21 @@ fn show_plan(floor: Floor, job: Job) -> Result<(), Refusal> {
     Ok(())
 }
 
+/// Plans jobs from one dock: the costs from it are worked out once, and the jobs share them.
+fn show_jobs(floor: Floor, dock: u32, ends: &[u32]) -> Result<Vec<u32>, Refusal> {
+    let mut d = vec![0; floor.vertices()];
+    costs(floor, NEIGHBOURHOOD, dock, &mut d, &mut vec![0; 4 * floor.vertices()])?;
+    for &b in ends {
+        show_job(floor, Job { neighbourhood: NEIGHBOURHOOD, a: dock, b }, &d)?;
+    }
+    Ok(d)
+}
+
 fn main() -> Result<(), Refusal> {
-    let job = Job { neighbourhood: 8, a: vertex(0, 4), b: vertex(7, 5) };
-    let corner = vertex(4, 1);
+    let (dock, ends, corner) = (vertex(0, 4), [vertex(7, 5), vertex(7, 0)], vertex(4, 1));
     let base = Floor { width: WIDTH, height: HEIGHT, map: &BASE };
-    show_obstacle(base, job.a, job.b)?;
-    show_plan(base, job)?;
+    show_obstacle(base, dock, ends[0])?;
+    let d = show_jobs(base, dock, &ends)?;
 
     // A wet floor of 2 by 2 cells, from column 4 and row 1 on.
     let mut closures = Closures::new(WIDTH, HEIGHT);
@@ -74,12 +85,17 @@ fn main() -> Result<(), Refusal> {
     println!("posted in slot {slot}");
     let mut map = BASE;
     closures.working_map(&BASE, &mut map)?;
-    show_obstacle(Floor { map: &map, ..base }, corner, job.b)?;
-    show_plan(Floor { map: &map, ..base }, job)?;
+    let wet = Floor { map: &map, ..base };
+    show_obstacle(wet, corner, ends[0])?;
+    let stale = show_job(wet, Job { neighbourhood: NEIGHBOURHOOD, a: dock, b: ends[0] }, &d);
+    println!("from the costs of the map before: {stale:?}");
+    show_jobs(wet, dock, &ends)?;
 
     closures.strike(slot)?;
     println!("struck slot {slot}");
     closures.working_map(&BASE, &mut map)?;
-    show_obstacle(Floor { map: &map, ..base }, corner, job.b)?;
-    show_plan(Floor { map: &map, ..base }, job)
+    let dry = Floor { map: &map, ..base };
+    show_obstacle(dry, corner, ends[0])?;
+    show_jobs(dry, dock, &ends)?;
+    Ok(())
 }
