@@ -163,7 +163,7 @@ impl Driver {
         Ok(match record.header[0] {
             0 => "end".to_string(),
             1 => self.take_floor(record),
-            2 => self.plan(record),
+            2 => self.costs(record),
             3 => self.load(record),
             4 => format!("check {}", self.check(record)),
             5 => self.thin(record),
@@ -173,6 +173,7 @@ impl Driver {
             9 => self.strike(record),
             10 => self.working(record),
             11 => self.obstacle(record),
+            12 => self.finish(record),
             _ => return Err(Error::new(ErrorKind::InvalidData, "a record of no known operation")),
         })
     }
@@ -184,23 +185,34 @@ impl Driver {
         line
     }
 
-    fn plan(&mut self, record: &Record) -> String {
+    fn costs(&mut self, record: &Record) -> String {
+        let floor = self.ground.floor();
+        let d = patterned(&mut self.slices.d, record.length(2), record.word(4));
+        let work = patterned(&mut self.work, record.length(3), record.word(4));
+        let filled = lurfanzi::costs(floor, record.word(0), record.word(1), d, work);
+        format!("costs {} {} {}", answer(filled), digest(d), digest(work))
+    }
+
+    /// The costs handed in are a copy with the changes made, so that nothing has to be put back.
+    fn finish(&mut self, record: &Record) -> String {
         let floor = self.ground.floor();
         let (slices, seed) = (&mut self.slices, record.word(9));
+        let mut d = slices.d.clone();
+        record.changes().for_each(|(_, place, value)| d[place] = Element::cut(value));
+        let d = &d[..record.length(3)];
         let mut sheet = SheetMut {
-            d: patterned(&mut slices.d, record.length(3), seed),
             e: patterned(&mut slices.e, record.length(4), seed),
             f: patterned(&mut slices.f, record.length(5), seed),
             back: patterned(&mut slices.back, record.length(6), seed),
             route: patterned(&mut slices.route, record.length(7), seed),
         };
         let work = patterned(&mut self.work, record.length(8), seed);
-        let planned = lurfanzi::plan(floor, record.job(), &mut sheet, work);
+        let planned = lurfanzi::finish(floor, record.job(), d, &mut sheet, work);
         let (cost, total, points) = planned.map_or((0, 0, 0), |plan| (plan.cost, plan.total, plan.points));
         self.points = points;
-        let (d, e, f) = (digest(sheet.d), digest(sheet.e), digest(sheet.f));
+        let (d, e, f) = (digest(d), digest(sheet.e), digest(sheet.f));
         let (back, route, work) = (digest(sheet.back), digest(sheet.route), digest(work));
-        format!("plan {} {cost} {total} {points} {d} {e} {f} {back} {route} {work}", answer(planned))
+        format!("finish {} {cost} {total} {points} {d} {e} {f} {back} {route} {work}", answer(planned))
     }
 
     fn load(&mut self, record: &Record) -> String {

@@ -108,7 +108,8 @@ impl Runner {
     fn run(&mut self, record: &Record) -> String {
         match record.operation {
             format::FLOOR => self.floor(record),
-            format::PLAN => self.plan(record),
+            format::COSTS => self.costs(record),
+            format::FINISH => self.finish(record),
             format::LOAD => self.load(record),
             format::CHECK => self.check(record),
             format::THIN => self.thin(record),
@@ -128,20 +129,30 @@ impl Runner {
         format!("floor {width} {height} {} {}", record.payload.len(), digest8(&record.payload))
     }
 
-    fn plan(&mut self, record: &Record) -> String {
+    fn costs(&mut self, record: &Record) -> String {
+        let at = &mut self.buffers;
+        let (d, work) = (&mut at.d[..record.word(2)], &mut at.work[..record.word(3)]);
+        fill32(d, record.words[4]);
+        fill32(work, record.words[4]);
+        let (neighbourhood, start) = (record.words[0].into(), record.words[1].into());
+        let answer = sheet::costs(&mut self.solver, neighbourhood, start, d, work);
+        format!("costs {answer} {} {}", digest32(d), digest32(work))
+    }
+
+    fn finish(&mut self, record: &Record) -> String {
         let seed = record.words[9];
         let at = &mut self.buffers;
-        let (d, e) = (&mut at.d[..record.word(3)], &mut at.e[..record.word(4)]);
+        let damages = format::damages_from_bytes(&record.payload);
+        let undo: Vec<Damage> = damages.iter().map(|&damage| at.put(damage)).collect();
+        let (d, e) = (&at.d[..record.word(3)], &mut at.e[..record.word(4)]);
         let (f, b) = (&mut at.f[..record.word(5)], &mut at.b[..record.word(6)]);
         let (route, work) = (&mut at.route[..record.word(7)], &mut at.work[..record.word(8)]);
-        fill32(d, seed);
         fill32(e, seed);
         fill64(f, seed);
         fill64(b, seed);
         fill16(route, seed);
         fill32(work, seed);
-        let lent = Lent { d, e, f, b, route, work };
-        let answer = sheet::plan(&mut self.solver, request_of(record), lent);
+        let answer = sheet::finish(&mut self.solver, request_of(record), d, Lent { e, f, b, route, work });
         at.n = answer.n;
         let digests = [
             digest32(&at.d[..record.word(3)]),
@@ -151,9 +162,12 @@ impl Runner {
             digest16(&at.route[..record.word(7)]),
             digest32(&at.work[..record.word(8)]),
         ];
+        undo.iter().rev().for_each(|&old| {
+            at.put(old);
+        });
         let digests: Vec<String> = digests.iter().map(u64::to_string).collect();
         let (number, cost, total, n) = (answer.answer, answer.cost, answer.total, answer.n);
-        format!("plan {number} {cost} {total} {n} {}", digests.join(" "))
+        format!("finish {number} {cost} {total} {n} {}", digests.join(" "))
     }
 
     fn load(&mut self, record: &Record) -> String {

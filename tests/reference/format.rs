@@ -2,7 +2,7 @@
 
 pub const END: u8 = 0;
 pub const FLOOR: u8 = 1;
-pub const PLAN: u8 = 2;
+pub const COSTS: u8 = 2;
 pub const LOAD: u8 = 3;
 pub const CHECK: u8 = 4;
 pub const THIN: u8 = 5;
@@ -12,6 +12,7 @@ pub const POST: u8 = 8;
 pub const STRIKE: u8 = 9;
 pub const WORKING: u8 = 10;
 pub const OBSTACLE: u8 = 11;
+pub const FINISH: u8 = 12;
 
 pub const WORDS: usize = 14;
 pub const HEADER_SIZE: usize = 64;

@@ -26,6 +26,8 @@ pub struct Maker {
     pub random: Random,
     /// For closures and obstacles: their records change nothing of the others.
     aside: Random,
+    /// For costs that are not true: their records change nothing of the others.
+    given: Random,
     /// Whether numbers may pass 8 bits (sides, neighbourhood) and 16 bits (ends, n).
     wide: bool,
     pub solver: Solver,
@@ -35,9 +37,9 @@ pub struct Maker {
 
 /// The stream for a number of floors.
 pub fn make(seed: u64, count: u64, wide: bool) -> Vec<u8> {
-    let (random, aside) = (Random::new(seed), Random::new(!seed));
+    let [random, aside, given] = [seed, !seed, seed ^ u64::from(u32::MAX)].map(Random::new);
     let (solver, table) = (Solver::new(Floor::open(1, 1)), Table::empty());
-    let mut maker = Maker { out: Vec::new(), random, aside, wide, solver, table };
+    let mut maker = Maker { out: Vec::new(), random, aside, given, wide, solver, table };
     let mut floors = fixed_floors(&mut maker.random);
     floors.truncate(count as usize);
     for k in floors.len() as u64..count {
@@ -176,9 +178,13 @@ impl Maker {
         self.use_aside();
     }
 
-    /// Exchanges the two generators.
+    /// Exchanges two generators.
     fn use_aside(&mut self) {
         std::mem::swap(&mut self.random, &mut self.aside);
+    }
+
+    fn use_given(&mut self) {
+        std::mem::swap(&mut self.random, &mut self.given);
     }
 
     pub fn is_large(&self) -> bool {
@@ -209,10 +215,13 @@ impl Maker {
         self.lists(if large { 2 } else { 4 });
     }
 
-    /// A good plan, and checks and thinnings of what it left.
+    /// Costs from the start, what is refused of them, a good plan, and checks and thinnings of what it left.
     pub fn job(&mut self, request: Request, damaged: usize) {
         let count = self.count();
-        self.plan_record(request, good_lengths(count));
+        let seed = self.random.next() as u32;
+        self.costs_record(request, good_lengths(count), seed);
+        self.false_costs(request);
+        self.finish_record(request, good_lengths(count), seed, &[]);
         self.check_record(request, good_lengths(count), None, &[]);
         let truth = self.solver.truth(request.neighbourhood, request.start as usize, request.goal as usize);
         let sheet = match &*truth {
@@ -265,7 +274,7 @@ impl Maker {
         let faults = self.random.within(1, 3);
         let request = if faults != 2 { self.bad_request() } else { self.any_request() };
         let lengths = if faults != 1 { self.bad_lengths(6) } else { good_lengths(self.count()) };
-        self.plan_record(request, lengths);
+        self.plan_records(request, lengths);
     }
 
     fn bad_operations(&mut self) {
@@ -274,7 +283,7 @@ impl Maker {
             lengths.iter_mut().for_each(|length| *length = self.random.index(40));
             let ends = (self.random.below(20), self.random.below(20));
             let request = request(self.random.pick(&[4, 8, 5, 0]), ends.0, ends.1);
-            self.plan_record(request, lengths);
+            self.plan_records(request, lengths);
             self.check_record(request, lengths, None, &[]);
             let length = self.random.within(1, 9) as usize;
             let list: Vec<u16> = (0..length as u16).collect();
@@ -367,12 +376,23 @@ impl Maker {
 
 /// Single records.
 impl Maker {
-    fn plan_record(&mut self, request: Request, lengths: Lengths) {
+    /// Both operations, with the same lengths.
+    fn plan_records(&mut self, request: Request, lengths: Lengths) {
         let seed = self.random.next() as u32;
+        self.costs_record(request, lengths, seed);
+        self.finish_record(request, lengths, seed, &[]);
+    }
+
+    fn costs_record(&mut self, request: Request, lengths: Lengths, seed: u32) {
+        let words = [request.neighbourhood as u32, request.start as u32, lengths[0] as u32, lengths[5] as u32, seed];
+        self.record(format::COSTS, &words, Vec::new());
+    }
+
+    fn finish_record(&mut self, request: Request, lengths: Lengths, seed: u32, damages: &[Damage]) {
         let mut words = request_words(request);
         words.extend(lengths.map(|length| length as u32));
         words.push(seed);
-        self.record(format::PLAN, &words, Vec::new());
+        self.record(format::FINISH, &words, format::damages_to_bytes(damages));
     }
 
     fn check_record(&mut self, request: Request, lengths: Lengths, n: Option<u32>, damages: &[Damage]) {
@@ -416,6 +436,125 @@ impl Maker {
 
 fn request_words(request: Request) -> Vec<u32> {
     vec![request.neighbourhood as u32, request.start as u32, request.goal as u32]
+}
+
+/// What `false_places` changes of the costs from a start.
+#[derive(Clone, Copy)]
+enum FalseCost {
+    Start,
+    FirstVertex,
+    LastVertex,
+    RowEnd,
+    AnyVertex,
+    Goal,
+    AlmostUnreached,
+    ReachedFromNowhere,
+    Swapped,
+    Cluster,
+}
+
+const FALSE_COSTS: [FalseCost; 10] = [
+    FalseCost::Start,
+    FalseCost::FirstVertex,
+    FalseCost::LastVertex,
+    FalseCost::RowEnd,
+    FalseCost::AnyVertex,
+    FalseCost::Goal,
+    FalseCost::AlmostUnreached,
+    FalseCost::ReachedFromNowhere,
+    FalseCost::Swapped,
+    FalseCost::Cluster,
+];
+
+/// Costs handed in: those from the request's start stand in d, some of them changed.
+impl Maker {
+    /// The job finished from false costs, other jobs from these costs, and faults of shape with costs that are false.
+    fn false_costs(&mut self, request: Request) {
+        self.use_given();
+        let good = good_lengths(self.count());
+        for kind in FALSE_COSTS {
+            if self.is_large() && self.random.percent(60) {
+                continue;
+            }
+            let places = self.false_places(kind, request);
+            if !places.is_empty() {
+                self.finish_from(request, good, &places);
+            }
+        }
+        for other in self.other_jobs(request) {
+            self.finish_from(other, good, &[]);
+        }
+        let places = self.false_places(FalseCost::AnyVertex, request);
+        let lengths = self.bad_lengths(6);
+        self.finish_from(request, lengths, &places);
+        let bad = self.bad_request();
+        self.finish_from(bad, good, &places);
+        self.use_given();
+    }
+
+    fn finish_from(&mut self, request: Request, lengths: Lengths, places: &[Damage]) {
+        let seed = self.random.next() as u32;
+        self.finish_record(request, lengths, seed, places);
+    }
+
+    /// Another goal, for which these costs are true; and another start or neighbourhood.
+    fn other_jobs(&mut self, request: Request) -> [Request; 6] {
+        let count = self.count() as u64;
+        let near = self.near(request.start as usize) as u64;
+        let (goal, start) = (self.random.below(count), self.random.below(count));
+        [
+            Request { goal, ..request },
+            Request { goal: request.start, ..request },
+            Request { start: request.goal, goal: request.start, ..request },
+            Request { neighbourhood: 12 - request.neighbourhood, ..request },
+            Request { start: near, ..request },
+            Request { start, ..request },
+        ]
+    }
+
+    /// Changes of the costs from the request's start; none where the floor has no such place.
+    fn false_places(&mut self, kind: FalseCost, request: Request) -> Vec<Damage> {
+        let d = self.solver.costs(request.neighbourhood, request.start as usize);
+        let (start, goal) = (request.start as usize, request.goal as usize);
+        let columns = self.solver.floor.width as usize + 1;
+        let any = self.random.index(d.len());
+        let unreached: Vec<usize> = (0..d.len()).filter(|&v| d[v] == NO_WALK).collect();
+        let changes = match kind {
+            FalseCost::Start => vec![(start, self.random.pick(&[1, 408, NO_WALK - 1, NO_WALK]))],
+            FalseCost::FirstVertex => vec![(0, self.one_off(d[0]))],
+            FalseCost::LastVertex => vec![(d.len() - 1, self.one_off(d[d.len() - 1]))],
+            FalseCost::RowEnd => {
+                let place = any / columns * columns + columns - 1;
+                vec![(place, self.one_off(d[place]))]
+            }
+            FalseCost::AnyVertex => vec![(any, self.other_cost(d[any]))],
+            FalseCost::Goal if d[goal] == NO_WALK => vec![(goal, self.random.pick(&[408, 577, 9_452_991]))],
+            FalseCost::Goal => vec![(goal, NO_WALK)],
+            FalseCost::AlmostUnreached | FalseCost::ReachedFromNowhere if unreached.is_empty() => Vec::new(),
+            FalseCost::AlmostUnreached => vec![(self.random.pick(&unreached), NO_WALK - 1)],
+            FalseCost::ReachedFromNowhere => vec![(self.random.pick(&unreached), 0)],
+            FalseCost::Swapped => {
+                let other = self.random.index(d.len());
+                vec![(any, d[other]), (other, d[any])]
+            }
+            FalseCost::Cluster => {
+                let places = [any; 4].map(|centre| self.near(centre));
+                places.map(|place| (place, d[place].wrapping_sub(408))).to_vec()
+            }
+        };
+        changes.into_iter().map(|(place, cost)| Damage { slice: 0, place, value: cost.into() }).collect()
+    }
+
+    /// One more or one less.
+    fn one_off(&mut self, cost: u32) -> u32 {
+        self.random.pick(&[cost.wrapping_add(1), cost.wrapping_sub(1)])
+    }
+
+    /// A bit turned over, no cost, no walk, or any number.
+    fn other_cost(&mut self, cost: u32) -> u32 {
+        let choices = [cost ^ (1 << self.random.below(32)), 0, NO_WALK, self.random.next() as u32];
+        self.random.pick(&choices)
+    }
 }
 
 /// Damage to a sheet.
@@ -538,6 +677,7 @@ impl Maker {
             let changed = self.changed_sheet(sheet, request);
             self.load_record(&changed);
             self.check_record(request, good_lengths(self.count()), None, &[]);
+            self.finish_record(request, good_lengths(self.count()), changed.d[0], &[]);
         }
     }
 

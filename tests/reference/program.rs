@@ -36,9 +36,9 @@ fn job_lines(solver: &mut Solver, number: usize, request: Request) -> String {
     let size = solver.floor.vertex_count();
     let mut s = Sheet::zeros(size);
     let mut work = vec![0; 4 * size];
-    let lent =
-        Lent { d: &mut s.d, e: &mut s.e, f: &mut s.f, b: &mut s.b, route: &mut s.route, work: &mut work };
-    let answer = sheet::plan(solver, request, lent);
+    sheet::costs(solver, request.neighbourhood, request.start, &mut s.d, &mut work);
+    let lent = Lent { e: &mut s.e, f: &mut s.f, b: &mut s.b, route: &mut s.route, work: &mut work };
+    let answer = sheet::finish(solver, request, &s.d, lent);
     if answer.answer != 0 {
         return format!("job {number}: refused {}\n", answer.answer);
     }

@@ -6,9 +6,10 @@ use crate::graph::{self, Graph};
 use crate::layouts::{self, KINDS};
 use crate::natural::Natural;
 use crate::random::Random;
+use crate::sheet::{self, Request, Solver, NO_WALK};
 use crate::sight::{self, Obstacle, Point};
 use crate::vectors::{self, Tally};
-use crate::{answers, count, jobs, sheet, thin};
+use crate::{answers, count, jobs, thin};
 use std::collections::BTreeMap;
 
 pub fn run(tally: &mut Tally) {
@@ -18,6 +19,7 @@ pub fn run(tally: &mut Tally) {
     closures(tally);
     tiny_floors(tally);
     checker_on_damage(tally);
+    costs_by_local_law(tally);
     thinning(tally);
     streams(tally);
 }
@@ -206,6 +208,48 @@ fn checker_on_damage(tally: &mut Tally) {
     tally.equal("another n", vectors::check(&floor, 8, 0, 11, &more), 9);
 }
 
+/// Whether costs obey the local law: 0 at the start, and at every other vertex the least of the neighbours' costs, each
+/// with its move's cost added.
+fn obeys_local_law(reversed: &Graph, start: usize, d: &[u32]) -> bool {
+    let law = |v: usize| {
+        let through = |u: usize, cost: u64| if d[u] == NO_WALK { NO_WALK.into() } else { u64::from(d[u]) + cost };
+        let least = reversed.edges[v].iter().map(|edge| through(edge.to, edge.cost)).min();
+        u64::from(d[v]) == if v == start { 0 } else { least.unwrap_or(NO_WALK.into()) }
+    };
+    (0..d.len()).all(law)
+}
+
+/// The costs from a start are the only ones that obey the local law, and the only ones from which a job is finished:
+/// all lists of a few numbers are tried on small floors.
+fn costs_by_local_law(tally: &mut Tally) {
+    let numbers = [0, 407, 408, 577, 816, 985, NO_WALK - 1, NO_WALK];
+    let floors = [(1, vec![0]), (1, vec![1]), (2, vec![0, 0]), (2, vec![1, 0])];
+    for (width, cells) in floors {
+        let floor = Floor::new(width, 1, cells);
+        for neighbourhood in [4, 8] {
+            let mut solver = Solver::new(floor.clone());
+            let reversed = &solver.graphs(neighbourhood).1;
+            let truth = solver.costs(neighbourhood, 1);
+            for k in 0..numbers.len().pow(truth.len() as u32) {
+                let digit = |place: usize| numbers[k / numbers.len().pow(place as u32) % numbers.len()];
+                let d: Vec<u32> = (0..truth.len()).map(digit).collect();
+                let holds = obeys_local_law(reversed, 1, &d) == (d == *truth);
+                if !holds || d == *truth {
+                    tally.holds("the local law of costs", holds);
+                }
+            }
+        }
+    }
+    let floor = Floor::new(3, 2, vec![0, 0, 0, 1, 0, 0]);
+    let truth = vectors::plan(&floor, 8, 0, 11).sheet.d;
+    for place in 0..floor.vertex_count() {
+        let mut d = truth.clone();
+        d[place] ^= 1;
+        let request = Request { neighbourhood: 8, start: 0, goal: 11 };
+        tally.equal("damaged costs", vectors::finish_from(&floor, request, &d, 12).answer, 9);
+    }
+}
+
 /// Kept positions see each other in turn, and a position past the next kept one
 /// is unseen. Lists with repeats and turns back are thinned too.
 fn thinning(tally: &mut Tally) {
@@ -236,8 +280,11 @@ fn streams(tally: &mut Tally) {
     let text = answers::run(&jobs::make(5, 160, true)).unwrap_or_default();
     tally.holds("a stream ends", text.ends_with("\nend\n"));
     let has = |start: &str| text.lines().any(|line| format!("{line} ").starts_with(start));
-    for answer in 0..=8 {
-        tally.holds(&format!("plan answers {answer}"), has(&format!("plan {answer} ")));
+    for answer in 0..=6 {
+        tally.holds(&format!("costs answers {answer}"), has(&format!("costs {answer} ")));
+    }
+    for answer in 0..=9 {
+        tally.holds(&format!("finish answers {answer}"), has(&format!("finish {answer} ")));
     }
     for answer in [0, 1, 2, 3, 4, 5, 6, 7, 9] {
         tally.holds(&format!("check answers {answer}"), has(&format!("check {answer} ")));

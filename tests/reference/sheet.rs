@@ -1,4 +1,4 @@
-//! The true sheets of a job, and from them the planner and the checker.
+//! The true sheets of a job, and from them the planner's two operations and the checker.
 
 use crate::count;
 use crate::floor::Floor;
@@ -39,12 +39,13 @@ pub enum Truth {
 pub struct Solver {
     pub floor: Floor,
     graphs: BTreeMap<u64, Rc<(Graph, Graph)>>,
+    costs: BTreeMap<(u64, usize), Rc<Vec<u32>>>,
     truths: BTreeMap<(u64, usize, usize), Rc<Truth>>,
 }
 
 impl Solver {
     pub fn new(floor: Floor) -> Solver {
-        Solver { floor, graphs: BTreeMap::new(), truths: BTreeMap::new() }
+        Solver { floor, graphs: BTreeMap::new(), costs: BTreeMap::new(), truths: BTreeMap::new() }
     }
 
     /// The graph of open moves, and the same with its edges turned round.
@@ -56,6 +57,16 @@ impl Solver {
             Rc::new((graph, reversed))
         });
         Rc::clone(made)
+    }
+
+    /// The costs from a vertex, as a sheet has them.
+    pub fn costs(&mut self, neighbourhood: u64, start: usize) -> Rc<Vec<u32>> {
+        let key = (neighbourhood, start);
+        if !self.costs.contains_key(&key) {
+            let distances = graph::distances(&self.graphs(neighbourhood).0, start);
+            self.costs.insert(key, Rc::new(written_distances(&distances)));
+        }
+        Rc::clone(&self.costs[&key])
     }
 
     /// The truth of a job of good shape.
@@ -192,9 +203,8 @@ impl Request {
     }
 }
 
-/// The slices lent to the planner.
+/// The slices lent to the planner's second operation, to be written.
 pub struct Lent<'a> {
-    pub d: &'a mut [u32],
     pub e: &'a mut [u32],
     pub f: &'a mut [u64],
     pub b: &'a mut [u64],
@@ -204,12 +214,11 @@ pub struct Lent<'a> {
 
 impl Lent<'_> {
     fn lengths_are_good(&self, count: usize) -> bool {
-        let sheet = [self.d.len(), self.e.len(), self.f.len(), self.b.len(), self.route.len()];
+        let sheet = [self.e.len(), self.f.len(), self.b.len(), self.route.len()];
         sheet.iter().all(|&length| length == count) && self.work.len() == 4 * count
     }
 
     fn take(&mut self, sheet: &Sheet) {
-        self.d.copy_from_slice(&sheet.d);
         self.e.copy_from_slice(&sheet.e);
         self.f.copy_from_slice(&sheet.f);
         self.b.copy_from_slice(&sheet.b);
@@ -232,13 +241,32 @@ impl PlanAnswer {
     }
 }
 
-/// The planner: answers 0 to 8, with what each leaves in the lent slices.
-pub fn plan(solver: &mut Solver, request: Request, mut lent: Lent) -> PlanAnswer {
+/// The planner's first operation: 1 to 6, or 0, which leaves the costs from the start and a working slice of 0.
+pub fn costs(solver: &mut Solver, neighbourhood: u64, start: u64, d: &mut [u32], work: &mut [u32]) -> u8 {
+    if let Some(fault) = (Request { neighbourhood, start, goal: start }).fault(&solver.floor) {
+        return fault;
+    }
+    let count = solver.floor.vertex_count();
+    if d.len() != count || work.len() != 4 * count {
+        return 6;
+    }
+    d.copy_from_slice(&solver.costs(neighbourhood, start as usize));
+    work.fill(0);
+    0
+}
+
+/// The planner's second operation: 1 to 6, 9 for a d that is not the costs from the start, and then 7, 8 or 0, with
+/// what each leaves in the lent slices.
+pub fn finish(solver: &mut Solver, request: Request, d: &[u32], mut lent: Lent) -> PlanAnswer {
     if let Some(fault) = request.fault(&solver.floor) {
         return PlanAnswer::refusal(fault);
     }
-    if !lent.lengths_are_good(solver.floor.vertex_count()) {
+    let count = solver.floor.vertex_count();
+    if d.len() != count || !lent.lengths_are_good(count) {
         return PlanAnswer::refusal(6);
+    }
+    if *d != **solver.costs(request.neighbourhood, request.start as usize) {
+        return PlanAnswer::refusal(9);
     }
     let truth = solver.truth(request.neighbourhood, request.start as usize, request.goal as usize);
     match &*truth {

@@ -39,6 +39,7 @@ pub fn run() -> bool {
     small_sight(&mut tally);
     named_obstacles(&mut tally);
     posted_closures(&mut tally);
+    costs_handed_in(&mut tally);
     large_totals(&mut tally);
     totals_at_the_boundary(&mut tally);
     bad_shapes(&mut tally);
@@ -59,18 +60,32 @@ pub struct Planned {
     pub work: Vec<u32>,
 }
 
-/// Plans with slices of the good length that hold 9 at each place.
+/// Plans by both operations, with slices of the good length that hold 9 at each place.
 pub fn plan(floor: &Floor, neighbourhood: u64, start: u64, goal: u64) -> Planned {
     let size = if floor.shape_fault().is_none() { floor.vertex_count() } else { 4 };
     let (cost, count, point) = (vec![9; size], vec![9; size], vec![9; size]);
     let mut s = Sheet { d: cost.clone(), e: cost, f: count.clone(), b: count, route: point, n: 0 };
-    let mut work = vec![9; 4 * size];
-    let lent =
-        Lent { d: &mut s.d, e: &mut s.e, f: &mut s.f, b: &mut s.b, route: &mut s.route, work: &mut work };
     let mut solver = Solver::new(floor.clone());
-    let answer = sheet::plan(&mut solver, Request { neighbourhood, start, goal }, lent);
+    let (mut work, mut other_work) = (vec![9; 4 * size], vec![9; 4 * size]);
+    let first = sheet::costs(&mut solver, neighbourhood, start, &mut s.d, &mut other_work);
+    assert!(other_work.iter().all(|&x| x == if first == 0 { 0 } else { 9 }), "the first operation's working slice");
+    let lent = Lent { e: &mut s.e, f: &mut s.f, b: &mut s.b, route: &mut s.route, work: &mut work };
+    let answer = sheet::finish(&mut solver, Request { neighbourhood, start, goal }, &s.d, lent);
     s.n = answer.n;
     Planned { answer, sheet: s, work }
+}
+
+/// What the planner's second operation answers from these costs, with an output slice of the given length; the lent
+/// slices are untouched at 1 to 6 and at 9.
+pub fn finish_from(floor: &Floor, request: Request, d: &[u32], length: usize) -> PlanAnswer {
+    let size = floor.vertex_count();
+    let mut s = Sheet { route: vec![9; length], ..Sheet::zeros(size) };
+    let mut work = vec![9; 4 * size];
+    let lent = Lent { e: &mut s.e, f: &mut s.f, b: &mut s.b, route: &mut s.route, work: &mut work };
+    let answer = sheet::finish(&mut Solver::new(floor.clone()), request, d, lent);
+    let untouched = s == Sheet { route: vec![9; length], ..Sheet::zeros(size) } && work == vec![9; 4 * size];
+    assert_eq!(untouched, !matches!(answer.answer, 0 | 7 | 8), "what the second operation leaves");
+    answer
 }
 
 pub fn check(floor: &Floor, neighbourhood: u64, start: u64, goal: u64, s: &Sheet) -> u8 {
@@ -100,6 +115,35 @@ fn sheet_of(d: &[u32], e: &[u32], f: &[u64], b: &[u64], points: &[u16]) -> Sheet
     let mut route = points.to_vec();
     route.resize(d.len(), 0);
     Sheet { d: d.to_vec(), e: e.to_vec(), f: f.to_vec(), b: b.to_vec(), route, n: points.len() as u64 }
+}
+
+/// Request 4, on floors e, f and j: jobs from one start share its costs, and any other costs give 9, after 6 and before
+/// 7 and 8.
+fn costs_handed_in(tally: &mut Tally) {
+    let (open, wall) = (Floor::open(2, 1), Floor::new(2, 1, vec![0, 1]));
+    let job = |neighbourhood, start, goal| Request { neighbourhood, start, goal };
+    let d = plan(&open, 8, 0, 5).sheet.d;
+    tally.equal("costs of e", d.clone(), vec![0, 408, 816, 408, 577, 985]);
+    tally.equal("e, to 5", finish_from(&open, job(8, 0, 5), &d, 6), route(985, 2, 3));
+    tally.equal("e, to 4", finish_from(&open, job(8, 0, 4), &d, 6), route(577, 1, 2));
+    tally.equal("e, to 0", finish_from(&open, job(8, 0, 0), &d, 6), route(0, 1, 1));
+    tally.equal("another start", finish_from(&open, job(8, 1, 5), &d, 6), refusal(9));
+    tally.equal("another neighbourhood", finish_from(&open, job(4, 0, 5), &d, 6), refusal(9));
+    tally.equal("another floor", finish_from(&wall, job(8, 0, 5), &d, 6), refusal(9));
+    tally.equal("6 before 9", finish_from(&wall, job(8, 0, 5), &d, 5), refusal(6));
+    tally.equal("d too short", finish_from(&open, job(8, 0, 5), &d[..5], 6), refusal(6));
+    tally.equal("5 before 6", finish_from(&open, job(8, 0, 6), &d[..5], 6), refusal(5));
+    tally.equal("4 before 5", finish_from(&open, job(5, 0, 6), &d[..5], 6), refusal(4));
+    let mut walled = plan(&wall, 8, 0, 5).sheet.d;
+    tally.equal("costs of f", walled.clone(), vec![0, 408, NO_WALK, 408, 577, NO_WALK]);
+    tally.equal("f", finish_from(&wall, job(8, 0, 5), &walled, 6), refusal(7));
+    walled[5] -= 1;
+    tally.equal("9 before 7", finish_from(&wall, job(8, 0, 5), &walled, 6), refusal(9));
+    let many = Floor::open(34, 34);
+    let mut far = plan(&many, 4, 0, 1).sheet.d;
+    tally.equal("j", finish_from(&many, job(4, 0, 1224), &far, 1225), refusal(8));
+    far[0] = 1;
+    tally.equal("9 before 8", finish_from(&many, job(4, 0, 1224), &far, 1225), refusal(9));
 }
 
 /// Document 01, "Floors worked by hand", a to h.
@@ -270,6 +314,9 @@ fn bad_shapes(tally: &mut Tally) {
     tally.equal("l end V - 1", plan(&open, 8, 0, 11).answer.answer, 0);
     let refused = plan(&open, 8, 0, 12);
     tally.equal("l end V", refused.answer, refusal(5));
+    tally.holds("l untouched", refused.sheet.e.iter().chain(&refused.work).all(|&x| x == 9));
+    let refused = plan(&open, 8, 12, 0);
+    tally.equal("l start V", refused.answer, refusal(5));
     tally.holds("l untouched", refused.sheet.d.iter().chain(&refused.work).all(|&x| x == 9));
     tally.equal("byte above 1", plan(&Floor::new(1, 1, vec![2]), 5, 9, 9).answer, refusal(3));
     tally.equal("neighbourhood before ends", plan(&open, 5, 12, 12).answer, refusal(4));
