@@ -1,6 +1,6 @@
-/* Holds lurfanzi.h to the code: planner, checker and thinning, called as a user in C calls them, with every slice
- * between guard bytes. The expected numbers are those of the floors a to l, worked by hand in the rules; where a
- * floor's text leaves a number out, it follows from the rule named beside it.
+/* Holds lurfanzi.h to the code: the planner's two functions, checker and thinning, called as a user in C calls them,
+ * with every slice between guard bytes. The expected numbers are those of the floors a to l, worked by hand in the
+ * rules; where a floor's text leaves a number out, it follows from the rule named beside it.
  */
 #include "lent.h"
 #include "lurfanzi.h"
@@ -60,38 +60,90 @@ static void give_back_sheet(planned *p)
     for (int k = 0; k < SLICES; k++) give_back(&p->slice[k]);
 }
 
-/* Plans with slices that hold `fill` in every byte, and tests all that holds at every answer. */
-static planned plan(const char *where, const job *j, unsigned char fill)
+/* Fills the costs from a over slices that hold `fill` in every byte, and tests all that holds at every answer. */
+static uint8_t fill_costs(const char *where, const job *j, unsigned char fill, lent *d)
+{
+    lent map = lend_copy(j->map, j->map_length), work = lend(j->length[WORK] * element[WORK], fill);
+    *d = lend(j->length[D] * element[D], fill);
+    before_call(&map), before_call(&work), before_call(d);
+    const uint8_t answer = lurfanzi_costs(
+        j->width, j->height, map.p, j->map_length, j->neighbourhood, j->a, d->p, j->length[D], work.p, j->length[WORK]);
+    expect_read_only(where, "the map", &map);
+    expect_guards(where, "d of the costs", d);
+    expect_guards(where, "work of the costs", &work);
+    if (answer > 6) fail(where, "the costs", "gave an answer above 6");
+    if (answer == 0) {
+        expect_zeros(where, "work of the costs", &work);
+    } else {
+        expect_untouched(where, "d of the costs", d);
+        expect_untouched(where, "work of the costs", &work);
+    }
+    give_back(&map), give_back(&work);
+    return answer;
+}
+
+/* Finishes the job from the costs given, or from d with `fill` in every byte where they are NULL. The other slices hold
+ * `fill`. Tests all that holds at every answer. */
+static planned finish_job(const char *where, const job *j, const void *d, unsigned char fill)
 {
     planned p;
     lent map = lend_copy(j->map, j->map_length);
     before_call(&map);
     for (int k = 0; k < SLICES; k++) {
-        p.slice[k] = lend(j->length[k] * element[k], fill);
+        const size_t size = j->length[k] * element[k];
+        p.slice[k] = k == D && d != NULL ? lend_copy(d, size) : lend(size, fill);
         before_call(&p.slice[k]);
     }
     lent *s = p.slice;
-    p.result = lurfanzi_plan(
+    p.result = lurfanzi_finish(
         j->width, j->height, map.p, j->map_length, j->neighbourhood, j->a, j->b,
         s[D].p, j->length[D], s[E].p, j->length[E], s[F].p, j->length[F],
         s[BACK].p, j->length[BACK], s[ROUTE].p, j->length[ROUTE], s[WORK].p, j->length[WORK]);
     expect_read_only(where, "the map", &map);
-    for (int k = 0; k < SLICES; k++) expect_guards(where, slice_name[k], &s[k]);
+    expect_read_only(where, "d", &s[D]);
+    for (int k = E; k < SLICES; k++) expect_guards(where, slice_name[k], &s[k]);
     const uint8_t answer = p.result.answer;
-    if (answer > 8) fail(where, "the planner", "gave an answer above 8");
+    if (answer > 9) fail(where, "the planner", "gave an answer above 9");
     if (answer != 0) {
         expect(where, "cost", p.result.cost, 0);
         expect(where, "total", p.result.total, 0);
         expect(where, "points", p.result.points, 0);
     }
-    if (1 <= answer && answer <= 6)
-        for (int k = 0; k < SLICES; k++) expect_untouched(where, slice_name[k], &s[k]);
+    if ((1 <= answer && answer <= 6) || answer == 9)
+        for (int k = E; k < SLICES; k++) expect_untouched(where, slice_name[k], &s[k]);
     else
         expect_zeros(where, "work", &s[WORK]);
     if (answer == 7) expect_zeros(where, "e", &s[E]);
     if (answer == 7 || answer == 8)
         for (int k = F; k <= ROUTE; k++) expect_zeros(where, slice_name[k], &s[k]);
     give_back(&map);
+    return p;
+}
+
+static void expect_finish(const char *where, const job *j, const void *d, unsigned char fill, uint8_t wanted)
+{
+    planned p = finish_job(where, j, d, fill);
+    expect_answer(where, p.result.answer, wanted);
+    give_back_sheet(&p);
+}
+
+/* What the costs answer where the whole job has this answer: they know neither b nor the other slices. */
+static uint8_t costs_answer(const job *j, uint8_t answer)
+{
+    const size_t v = vertices(j->width, j->height);
+    if (1 <= answer && answer <= 4) return answer;
+    if (j->a >= v) return LURFANZI_BAD_END;
+    return j->length[D] == v && j->length[WORK] == 4 * v ? 0 : LURFANZI_BAD_SLICE_LENGTH;
+}
+
+/* Plans by both functions, with slices that hold `fill` in every byte. */
+static planned plan(const char *where, const job *j, unsigned char fill)
+{
+    lent d;
+    const uint8_t answer = fill_costs(where, j, fill, &d);
+    planned p = finish_job(where, j, d.size == 0 ? NULL : d.p, fill);
+    expect(where, "the answer of the costs", answer, costs_answer(j, p.result.answer));
+    give_back(&d);
     return p;
 }
 
@@ -251,10 +303,12 @@ static void put_number(void *slice, size_t size, size_t place, uint64_t number)
 }
 
 /* The checker's answer to each sheet that has another number at one place: one more, one less, 0, all ones, or one bit
- * turned over. All of them are false. */
+ * turned over. All of them are false. Of d, the planner's answer too: costs that are not true are refused before all
+ * else that the job could answer. */
 static void change_place(
-    const worked *w, const job *j, const void *const sheet[5], size_t size, void *numbers, size_t place)
+    const worked *w, const job *j, const void *const sheet[5], int slice, void *numbers, size_t place)
 {
+    const size_t size = element[slice];
     const uint64_t old = number_at(numbers, size, place), ones = UINT64_MAX >> (64 - 8 * size);
     const uint64_t others[] = {(old + 1) & ones, (old - 1) & ones, 0, ones};
     for (size_t k = 0; k < 4 + 8 * size; k++) {
@@ -262,6 +316,7 @@ static void change_place(
         if (number == old) continue;
         put_number(numbers, size, place, number);
         expect_answer(w->name, check(w->name, j, sheet), LURFANZI_FALSE_SHEET);
+        if (slice == D) expect_finish(w->name, j, numbers, (unsigned char)k, LURFANZI_FALSE_SHEET);
     }
     put_number(numbers, size, place, old);
 }
@@ -287,6 +342,7 @@ static void check_nonsense(const worked *w)
         for (int slice = 0; slice < 5; slice++)
             for (size_t i = 0; i < j.length[slice]; i++)
                 put_number(slices[slice], element[slice], i, nonsense(k, place++));
+        expect_finish(w->name, &j, made.d, 0xFF, LURFANZI_FALSE_SHEET);
         j.n = nonsense(k, 0);
         expect_answer(w->name, check(w->name, &j, sheet), LURFANZI_FALSE_SHEET);
         j.n = w->points;
@@ -304,7 +360,7 @@ static void check_worked(const worked *w)
     const void *const sheet[5] = {altered.d, altered.e, altered.f, altered.back, altered.route};
     expect_answer(w->name, check(w->name, &j, sheet), w->answer);
     for (int k = 0; k < 5; k++)
-        for (size_t place = 0; place < j.length[k]; place++) change_place(w, &j, sheet, element[k], slices[k], place);
+        for (size_t place = 0; place < j.length[k]; place++) change_place(w, &j, sheet, k, slices[k], place);
     const size_t v = vertices(w->width, w->height);
     const size_t counts[] = {0, 1, w->points - 1, w->points + 1, v, v + 1, 65536 + w->points, SIZE_MAX};
     for (size_t k = 0; k < sizeof counts / sizeof counts[0]; k++) {
@@ -315,8 +371,11 @@ static void check_worked(const worked *w)
     const void *const turned_costs[5] = {w->e, w->d, w->f, w->back, w->route};
     const void *const turned_counts[5] = {w->d, w->e, w->back, w->f, w->route};
     j.n = w->points;
-    if (memcmp(w->d, w->e, sizeof w->d) != 0)
+    if (memcmp(w->d, w->e, sizeof w->d) != 0) {
         expect_answer(w->name, check(w->name, &j, turned_costs), LURFANZI_FALSE_SHEET);
+        /* The costs from the other end, or 0 everywhere. */
+        expect_finish(w->name, &j, w->e, 0xFF, LURFANZI_FALSE_SHEET);
+    }
     if (memcmp(w->f, w->back, sizeof w->f) != 0)
         expect_answer(w->name, check(w->name, &j, turned_counts), LURFANZI_FALSE_SHEET);
 }
@@ -396,7 +455,63 @@ static void floor_j(void)
     expect_unit_steps("floor j, 34 by 34", &p.slice[E], 34, 34, 34, 34);
     const void *const refused[5] = {p.slice[D].p, p.slice[E].p, p.slice[F].p, p.slice[BACK].p, p.slice[ROUTE].p};
     expect_answer("floor j, 34 by 34", check("floor j, 34 by 34", &many, refused), LURFANZI_FALSE_SHEET);
+    /* 9 before 8: every cost matters, also where the routes are too many. */
+    uint32_t *d = p.slice[D].p;
+    for (size_t place = 0; place < many.length[D]; place++) {
+        d[place] += 1;
+        expect_finish("a false cost on floor j", &many, d, 0xFF, LURFANZI_FALSE_SHEET);
+        d[place] -= 1;
+    }
+    expect_finish("floor j, 34 by 34, again", &many, d, 0xFF, LURFANZI_TOO_MANY);
     give_back_sheet(&p);
+}
+
+/* Jobs from one start share its costs. On floor h every vertex is on the way to the last one, so that f has the number
+ * of cheapest routes to each. */
+static void one_dock(void)
+{
+    const worked *h = &floors[7];
+    job j = job_of(h);
+    for (j.b = 0; j.b < 9; j.b++) {
+        planned p = finish_job("one dock", &j, h->d, 0xFF);
+        expect_answer("one dock", p.result.answer, 0);
+        expect("one dock", "cost", p.result.cost, h->d[j.b]);
+        expect("one dock", "total", p.result.total, h->f[j.b]);
+        expect("one dock", "points", p.result.points, h->d[j.b] / 408 + 1);
+        expect("one dock", "e at the dock", ((const uint32_t *)p.slice[E].p)[0], h->d[j.b]);
+        give_back_sheet(&p);
+    }
+}
+
+/* Costs of another start, neighbourhood or floor are not the job's. */
+static void costs_of_another_job(void)
+{
+    const worked *a = &floors[0], *b = &floors[1], *e = &floors[4], *f = &floors[5];
+    job j = job_of(a);
+    expect_finish("the costs of neighbourhood 4", &j, b->d, 0xFF, LURFANZI_FALSE_SHEET);
+    j = job_of(b);
+    expect_finish("the costs of neighbourhood 8", &j, a->d, 0xFF, LURFANZI_FALSE_SHEET);
+    j = job_of(e);
+    expect_finish("the costs round a wall", &j, f->d, 0xFF, LURFANZI_FALSE_SHEET);
+    for (j.a = 1; j.a < 6; j.a++) expect_finish("the costs of vertex 0", &j, e->d, 0xFF, LURFANZI_FALSE_SHEET);
+    j = job_of(f);
+    expect_finish("the costs without the wall", &j, e->d, 0xFF, LURFANZI_FALSE_SHEET);
+}
+
+/* Every list of four of these numbers: the true costs alone are taken, on floors a, b and c. */
+static void every_list_of_costs(void)
+{
+    const uint32_t numbers[] = {0, 1, 407, 408, 577, 816, M - 1, M};
+    for (size_t k = 0; k < 3; k++) {
+        const worked *w = &floors[k];
+        const job j = job_of(w);
+        for (unsigned list = 0; list < 1u << 12; list++) {
+            uint32_t d[4];
+            for (int place = 0; place < 4; place++) d[place] = numbers[list >> 3 * place & 7];
+            const int is_true = memcmp(d, w->d, sizeof d) == 0;
+            expect_finish(w->name, &j, d, 0xFF, is_true ? w->answer : LURFANZI_FALSE_SHEET);
+        }
+    }
 }
 
 static const uint8_t largest[127 * 127 + 1];
@@ -502,6 +617,8 @@ static void limits_of_slices(void)
             job j = job_of(e_floor);
             j.length[slice] = bad[k];
             expect_plan(slice_name[slice], &j, LURFANZI_BAD_SLICE_LENGTH);
+            /* 6 before 9. */
+            expect_finish(slice_name[slice], &j, NULL, 0x01, LURFANZI_BAD_SLICE_LENGTH);
             if (slice == WORK) continue;
             expect_answer(slice_name[slice], check(slice_name[slice], &j, anything), LURFANZI_BAD_SLICE_LENGTH);
         }
@@ -536,16 +653,42 @@ static void order_of_refusals(void)
             spoil(&j, second);
             spoil(&j, first);
             expect_refused("two faults", &j, first);
+            expect_finish("two faults, and false costs", &j, NULL, 0xFF, first);
         }
-    /* Refusals 1 to 6 come before 7 and 9, and n is not looked at before them. */
+    /* Refusals 1 to 6 come before 7 and 9, and n is not looked at before them; 9 comes before 7. */
     job no_route = job_of(&floors[5]);
+    expect_finish("no route, and false costs", &no_route, NULL, 0x01, LURFANZI_FALSE_SHEET);
     no_route.length[WORK] = 23;
     expect_plan("no route, and a short slice", &no_route, LURFANZI_BAD_SLICE_LENGTH);
+    expect_finish("no route, false costs, and a short slice", &no_route, NULL, 0x01, LURFANZI_BAD_SLICE_LENGTH);
     job false_sheet = job_of(e_floor);
     false_sheet.n = SIZE_MAX;
     false_sheet.neighbourhood = 0;
     const char *const where = "a false sheet, and a bad neighbourhood";
     expect_answer(where, check(where, &false_sheet, anything), LURFANZI_BAD_NEIGHBOURHOOD);
+}
+
+/* The costs have one end, and two slices. */
+static void spoil_costs(job *j, uint8_t fault, int slice)
+{
+    if (fault < 5) spoil(j, fault);
+    if (fault == 5) j->a = 6;
+    if (fault == 6) j->length[slice] -= 1;
+}
+
+static void order_of_costs_refusals(void)
+{
+    static const uint8_t open[3];
+    for (uint8_t first = 1; first <= 6; first++)
+        for (uint8_t second = first; second <= 6; second++)
+            for (int slice = D; slice <= WORK; slice += WORK) {
+                job j = make_job(2, 1, open, 8, 0, 5);
+                spoil_costs(&j, second, slice);
+                if (second != first) spoil_costs(&j, first, slice);
+                lent d;
+                expect_answer("two faults of the costs", fill_costs("two faults of the costs", &j, 0xFF, &d), first);
+                give_back(&d);
+            }
 }
 
 /* ---- The thinning. ---- */
@@ -692,11 +835,15 @@ int main(void)
 {
     setbuf(stdout, NULL); /* so that a crash loses no line */
     worked_floors();
+    one_dock();
+    costs_of_another_job();
+    every_list_of_costs();
     floor_j();
     floor_k();
     limits_of_numbers();
     limits_of_slices();
     order_of_refusals();
+    order_of_costs_refusals();
     thinned_lists();
     limits_of_thinning();
     order_of_thinning_refusals();
