@@ -1,7 +1,7 @@
 //! Holds the programs to each other: same answers, same slices.
 
 use crate::floors::{Case, Kind, Random, KINDS};
-use crate::lurfanzi::{Floor, Job, Plan, Refusal, Verdict, UNREACHABLE};
+use crate::lurfanzi::{Floor, Job, Plan, Refusal, Verdict};
 use crate::programs::{Program, Slices, PROGRAMS, TEXTBOOK};
 
 /// What the textbook program makes of a job.
@@ -15,11 +15,6 @@ struct Truth {
 impl Truth {
     fn points(&self) -> usize {
         self.planned.map_or(0, |plan| plan.points)
-    }
-
-    /// How many vertices the start reaches.
-    fn reached(&self) -> usize {
-        self.slices.d.iter().filter(|&&cost| cost != UNREACHABLE).count()
     }
 }
 
@@ -42,6 +37,7 @@ fn agree_on(program: &Program, floor: Floor, job: Job, truth: &Truth, random: &m
     let mut slices = Slices::new(floor.vertices(), random.below(256) as u8);
     assert_eq!(slices.plan(program, floor, job), truth.planned, "plan: {name}");
     assert!(slices == truth.slices, "plan: the slices of {name}");
+    agree_on_costs(program, floor, job, truth, random);
 
     let points = truth.points();
     assert_eq!((program.check)(floor, job, slices.sheet(points)), Ok(truth.verdict), "check: {name}");
@@ -63,10 +59,31 @@ fn agree_on(program: &Program, floor: Floor, job: Job, truth: &Truth, random: &m
     }
 }
 
+/// The costs, the rest of the job from them, and costs that are not true, which leave all else as it was.
+fn agree_on_costs(program: &Program, floor: Floor, job: Job, truth: &Truth, random: &mut Random) {
+    let name = program.name;
+    let mut slices = Slices::new(floor.vertices(), random.below(256) as u8);
+    assert_eq!(slices.costs(program, floor, job), Ok(()), "costs: {name}");
+    assert!(slices.d == truth.slices.d && slices.work == truth.slices.work, "costs: the slices of {name}");
+    assert_eq!(slices.finish(program, floor, job), truth.planned, "finish: {name}");
+    assert!(slices == truth.slices, "finish: the slices of {name}");
+    for _ in 0..4 {
+        let v = random.below(slices.d.len());
+        let mut altered = slices.clone();
+        altered.d[v] = altered.d[v].wrapping_add(STEPS[random.below(STEPS.len())]);
+        let before = altered.clone();
+        assert_eq!(altered.finish(program, floor, job), Err(Refusal::FalseCosts), "finish: altered, {name}");
+        assert!(altered == before, "finish: altered, the slices of {name}");
+    }
+}
+
+/// By how much a cost is changed.
+const STEPS: [u32; 6] = [1, 408, 577, 0x4000_0000, 0x8000_0000, u32::MAX];
+
 /// Changes one number of the sheet.
 fn alter(slices: &mut Slices, random: &mut Random) {
     let v = random.below(slices.d.len());
-    let by = [1, 408, 577, 0x4000_0000, 0x8000_0000, u32::MAX][random.below(6)];
+    let by = STEPS[random.below(STEPS.len())];
     match random.below(5) {
         0 => slices.d[v] = slices.d[v].wrapping_add(by),
         1 => slices.e[v] = slices.e[v].wrapping_add(by),
@@ -142,7 +159,6 @@ pub fn agree_on_case(case: &Case) {
     let shut = case.without_route();
     let shut_truth = truth_of(shut.floor(), shut.job);
     assert_eq!(shut_truth.planned, Err(Refusal::NoRoute));
-    assert!(shut_truth.reached() + 4 >= truth.reached(), "one search of the whole floor");
     all_agree_on(shut.floor(), shut.job, &shut_truth, &mut random);
 }
 

@@ -3,7 +3,7 @@
 
 use crate::lurfanzi::{Floor, Job, Plan, Refusal, SheetMut, UNREACHABLE};
 use crate::moves::{fill_masks, offsets, CARDINAL};
-use crate::tuned;
+use crate::tuned::{self, Method};
 
 /// The number of buckets: above the dearest move, so that no two costs in the queue have the same bucket.
 const SPAN: usize = 640;
@@ -70,7 +70,7 @@ fn bucket(at: usize, after: usize) -> usize {
 }
 
 /// Costs from one end; the answer is the number of vertices reached, which `order` holds, the cheaper ones first.
-fn search(memory: &mut Memory, moves_of: u8, columns: usize, from: usize, d: &mut [u32]) -> usize {
+fn settle(memory: &mut Memory, moves_of: u8, columns: usize, from: usize, d: &mut [u32]) -> usize {
     let offsets = offsets(columns);
     let Memory { order, vertices, after, masks } = memory;
     let mut buckets = Buckets { heads: [NONE; SPAN], filled: [0; WORDS] };
@@ -119,27 +119,47 @@ fn search(memory: &mut Memory, moves_of: u8, columns: usize, from: usize, d: &mu
     }
 }
 
-pub fn plan(floor: Floor, job: Job, sheet: &mut SheetMut, work: &mut [u32]) -> Result<Plan, Refusal> {
-    tuned::plan_by(fill, floor, job, sheet, work)
+const METHOD: Method = Method { prepare, search, rest };
+
+pub fn plan(floor: Floor, job: Job, d: &mut [u32], sheet: &mut SheetMut, work: &mut [u32]) -> Result<Plan, Refusal> {
+    METHOD.plan(floor, job, d, sheet, work)
 }
 
-fn fill(floor: Floor, job: Job, sheet: &mut SheetMut, work: &mut [u32]) -> Result<Plan, Refusal> {
-    let (a, b, columns) = (job.a as usize, job.b as usize, floor.width as usize + 1);
+pub fn costs(floor: Floor, neighbourhood: u32, a: u32, d: &mut [u32], work: &mut [u32]) -> Result<(), Refusal> {
+    METHOD.costs(floor, neighbourhood, a, d, work)
+}
+
+pub fn finish(floor: Floor, job: Job, d: &[u32], sheet: &mut SheetMut, work: &mut [u32]) -> Result<Plan, Refusal> {
+    METHOD.finish(floor, job, d, sheet, work)
+}
+
+fn prepare(floor: Floor, work: &mut [u32]) {
+    fill_masks(floor, Memory::of(work, floor.vertices()).masks);
+}
+
+fn moves_of(neighbourhood: u32) -> u8 {
+    if neighbourhood == 4 { CARDINAL } else { 0xFF }
+}
+
+fn search(floor: Floor, neighbourhood: u32, from: usize, d: &mut [u32], work: &mut [u32]) {
     let mut memory = Memory::of(work, floor.vertices());
-    fill_masks(floor, memory.masks);
-    let moves_of = if job.neighbourhood == 4 { CARDINAL } else { 0xFF };
-    search(&mut memory, moves_of, columns, a, sheet.d);
-    let cost = sheet.d[b];
+    settle(&mut memory, moves_of(neighbourhood), floor.width as usize + 1, from, d);
+}
+
+fn rest(floor: Floor, job: Job, d: &[u32], sheet: &mut SheetMut, work: &mut [u32]) -> Result<Plan, Refusal> {
+    let (b, columns) = (job.b as usize, floor.width as usize + 1);
+    let cost = d[b];
     if cost == UNREACHABLE {
         sheet.e.fill(0);
         return Err(Refusal::NoRoute);
     }
-    let n = search(&mut memory, moves_of, columns, b, sheet.e);
+    let mut memory = Memory::of(work, floor.vertices());
+    let n = settle(&mut memory, moves_of(job.neighbourhood), columns, b, sheet.e);
     let mut kept = 0;
     for i in 0..n {
         let v = memory.order[i];
         memory.order[kept] = v;
-        kept += usize::from(sheet.d[usize::from(v)] + sheet.e[usize::from(v)] == cost);
+        kept += usize::from(d[usize::from(v)] + sheet.e[usize::from(v)] == cost);
     }
-    tuned::counts_and_route(job, columns, &memory.order[..kept], memory.masks, sheet)
+    tuned::counts_and_route(job, columns, &memory.order[..kept], memory.masks, d, sheet)
 }

@@ -104,6 +104,16 @@ impl Case {
         Case { side: self.side, map, job: Job { b: b as u32, ..self.job } }
     }
 
+    /// The other ends of forty jobs with a route from the same start: of the vertices that it reaches by at most 2^64 - 1
+    /// cheapest routes, in order of cost, forty at equal steps, the job's own other end the last.
+    pub fn forty_ends(&self) -> Vec<u32> {
+        let reached = textbook::reached(self.floor(), self.job.neighbourhood, self.job.a);
+        let fits = |&v: &usize| reached[v].cost != UNREACHABLE && reached[v].count.is_some();
+        let mut ends: Vec<usize> = (0..reached.len()).filter(fits).collect();
+        ends.sort_by_key(|&v| (reached[v].cost, reached[v].count));
+        (1..=40).map(|k| ends[k * (ends.len() - 1) / 40] as u32).collect()
+    }
+
     pub fn floor(&self) -> Floor<'_> {
         Floor { width: self.side as u32, height: self.side as u32, map: &self.map }
     }

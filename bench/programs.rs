@@ -5,18 +5,28 @@ use crate::lurfanzi::{self, Floor, Job, Plan, Refusal, Sheet, SheetMut, Verdict}
 use crate::{buckets, textbook, tuned, tuned_check, tuned_sight};
 use std::hint::black_box;
 
-/// A program: the operations of the header.
+/// A program: the operations of the header, and a whole plan, by which d is filled too.
 pub struct Program {
     pub name: &'static str,
-    pub plan: fn(Floor, Job, &mut SheetMut, &mut [u32]) -> Result<Plan, Refusal>,
+    pub plan: fn(Floor, Job, &mut [u32], &mut SheetMut, &mut [u32]) -> Result<Plan, Refusal>,
+    pub costs: fn(Floor, u32, u32, &mut [u32], &mut [u32]) -> Result<(), Refusal>,
+    pub finish: fn(Floor, Job, &[u32], &mut SheetMut, &mut [u32]) -> Result<Plan, Refusal>,
     pub check: fn(Floor, Job, Sheet) -> Result<Verdict, Refusal>,
     pub thin: fn(Floor, &[u16], &mut [u16], usize) -> Result<usize, Refusal>,
     pub sight: fn(Floor, u32, u32) -> Result<bool, Refusal>,
 }
 
+/// A lone job by the library: its two operations.
+fn plan(floor: Floor, job: Job, d: &mut [u32], sheet: &mut SheetMut, work: &mut [u32]) -> Result<Plan, Refusal> {
+    lurfanzi::costs(floor, job.neighbourhood, job.a, d, work)?;
+    lurfanzi::finish(floor, job, d, sheet, work)
+}
+
 pub const LIBRARY: Program = Program {
     name: "library",
-    plan: lurfanzi::plan,
+    plan,
+    costs: lurfanzi::costs,
+    finish: lurfanzi::finish,
     check: lurfanzi::check,
     thin: lurfanzi::thin,
     sight: lurfanzi::sight,
@@ -25,6 +35,8 @@ pub const LIBRARY: Program = Program {
 pub const TEXTBOOK: Program = Program {
     name: "textbook",
     plan: textbook::plan,
+    costs: textbook::costs,
+    finish: textbook::finish,
     check: textbook::check,
     thin: textbook::thin,
     sight: textbook::sight,
@@ -33,30 +45,39 @@ pub const TEXTBOOK: Program = Program {
 pub const TUNED: Program = Program {
     name: "tuned",
     plan: tuned::plan,
+    costs: tuned::costs,
+    finish: tuned::finish,
     check: tuned_check::check,
     thin: tuned_sight::thin,
     sight: tuned_sight::sight,
 };
 
 /// A planner of its own; the rest is the tuned program's.
-pub const BUCKETS: Program = Program { name: "bucket queue", plan: buckets::plan, ..TUNED };
+pub const BUCKETS: Program =
+    Program { name: "bucket queue", plan: buckets::plan, costs: buckets::costs, finish: buckets::finish, ..TUNED };
 
 pub const PROGRAMS: [Program; 4] = [LIBRARY, TEXTBOOK, TUNED, BUCKETS];
 
 #[derive(Clone, Copy, Debug, PartialEq, Eq)]
 pub enum Operation {
+    /// A lone job.
     Plan,
-    /// The plan of a job without a route, which is one search.
     Costs,
+    /// A job from given costs.
+    Finish,
+    /// The costs from one dock, and forty jobs from them.
+    FortyJobs,
     Check,
     Thin,
     ShortSight,
     LongSight,
 }
 
-pub const OPERATIONS: [Operation; 6] = [
+pub const OPERATIONS: [Operation; 8] = [
     Operation::Plan,
     Operation::Costs,
+    Operation::Finish,
+    Operation::FortyJobs,
     Operation::Check,
     Operation::Thin,
     Operation::ShortSight,
@@ -68,6 +89,8 @@ impl Operation {
         match self {
             Operation::Plan => "plan",
             Operation::Costs => "costs",
+            Operation::Finish => "finish",
+            Operation::FortyJobs => "forty-jobs",
             Operation::Check => "check",
             Operation::Thin => "thin",
             Operation::ShortSight => "short-sight",
@@ -78,7 +101,7 @@ impl Operation {
     /// The programs to measure: those with an operation of their own.
     pub fn programs(self) -> &'static [Program] {
         match self {
-            Operation::Plan | Operation::Costs => &PROGRAMS,
+            Operation::Plan | Operation::Costs | Operation::Finish | Operation::FortyJobs => &PROGRAMS,
             _ => &PROGRAMS[..3],
         }
     }
@@ -115,7 +138,17 @@ impl Slices {
 
     pub fn plan(&mut self, program: &Program, floor: Floor, job: Job) -> Result<Plan, Refusal> {
         let Slices { d, e, f, back, route, work } = self;
-        (program.plan)(floor, job, &mut SheetMut { d, e, f, back, route }, work)
+        (program.plan)(floor, job, d, &mut SheetMut { e, f, back, route }, work)
+    }
+
+    pub fn costs(&mut self, program: &Program, floor: Floor, job: Job) -> Result<(), Refusal> {
+        (program.costs)(floor, job.neighbourhood, job.a, &mut self.d, &mut self.work)
+    }
+
+    /// Finishes a job from the costs in d.
+    pub fn finish(&mut self, program: &Program, floor: Floor, job: Job) -> Result<Plan, Refusal> {
+        let Slices { d, e, f, back, route, work } = self;
+        (program.finish)(floor, job, d, &mut SheetMut { e, f, back, route }, work)
     }
 
     pub fn sheet(&self, points: usize) -> Sheet<'_> {
@@ -123,12 +156,14 @@ impl Slices {
     }
 }
 
-/// A job, its twin without a route, its true sheet, and memory for the operations. The memory is not cleared between runs.
+/// A job, its true sheet, the other ends of forty jobs from its start, and memory for the operations. The memory is not
+/// cleared between runs; `given` has the true costs in d.
 pub struct Bench<'a> {
     pub case: &'a Case,
-    without_route: Case,
     pub truth: Slices,
     pub points: usize,
+    ends: Vec<u32>,
+    given: Slices,
     segments: [Vec<(u32, u32)>; 2],
     slices: Slices,
     out: Vec<u16>,
@@ -139,9 +174,10 @@ impl<'a> Bench<'a> {
         let vertices = case.floor().vertices();
         let mut truth = Slices::new(vertices, 0);
         let points = truth.plan(&TEXTBOOK, case.floor(), case.job).map_or(0, |plan| plan.points);
-        let (without_route, segments) = (case.without_route(), [case.segments(false), case.segments(true)]);
+        let given = Slices { d: truth.d.clone(), ..Slices::new(vertices, 0xFF) };
+        let (ends, segments) = (case.forty_ends(), [case.segments(false), case.segments(true)]);
         let (slices, out) = (Slices::new(vertices, 0xFF), vec![0xFFFF; vertices]);
-        Bench { case, without_route, truth, points, segments, slices, out }
+        Bench { case, truth, points, ends, given, segments, slices, out }
     }
 
     /// How many operations a run has.
@@ -154,12 +190,26 @@ impl<'a> Bench<'a> {
     }
 
     pub fn run(&mut self, program: &Program, operation: Operation) {
-        let case = if operation == Operation::Costs { &self.without_route } else { self.case };
-        let (floor, job) = black_box((case.floor(), case.job));
+        let (floor, job) = black_box((self.case.floor(), self.case.job));
         match operation {
-            Operation::Plan | Operation::Costs => {
+            Operation::Plan => {
                 _ = black_box(self.slices.plan(program, floor, job));
                 black_box(&self.slices.route);
+            }
+            Operation::Costs => {
+                _ = black_box(self.slices.costs(program, floor, job));
+                black_box(&self.slices.d);
+            }
+            Operation::Finish => {
+                _ = black_box(self.given.finish(program, floor, job));
+                black_box(&self.given.route);
+            }
+            Operation::FortyJobs => {
+                _ = black_box(self.slices.costs(program, floor, job));
+                for &b in &self.ends {
+                    _ = black_box(self.slices.finish(program, floor, Job { b, ..job }));
+                    black_box(&self.slices.route);
+                }
             }
             Operation::Check => _ = black_box((program.check)(floor, job, self.truth.sheet(self.points))),
             Operation::Thin => {

@@ -23,12 +23,36 @@ pub fn of_end(floor: Floor, end: u32) -> Result<(), Refusal> {
     }
 }
 
+fn of_moves(floor: Floor, neighbourhood: u32) -> Result<(), Refusal> {
+    of_floor(floor)?;
+    if neighbourhood == 4 || neighbourhood == 8 {
+        Ok(())
+    } else {
+        Err(Refusal::BadNeighbourhood)
+    }
+}
+
+/// Refusals 1 to 6 of the costs from one end.
+pub fn of_costs(floor: Floor, neighbourhood: u32, a: u32, d: &[u32], work: &[u32]) -> Result<(), Refusal> {
+    of_moves(floor, neighbourhood)?;
+    of_end(floor, a)?;
+    if d.len() != floor.vertices() {
+        return Err(Refusal::BadSliceLength);
+    }
+    of_work(floor, work)
+}
+
+pub fn of_work(floor: Floor, work: &[u32]) -> Result<(), Refusal> {
+    if work.len() == 4 * floor.vertices() {
+        Ok(())
+    } else {
+        Err(Refusal::BadSliceLength)
+    }
+}
+
 /// Refusals 1 to 6 of a job, but for the working slice.
 pub fn of_job(floor: Floor, job: Job, sheet: Sheet) -> Result<(), Refusal> {
-    of_floor(floor)?;
-    if job.neighbourhood != 4 && job.neighbourhood != 8 {
-        return Err(Refusal::BadNeighbourhood);
-    }
+    of_moves(floor, job.neighbourhood)?;
     of_end(floor, job.a)?;
     of_end(floor, job.b)?;
     let lengths = [sheet.d.len(), sheet.e.len(), sheet.f.len(), sheet.back.len(), sheet.route.len()];

@@ -65,6 +65,8 @@ fn rows(rounds: usize) -> Vec<Row> {
             let mut bench = Bench::new(&case);
             for (operation, by_side) in OPERATIONS.into_iter().zip(&mut by_operation) {
                 if is_measured(operation, neighbourhood) {
+                    // Forty jobs take as long as many rounds of the others.
+                    let rounds = if operation == Operation::FortyJobs { rounds.div_ceil(10) } else { rounds };
                     by_side.push(measure(&mut bench, operation.programs(), operation, rounds));
                 }
             }
@@ -79,7 +81,9 @@ fn rows(rounds: usize) -> Vec<Row> {
 fn title(operation: Operation) -> &'static str {
     match operation {
         Operation::Plan => "Whole plan",
-        Operation::Costs => "Costs from one end (a job with no route)",
+        Operation::Costs => "Costs from one end",
+        Operation::Finish => "Finish from given costs",
+        Operation::FortyJobs => "Forty jobs from one dock",
         Operation::Check => "Checker, on the true sheet",
         Operation::Thin => "Thinning of the central route",
         Operation::ShortSight => "Sight question, at most 8 cells",

@@ -148,14 +148,37 @@ pub fn sight(floor: Floor, a: u32, b: u32) -> Result<bool, Refusal> {
     Ok(Grid::new(floor, 8).sees(a as usize, b as usize))
 }
 
-pub fn plan(floor: Floor, job: Job, sheet: &mut SheetMut, work: &mut [u32]) -> Result<Plan, Refusal> {
-    shape::of_job(floor, job, sheet.read(0))?;
-    if work.len() != 4 * sheet.d.len() {
-        return Err(Refusal::BadSliceLength);
+pub fn plan(floor: Floor, job: Job, d: &mut [u32], sheet: &mut SheetMut, work: &mut [u32]) -> Result<Plan, Refusal> {
+    shape::of_job(floor, job, sheet.read(d, 0))?;
+    shape::of_work(floor, work)?;
+    Grid::new(floor, job.neighbourhood).distances(job.a as usize, d);
+    rest(floor, job, d, sheet, work)
+}
+
+pub fn costs(floor: Floor, neighbourhood: u32, a: u32, d: &mut [u32], work: &mut [u32]) -> Result<(), Refusal> {
+    shape::of_costs(floor, neighbourhood, a, d, work)?;
+    Grid::new(floor, neighbourhood).distances(a as usize, d);
+    work.fill(0);
+    Ok(())
+}
+
+/// Works the costs out anew and compares, then does the rest.
+pub fn finish(floor: Floor, job: Job, d: &[u32], sheet: &mut SheetMut, work: &mut [u32]) -> Result<Plan, Refusal> {
+    shape::of_job(floor, job, sheet.read(d, 0))?;
+    shape::of_work(floor, work)?;
+    let mut own = vec![0; d.len()];
+    Grid::new(floor, job.neighbourhood).distances(job.a as usize, &mut own);
+    if own != d {
+        return Err(Refusal::FalseCosts);
     }
+    rest(floor, job, d, sheet, work)
+}
+
+/// The rest of a sheet from the true costs from its first end.
+fn rest(floor: Floor, job: Job, d: &[u32], sheet: &mut SheetMut, work: &mut [u32]) -> Result<Plan, Refusal> {
     let grid = Grid::new(floor, job.neighbourhood);
     work.fill(0);
-    let planned = fill(grid, job.a as usize, job.b as usize, sheet);
+    let planned = fill(grid, job.a as usize, job.b as usize, d, sheet);
     if planned.is_err() {
         sheet.f.fill(0);
         sheet.back.fill(0);
@@ -164,15 +187,14 @@ pub fn plan(floor: Floor, job: Job, sheet: &mut SheetMut, work: &mut [u32]) -> R
     planned
 }
 
-fn fill(grid: Grid, a: usize, b: usize, sheet: &mut SheetMut) -> Result<Plan, Refusal> {
-    grid.distances(a, sheet.d);
-    let cost = sheet.d[b];
+fn fill(grid: Grid, a: usize, b: usize, d: &[u32], sheet: &mut SheetMut) -> Result<Plan, Refusal> {
+    let cost = d[b];
     if cost == UNREACHABLE {
         sheet.e.fill(0);
         return Err(Refusal::NoRoute);
     }
     grid.distances(b, sheet.e);
-    let (d, e) = (&*sheet.d, &*sheet.e);
+    let e = &*sheet.e;
     let on_way = |v: usize| d[v] != UNREACHABLE && e[v] != UNREACHABLE && d[v] + e[v] == cost;
     let mut way: Vec<usize> = (0..d.len()).filter(|&v| on_way(v)).collect();
     way.sort_by_key(|&v| d[v]);
@@ -212,8 +234,8 @@ pub fn check(floor: Floor, job: Job, sheet: Sheet) -> Result<Verdict, Refusal> {
     let length = sheet.d.len();
     let (mut d, mut e, mut f) = (vec![0; length], vec![0; length], vec![0; length]);
     let (mut back, mut route) = (vec![0; length], vec![0; length]);
-    let mut own = SheetMut { d: &mut d, e: &mut e, f: &mut f, back: &mut back, route: &mut route };
-    let planned = plan(floor, job, &mut own, &mut vec![0; 4 * length]);
+    let mut own = SheetMut { e: &mut e, f: &mut f, back: &mut back, route: &mut route };
+    let planned = plan(floor, job, &mut d, &mut own, &mut vec![0; 4 * length]);
     let points = planned.map_or(0, |plan| plan.points);
     let same = sheet.points == points
         && sheet.d == d

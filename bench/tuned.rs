@@ -3,6 +3,7 @@
 use crate::lurfanzi::{Floor, Job, Plan, Refusal, SheetMut, UNREACHABLE};
 use crate::moves::{fill_masks, next, offsets, sum, CARDINAL};
 use crate::shape;
+use crate::tuned_check::costs_are_true;
 
 /// The moves worth trying at a vertex that was reached by move `via` (8: the start), by the mask of its open moves.
 ///
@@ -146,37 +147,87 @@ fn search4(memory: &mut Memory, columns: usize, from: usize, d: &mut [u32]) -> u
     n
 }
 
-pub fn plan(floor: Floor, job: Job, sheet: &mut SheetMut, work: &mut [u32]) -> Result<Plan, Refusal> {
-    plan_by(fill, floor, job, sheet, work)
+/// How a planner makes masks and costs, and the rest of a sheet from the costs from its first end.
+pub struct Method {
+    /// Puts the masks of open moves into the working slice.
+    pub prepare: fn(Floor, &mut [u32]),
+    /// Costs from one end; the masks are there.
+    pub search: fn(Floor, u32, usize, &mut [u32], &mut [u32]),
+    /// Costs to the other end, counts and route; the masks are there, and f and `back` are 0.
+    pub rest: fn(Floor, Job, &[u32], &mut SheetMut, &mut [u32]) -> Result<Plan, Refusal>,
 }
 
-/// How costs, counts and route are made on a floor of good shape, where f and `back` are 0.
-pub type Fill = fn(Floor, Job, &mut SheetMut, &mut [u32]) -> Result<Plan, Refusal>;
+const METHOD: Method = Method { prepare, search, rest };
 
-/// The refusals for the shape, a filling, and the clearing of what it leaves.
-pub fn plan_by(fill: Fill, floor: Floor, job: Job, sheet: &mut SheetMut, work: &mut [u32]) -> Result<Plan, Refusal> {
-    shape::of_job(floor, job, sheet.read(0))?;
-    if work.len() != 4 * sheet.d.len() {
-        return Err(Refusal::BadSliceLength);
+pub fn plan(floor: Floor, job: Job, d: &mut [u32], sheet: &mut SheetMut, work: &mut [u32]) -> Result<Plan, Refusal> {
+    METHOD.plan(floor, job, d, sheet, work)
+}
+
+pub fn costs(floor: Floor, neighbourhood: u32, a: u32, d: &mut [u32], work: &mut [u32]) -> Result<(), Refusal> {
+    METHOD.costs(floor, neighbourhood, a, d, work)
+}
+
+pub fn finish(floor: Floor, job: Job, d: &[u32], sheet: &mut SheetMut, work: &mut [u32]) -> Result<Plan, Refusal> {
+    METHOD.finish(floor, job, d, sheet, work)
+}
+
+impl Method {
+    pub fn plan(
+        &self, floor: Floor, job: Job, d: &mut [u32], sheet: &mut SheetMut, work: &mut [u32],
+    ) -> Result<Plan, Refusal> {
+        shape::of_job(floor, job, sheet.read(d, 0))?;
+        shape::of_work(floor, work)?;
+        (self.prepare)(floor, work);
+        (self.search)(floor, job.neighbourhood, job.a as usize, d, work);
+        self.fill_rest(floor, job, d, sheet, work)
     }
-    sheet.f.fill(0);
-    sheet.back.fill(0);
-    let planned = fill(floor, job, sheet, work);
-    match planned {
-        Ok(plan) => sheet.route[plan.points..].fill(0),
-        Err(_) => sheet.route.fill(0),
+
+    pub fn costs(
+        &self, floor: Floor, neighbourhood: u32, a: u32, d: &mut [u32], work: &mut [u32],
+    ) -> Result<(), Refusal> {
+        shape::of_costs(floor, neighbourhood, a, d, work)?;
+        (self.prepare)(floor, work);
+        (self.search)(floor, neighbourhood, a as usize, d, work);
+        work.fill(0);
+        Ok(())
     }
-    work.fill(0);
-    planned
+
+    /// Tests the costs as the tuned checker does, then does the rest.
+    pub fn finish(
+        &self, floor: Floor, job: Job, d: &[u32], sheet: &mut SheetMut, work: &mut [u32],
+    ) -> Result<Plan, Refusal> {
+        shape::of_job(floor, job, sheet.read(d, 0))?;
+        shape::of_work(floor, work)?;
+        if !costs_are_true(floor, job, d) {
+            return Err(Refusal::FalseCosts);
+        }
+        (self.prepare)(floor, work);
+        self.fill_rest(floor, job, d, sheet, work)
+    }
+
+    /// The rest of a sheet, and the clearing of what it leaves.
+    fn fill_rest(
+        &self, floor: Floor, job: Job, d: &[u32], sheet: &mut SheetMut, work: &mut [u32],
+    ) -> Result<Plan, Refusal> {
+        sheet.f.fill(0);
+        sheet.back.fill(0);
+        let planned = (self.rest)(floor, job, d, sheet, work);
+        match planned {
+            Ok(plan) => sheet.route[plan.points..].fill(0),
+            Err(_) => sheet.route.fill(0),
+        }
+        work.fill(0);
+        planned
+    }
 }
 
 /// Fills the counts on the way; whether all of them fit in 64 bits.
 fn counts<const STEP: usize>(
-    way: &[u16], masks: &[u8], offsets: &[isize; 8], a: usize, b: usize, sheet: &mut SheetMut,
+    way: &[u16], masks: &[u8], offsets: &[isize; 8], a: usize, b: usize, d: &[u32], sheet: &mut SheetMut,
 ) -> bool {
     sheet.f[a] = 1;
     for v in way.iter().rev().map(|&v| usize::from(v)).filter(|&v| v != a) {
-        let (count, over) = sum::<STEP>(v, masks[v], offsets, sheet.d, sheet.f);
+        let (count, over) = sum::<STEP>(v, masks[v], offsets, d, sheet.f);
         if over {
             return false;
         }
@@ -192,13 +243,13 @@ fn counts<const STEP: usize>(
 
 /// Counts and route from the costs. `way` has the vertices on the way, those nearer to B first.
 pub fn counts_and_route(
-    job: Job, columns: usize, way: &[u16], masks: &[u8], sheet: &mut SheetMut,
+    job: Job, columns: usize, way: &[u16], masks: &[u8], d: &[u32], sheet: &mut SheetMut,
 ) -> Result<Plan, Refusal> {
     let (a, b, offsets) = (job.a as usize, job.b as usize, offsets(columns));
     let (moves, fits) = if job.neighbourhood == 8 {
-        (0xFF, counts::<1>(way, masks, &offsets, a, b, sheet))
+        (0xFF, counts::<1>(way, masks, &offsets, a, b, d, sheet))
     } else {
-        (CARDINAL, counts::<2>(way, masks, &offsets, a, b, sheet))
+        (CARDINAL, counts::<2>(way, masks, &offsets, a, b, d, sheet))
     };
     if !fits {
         sheet.f.fill(0);
@@ -208,29 +259,42 @@ pub fn counts_and_route(
     let (mut u, mut points) = (a, 1);
     sheet.route[0] = a as u16;
     while u != b {
-        u = next(u, masks[u] & moves, &offsets, sheet.d, sheet.f, sheet.back).unwrap_or(b);
+        u = next(u, masks[u] & moves, &offsets, d, sheet.f, sheet.back).unwrap_or(b);
         sheet.route[points] = u as u16;
         points += 1;
     }
-    Ok(Plan { cost: sheet.d[b], total: sheet.f[b], points })
+    Ok(Plan { cost: d[b], total: sheet.f[b], points })
 }
 
-fn fill(floor: Floor, job: Job, sheet: &mut SheetMut, work: &mut [u32]) -> Result<Plan, Refusal> {
-    let (a, b, columns) = (job.a as usize, job.b as usize, floor.width as usize + 1);
-    let mut memory = Memory::of(work, floor.vertices());
-    let search = if job.neighbourhood == 8 { search8 } else { search4 };
-    fill_masks(floor, memory.masks);
-    search(&mut memory, columns, a, sheet.d);
-    let cost = sheet.d[b];
+fn prepare(floor: Floor, work: &mut [u32]) {
+    fill_masks(floor, Memory::of(work, floor.vertices()).masks);
+}
+
+fn search(floor: Floor, neighbourhood: u32, from: usize, d: &mut [u32], work: &mut [u32]) {
+    settle(&mut Memory::of(work, floor.vertices()), neighbourhood, floor.width as usize + 1, from, d);
+}
+
+fn settle(memory: &mut Memory, neighbourhood: u32, columns: usize, from: usize, d: &mut [u32]) -> usize {
+    if neighbourhood == 8 {
+        search8(memory, columns, from, d)
+    } else {
+        search4(memory, columns, from, d)
+    }
+}
+
+fn rest(floor: Floor, job: Job, d: &[u32], sheet: &mut SheetMut, work: &mut [u32]) -> Result<Plan, Refusal> {
+    let (b, columns) = (job.b as usize, floor.width as usize + 1);
+    let cost = d[b];
     if cost == UNREACHABLE {
         sheet.e.fill(0);
         return Err(Refusal::NoRoute);
     }
-    let settled = search(&mut memory, columns, b, sheet.e);
+    let mut memory = Memory::of(work, floor.vertices());
+    let settled = settle(&mut memory, job.neighbourhood, columns, b, sheet.e);
     let Memory { order, later: way, masks } = memory;
 
     // The vertices on the way, those nearer to B first.
-    let (d, e) = (&*sheet.d, &*sheet.e);
+    let e = &*sheet.e;
     let mut n = 0;
     for &v in &order[..settled] {
         // SAFETY: the entries of `order` are vertices that both ends reach, none twice.
@@ -243,5 +307,5 @@ fn fill(floor: Floor, job: Job, sheet: &mut SheetMut, work: &mut [u32]) -> Resul
             n += usize::from(from + to == cost);
         }
     }
-    counts_and_route(job, columns, &way[..n], masks, sheet)
+    counts_and_route(job, columns, &way[..n], masks, d, sheet)
 }

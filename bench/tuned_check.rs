@@ -119,22 +119,32 @@ fn is_0<T: Copy + Default + PartialEq + std::ops::BitOr<Output = T>>(slice: &[T]
     slice.chunks(1024).all(|chunk| chunk.iter().fold(T::default(), |all, &one| all | one) == T::default())
 }
 
+/// Whether the costs are those from the job's first end.
+pub fn costs_are_true(floor: Floor, job: Job, d: &[u32]) -> bool {
+    let columns = floor.width as usize + 1;
+    let moves = if job.neighbourhood == 8 { 0xFF } else { CARDINAL };
+    let mut window = Window::new([d], [job.a as usize], columns);
+    all_rows(floor, |y, above, below| window.row_is_true(y, &masks_of(above, below, columns, moves)))
+}
+
+/// The masks of a row of vertices, for a neighbourhood's moves.
+#[inline(always)]
+fn masks_of(above: &Cells, below: &Cells, columns: usize, moves: u8) -> [u8; 128] {
+    let mut masks = [0; 128];
+    row_masks(above, below, &mut masks[..columns]);
+    masks.iter_mut().for_each(|mask| *mask &= moves);
+    masks
+}
+
 pub fn check(floor: Floor, job: Job, sheet: Sheet) -> Result<Verdict, Refusal> {
     shape::of_job(floor, job, sheet)?;
     let columns = floor.width as usize + 1;
     let moves = if job.neighbourhood == 8 { 0xFF } else { CARDINAL };
     let (a, b) = (job.a as usize, job.b as usize);
-    let masks_of = |above: &Cells, below: &Cells| {
-        let mut masks = [0; 128];
-        row_masks(above, below, &mut masks[..columns]);
-        masks.iter_mut().for_each(|mask| *mask &= moves);
-        masks
-    };
+    let masks_of = |above: &Cells, below: &Cells| masks_of(above, below, columns, moves);
     let verdict = if sheet.d[b] == UNREACHABLE {
         let zeros = sheet.points == 0 && is_0(sheet.e) && is_0(sheet.f) && is_0(sheet.back) && is_0(sheet.route);
-        let mut window = Window::new([sheet.d], [a], columns);
-        let good = zeros && all_rows(floor, |y, above, below| window.row_is_true(y, &masks_of(above, below)));
-        good.then_some(Verdict::NoRoute)
+        (zeros && costs_are_true(floor, job, sheet.d)).then_some(Verdict::NoRoute)
     } else {
         let offsets = offsets(columns);
         let mut window = Window::new([sheet.d, sheet.e], [a, b], columns);
