@@ -506,6 +506,18 @@ mod tests {
         assert_eq!(finish_from(SHUT, JOB, &d, 6), Err(Refusal::NoRoute));
     }
 
+    /// Calls at the same time share the costs.
+    #[test]
+    fn at_the_same_time() {
+        let d = [0, 408, 816, 408, 577, 985];
+        let costs_to = |b: u32| finish_from(OPEN, Job { b, ..JOB }, &d, 6).map(|plan| plan.cost);
+        let found = std::thread::scope(|scope| {
+            let calls = [0, 1, 2, 3, 4, 5].map(|b| scope.spawn(move || costs_to(b)));
+            calls.map(|call| call.join().expect("a call that ends"))
+        });
+        assert_eq!(found, d.map(Ok));
+    }
+
     #[test]
     fn sights() {
         assert_eq!(sight(OPEN, 0, 5), Ok(true));

@@ -12,9 +12,9 @@ use crate::sheet::{Request, Sheet, Solver, Truth, NO_WALK};
 use crate::{sight, stream};
 
 /// Lengths of d, e, f, b, route and the working slice.
-type Lengths = [usize; 6];
+pub type Lengths = [usize; 6];
 
-fn good_lengths(count: usize) -> Lengths {
+pub fn good_lengths(count: usize) -> Lengths {
     [count, count, count, count, count, 4 * count]
 }
 
@@ -183,7 +183,7 @@ impl Maker {
         std::mem::swap(&mut self.random, &mut self.aside);
     }
 
-    fn use_given(&mut self) {
+    pub fn use_given(&mut self) {
         std::mem::swap(&mut self.random, &mut self.given);
     }
 
@@ -191,7 +191,7 @@ impl Maker {
         self.count() > LARGE
     }
 
-    fn count(&self) -> usize {
+    pub fn count(&self) -> usize {
         self.solver.floor.vertex_count()
     }
 
@@ -330,7 +330,7 @@ impl Maker {
     }
 
     /// A request that answers 4 or 5.
-    fn bad_request(&mut self) -> Request {
+    pub fn bad_request(&mut self) -> Request {
         let mut request = self.any_request();
         let fault = self.random.within(1, 3);
         if fault != 2 {
@@ -361,7 +361,7 @@ impl Maker {
     }
 
     /// Lengths of which one of the first `slices` is not the good one.
-    fn bad_lengths(&mut self, slices: usize) -> Lengths {
+    pub fn bad_lengths(&mut self, slices: usize) -> Lengths {
         let good = good_lengths(self.count());
         let mut lengths = good;
         while lengths == good {
@@ -388,7 +388,7 @@ impl Maker {
         self.record(format::COSTS, &words, Vec::new());
     }
 
-    fn finish_record(&mut self, request: Request, lengths: Lengths, seed: u32, damages: &[Damage]) {
+    pub fn finish_record(&mut self, request: Request, lengths: Lengths, seed: u32, damages: &[Damage]) {
         let mut words = request_words(request);
         words.extend(lengths.map(|length| length as u32));
         words.push(seed);
@@ -436,125 +436,6 @@ impl Maker {
 
 fn request_words(request: Request) -> Vec<u32> {
     vec![request.neighbourhood as u32, request.start as u32, request.goal as u32]
-}
-
-/// What `false_places` changes of the costs from a start.
-#[derive(Clone, Copy)]
-enum FalseCost {
-    Start,
-    FirstVertex,
-    LastVertex,
-    RowEnd,
-    AnyVertex,
-    Goal,
-    AlmostUnreached,
-    ReachedFromNowhere,
-    Swapped,
-    Cluster,
-}
-
-const FALSE_COSTS: [FalseCost; 10] = [
-    FalseCost::Start,
-    FalseCost::FirstVertex,
-    FalseCost::LastVertex,
-    FalseCost::RowEnd,
-    FalseCost::AnyVertex,
-    FalseCost::Goal,
-    FalseCost::AlmostUnreached,
-    FalseCost::ReachedFromNowhere,
-    FalseCost::Swapped,
-    FalseCost::Cluster,
-];
-
-/// Costs handed in: those from the request's start stand in d, some of them changed.
-impl Maker {
-    /// The job finished from false costs, other jobs from these costs, and faults of shape with costs that are false.
-    fn false_costs(&mut self, request: Request) {
-        self.use_given();
-        let good = good_lengths(self.count());
-        for kind in FALSE_COSTS {
-            if self.is_large() && self.random.percent(60) {
-                continue;
-            }
-            let places = self.false_places(kind, request);
-            if !places.is_empty() {
-                self.finish_from(request, good, &places);
-            }
-        }
-        for other in self.other_jobs(request) {
-            self.finish_from(other, good, &[]);
-        }
-        let places = self.false_places(FalseCost::AnyVertex, request);
-        let lengths = self.bad_lengths(6);
-        self.finish_from(request, lengths, &places);
-        let bad = self.bad_request();
-        self.finish_from(bad, good, &places);
-        self.use_given();
-    }
-
-    fn finish_from(&mut self, request: Request, lengths: Lengths, places: &[Damage]) {
-        let seed = self.random.next() as u32;
-        self.finish_record(request, lengths, seed, places);
-    }
-
-    /// Another goal, for which these costs are true; and another start or neighbourhood.
-    fn other_jobs(&mut self, request: Request) -> [Request; 6] {
-        let count = self.count() as u64;
-        let near = self.near(request.start as usize) as u64;
-        let (goal, start) = (self.random.below(count), self.random.below(count));
-        [
-            Request { goal, ..request },
-            Request { goal: request.start, ..request },
-            Request { start: request.goal, goal: request.start, ..request },
-            Request { neighbourhood: 12 - request.neighbourhood, ..request },
-            Request { start: near, ..request },
-            Request { start, ..request },
-        ]
-    }
-
-    /// Changes of the costs from the request's start; none where the floor has no such place.
-    fn false_places(&mut self, kind: FalseCost, request: Request) -> Vec<Damage> {
-        let d = self.solver.costs(request.neighbourhood, request.start as usize);
-        let (start, goal) = (request.start as usize, request.goal as usize);
-        let columns = self.solver.floor.width as usize + 1;
-        let any = self.random.index(d.len());
-        let unreached: Vec<usize> = (0..d.len()).filter(|&v| d[v] == NO_WALK).collect();
-        let changes = match kind {
-            FalseCost::Start => vec![(start, self.random.pick(&[1, 408, NO_WALK - 1, NO_WALK]))],
-            FalseCost::FirstVertex => vec![(0, self.one_off(d[0]))],
-            FalseCost::LastVertex => vec![(d.len() - 1, self.one_off(d[d.len() - 1]))],
-            FalseCost::RowEnd => {
-                let place = any / columns * columns + columns - 1;
-                vec![(place, self.one_off(d[place]))]
-            }
-            FalseCost::AnyVertex => vec![(any, self.other_cost(d[any]))],
-            FalseCost::Goal if d[goal] == NO_WALK => vec![(goal, self.random.pick(&[408, 577, 9_452_991]))],
-            FalseCost::Goal => vec![(goal, NO_WALK)],
-            FalseCost::AlmostUnreached | FalseCost::ReachedFromNowhere if unreached.is_empty() => Vec::new(),
-            FalseCost::AlmostUnreached => vec![(self.random.pick(&unreached), NO_WALK - 1)],
-            FalseCost::ReachedFromNowhere => vec![(self.random.pick(&unreached), 0)],
-            FalseCost::Swapped => {
-                let other = self.random.index(d.len());
-                vec![(any, d[other]), (other, d[any])]
-            }
-            FalseCost::Cluster => {
-                let places = [any; 4].map(|centre| self.near(centre));
-                places.map(|place| (place, d[place].wrapping_sub(408))).to_vec()
-            }
-        };
-        changes.into_iter().map(|(place, cost)| Damage { slice: 0, place, value: cost.into() }).collect()
-    }
-
-    /// One more or one less.
-    fn one_off(&mut self, cost: u32) -> u32 {
-        self.random.pick(&[cost.wrapping_add(1), cost.wrapping_sub(1)])
-    }
-
-    /// A bit turned over, no cost, no walk, or any number.
-    fn other_cost(&mut self, cost: u32) -> u32 {
-        let choices = [cost ^ (1 << self.random.below(32)), 0, NO_WALK, self.random.next() as u32];
-        self.random.pick(&choices)
-    }
 }
 
 /// Damage to a sheet.
@@ -835,7 +716,7 @@ impl Maker {
         at
     }
 
-    fn near(&mut self, at: usize) -> usize {
+    pub fn near(&mut self, at: usize) -> usize {
         let (x, y) = self.solver.floor.point(at);
         let mut offset = || self.random.below(7) as i64 - 3;
         let (dx, dy) = (offset(), offset());

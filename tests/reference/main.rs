@@ -12,6 +12,7 @@ mod answers;
 mod boundary;
 mod closure_jobs;
 mod closures;
+mod cost_jobs;
 mod count;
 mod floor;
 mod format;
