@@ -26,9 +26,9 @@ use Rattle.moves.specs.declared.Rows.{Rows}
 use Rattle.neighbours.specs.Reading.{maskGraph}
 use Rattle.neighbours.proofs.Agree.{Agrees}
 use Rattle.workspace.specs.Regions.{maskAt}
-use Rattle.counts.specs.Passes.{placeOf, WayOrder, Passable}
+use Rattle.counts.specs.Passes.{turnPlace, WayOrder, Passable}
 
-pub place-lt : (n i : ℕ) (rev : Bool) → i < n → placeOf n i rev < n
+pub place-lt : (n i : ℕ) (rev : Bool) → i < n → turnPlace n i rev < n
 place-lt n i true l = omega arith
 place-lt n i false l = l
 

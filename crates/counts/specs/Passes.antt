@@ -1,7 +1,7 @@
 -- The counting passes over the vertices on the way, by their cost to b: what they are handed, and what they leave.
 -- Nobody has to believe these: the planner's contract is stated by the definitions of paths.
 --
---   placeOf n i rev        == the place in an order of n that a pass comes to at turn i: from the front, or, reversed,
+--   turnPlace n i rev      == the place in an order of n that a pass comes to at turn i: from the front, or, reversed,
 --                             from the back
 --   turnOf work n rev i    == the vertex at that place
 --   countOf ..             == the count of vertex u on the way, by the counts f of the vertices before
@@ -34,11 +34,11 @@ use Rattle.moves.specs.declared.Rows.{Rows}
 use Rattle.neighbours.specs.Reading.{maskGraph, Readable}
 use Rattle.workspace.specs.Regions.{maskAt, Ordered, Masked}
 
-abbrev pub placeOf : ℕ → ℕ → Bool → ℕ
-placeOf n i rev = pick rev (n - 1 - i) i
+abbrev pub turnPlace : ℕ → ℕ → Bool → ℕ
+turnPlace n i rev = pick rev (n - 1 - i) i
 
 abbrev pub turnOf : List ℕ → ℕ → Bool → ℕ → ℕ
-turnOf work n rev i = entry work (placeOf n i rev)
+turnOf work n rev i = entry work (turnPlace n i rev)
 
 abbrev pub countOf : Rows → List ℕ → ℕ → ℕ → List ℕ → List ℕ → ℕ → ℕ
 countOf rows shifts mask s d f =

@@ -29,7 +29,7 @@ pub fn costs_over_masks(
 }
 
 // Fills d with the costs from a, and `work` with 0. It relies on nothing that stands in the two slices.
-pub fn fill_costs(
+pub fn costs_from(
     w: usize,
     h: usize,
     map: &[u8],

@@ -14,7 +14,7 @@ use Rattle.basics.specs.Bounded.{every}
 use Rattle.basics.proofs.Bounded.{every-cong}
 use Rattle.floor.specs.Refusals.{mapByte}
 use Rattle.floor.proofs.Shapes.{floor-good}
-use Rattle.records.specs.Format.{cellByte, recordAt, first, cellsOf}
+use Rattle.records.specs.Format.{cellByte, recordAt, startCursor, cellsOf}
 use Rattle.records.specs.declared.stream.Cursor.{Cursor}
 use Rattle.records.specs.declared.stream.MapRecord.{MapRecord}
 use Rattle.records.specs.declared.stream.Record.the-variants.{Map}
@@ -31,9 +31,9 @@ module _ {s map : List ℕ} {m : MapRecord} (c : CellsIn s m map) where
       let count : m .cells + length map - m .cells ≡ m .wide * m .high = omega (arith, c .size) in
       ap (λ n. take n (drop (m .cells) s)) count
 
-module _ (s : List ℕ) (m : MapRecord) (c : Cursor) (e : recordAt s first ≡ Map m c) where
-  found : MapFound s first m c
-  found = map-step s first m c e
+module _ (s : List ℕ) (m : MapRecord) (c : Cursor) (e : recordAt s startCursor ≡ Map m c) where
+  found : MapFound s startCursor m c
+  found = map-step s startCursor m c e
 
   cells-size : length (cellsOf s m) ≡ m .wide * m .high
   cells-size =

@@ -9,7 +9,7 @@ use mathlib.Core.List.{List, [], _++_, append-assoc}
 use mathlib.Core.Option.{some, none}
 use native.Mathlib.Omega.{arith}
 use lib.ListN.{take}
-use Rattle.records.specs.Format.{Stream, recordAt, first, cellsOf, streamFrom, streamOf}
+use Rattle.records.specs.Format.{Stream, recordAt, startCursor, cellsOf, streamFrom, streamOf}
 use Rattle.records.specs.Lines.{badLine}
 use Rattle.records.specs.declared.stream.Cursor.{Cursor}
 use Rattle.records.specs.declared.stream.MapRecord.{MapRecord}
@@ -39,31 +39,33 @@ module _ (s : List ℕ) (w h : ℕ) (map : List ℕ) (c : Cursor) where
   text-bad p e = ap (restText w h map) (stream-bad s c p e)
 
 module _ (s : List ℕ) where
-  pub program-map : (m : MapRecord) (d : Cursor) → recordAt s first ≡ Map m d
+  pub program-map : (m : MapRecord) (d : Cursor) → recordAt s startCursor ≡ Map m d
       → programText s ≡ textFrom s (m .wide) (m .high) (cellsOf s m) d
   unfolding programText textFrom restText
-  program-map m d e = ap (λ t. floorText s (t .map) t) (stream-first s ∙ stream-map s first m d e)
+  program-map m d e = ap (λ t. floorText s (t .map) t) (stream-first s ∙ stream-map s startCursor m d e)
 
-  pub program-bad : (p : ℕ) → recordAt s first ≡ Bad p → programText s ≡ badLine p
+  pub program-bad : (p : ℕ) → recordAt s startCursor ≡ Bad p → programText s ≡ badLine p
   unfolding programText
-  program-bad p e = ap (λ t. floorText s (t .map) t) (stream-first s ∙ stream-bad s first p e)
+  program-bad p e = ap (λ t. floorText s (t .map) t) (stream-first s ∙ stream-bad s startCursor p e)
 
   pub program-limit : programText s ≡ programText (take longest s)
   unfolding programText restText
-  program-limit = cells (recordAt s first) refl ∙ ap (λ t. floorText (take longest s) (t .map) t) (stream-limit s)
+  program-limit = cells (recordAt s startCursor) refl ∙ ap (λ t. floorText (take longest s) (t .map) t) (stream-limit s)
     where
-      cells : (r : Record) → recordAt s first ≡ r
+      cells : (r : Record) → recordAt s startCursor ≡ r
           → floorText s (streamOf s .map) (streamOf s) ≡ floorText (take longest s) (streamOf s .map) (streamOf s)
       cells (Map m d) e =
           let same : streamOf s .map ≡ some m =
-          ap (λ (t : Stream). t .map) (stream-first s ∙ stream-map s first m d e) in
+          ap (λ (t : Stream). t .map) (stream-first s ∙ stream-map s startCursor m d e) in
           rw same (ap (λ l. restText (m .wide) (m .high) l (streamOf s)) (cells-limit s m d e))
       cells (Job j d) e =
-          let f = job-step s first j d e in
+          let f = job-step s startCursor j d e in
           absurd (omega (arith, f .number, f .number-pos))
       cells End e =
-          let same : streamOf s .map ≡ none = ap (λ (t : Stream). t .map) (stream-first s ∙ stream-end s first e) in
+          let same : streamOf s .map ≡ none =
+          ap (λ (t : Stream). t .map) (stream-first s ∙ stream-end s startCursor e) in
           rw same
       cells (Bad p) e =
-          let same : streamOf s .map ≡ none = ap (λ (t : Stream). t .map) (stream-first s ∙ stream-bad s first p e) in
+          let same : streamOf s .map ≡ none =
+          ap (λ (t : Stream). t .map) (stream-first s ∙ stream-bad s startCursor p e) in
           rw same

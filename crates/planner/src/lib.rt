@@ -257,7 +257,7 @@ fn fill_job(
     if work.len() != 4 * v {
         return Costed::Refused(Refusal::SliceLength);
     }
-    distances::fill_costs(w, h, map, rows, a, d, work);
+    distances::costs_from(w, h, map, rows, a, d, work);
     Costed::Filled
 }
 

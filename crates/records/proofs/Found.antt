@@ -17,7 +17,7 @@ use Rattle.records.specs.Format.{
   wholeAt,
   wideAt,
   highAt,
-  side,
+  mapSide,
   cellByte,
   goodMap,
   mapIn,
@@ -43,18 +43,18 @@ pub granted : {r b : Bool} → r ≡ b → not r ≡ false → b ≡ true
 granted {r} {b} e t = sym e ∙ not-false r t
 
 -- A good side, in numbers.
-pub side-pos : (n : ℕ) → side n ≡ true → 1 ≤ n
+pub side-pos : (n : ℕ) → mapSide n ≡ true → 1 ≤ n
 side-pos n e = leb-true 1 n (and-left (leb 1 n) (leb n 31) e)
 
-pub side-le : (n : ℕ) → side n ≡ true → n ≤ 31
+pub side-le : (n : ℕ) → mapSide n ≡ true → n ≤ 31
 side-le n e = leb-true n 31 (and-right (leb 1 n) (leb n 31) e)
 
 -- ---- a map
 
 pub record GoodMap (s : List ℕ) (p : ℕ) : Type 0 where
   pub mark : markedAt s p 0x4D 0x50 ≡ true
-  pub wide : side (wideAt s p) ≡ true
-  pub high : side (highAt s p) ≡ true
+  pub wide : mapSide (wideAt s p) ≡ true
+  pub high : mapSide (highAt s p) ≡ true
   pub whole : p + (4 + wideAt s p * highAt s p) ≤ length s
   pub cells : every (wideAt s p * highAt s p) (cellByte s (p + 4)) ≡ true
 
@@ -63,8 +63,8 @@ module _ (s : List ℕ) (p : ℕ) where
   unfolding goodMap
   good-map e =
       let mark : Bool = markedAt s p 0x4D 0x50 in
-      let wide : Bool = side (wideAt s p) in
-      let high : Bool = side (highAt s p) in
+      let wide : Bool = mapSide (wideAt s p) in
+      let high : Bool = mapSide (highAt s p) in
       let whole : Bool = wholeAt s p (4 + wideAt s p * highAt s p) in
       let cells : Bool = every (wideAt s p * highAt s p) (cellByte s (p + 4)) in
       let e₄ = and-left (mark && wide && high && whole) cells e in

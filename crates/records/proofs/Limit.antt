@@ -20,7 +20,7 @@ use Rattle.records.specs.Format.{
   markedAt,
   wideAt,
   highAt,
-  side,
+  mapSide,
   cellByte,
   goodMap,
   mapIn,
@@ -31,7 +31,7 @@ use Rattle.records.specs.Format.{
   pastJob,
   jobAt,
   recordAt,
-  first,
+  startCursor,
   cellsOf,
   withMap,
   withJob,
@@ -101,8 +101,8 @@ module _ {s t : List ℕ} (a : Agree s t) where
         let few : wideAt s p * highAt s p ≤ 961 = cells-few s p g in
         record {
           mark = sym (mark-same 0x4D 0x50) ∙ g .mark;
-          wide = ap side (sym wide-same) ∙ g .wide;
-          high = ap side (sym high-same) ∙ g .high;
+          wide = ap mapSide (sym wide-same) ∙ g .wide;
+          high = ap mapSide (sym high-same) ∙ g .high;
           whole =
               let size : ℕ = p + (4 + wideAt t p * highAt t p) in
               leb-true size (length t)
@@ -197,7 +197,7 @@ module _ {s t : List ℕ} (a : Agree s t) where
 pub stream-limit : (s : List ℕ) → streamOf s ≡ streamOf (take longest s)
 unfolding streamOf streamFrom
 stream-limit s =
-    steps-same (agree-take s) 1002 first record { start = λ e. refl; place = omega arith; number = omega arith }
+    steps-same (agree-take s) 1002 startCursor record { start = λ e. refl; place = omega arith; number = omega arith }
 
 part-take : (p k n : ℕ) (s : List ℕ) → p + k ≤ n → take k (drop p s) ≡ take k (drop p (take n s))
 part-take zero k n s l = sym (take-take k n s (omega arith))
@@ -205,9 +205,9 @@ part-take (suc p) k zero s l = absurd (omega arith)
 part-take (suc p) k (suc n) [] l = refl
 part-take (suc p) k (suc n) (x ∷ s) l = part-take p k n s (omega arith)
 
-pub cells-limit : (s : List ℕ) (m : MapRecord) (d : Cursor) → recordAt s first ≡ Map m d
+pub cells-limit : (s : List ℕ) (m : MapRecord) (d : Cursor) → recordAt s startCursor ≡ Map m d
     → cellsOf s m ≡ cellsOf (take longest s) m
 cells-limit s m d e =
-    let f = map-step s first m d e in
+    let f = map-step s startCursor m d e in
     let few : m .wide * m .high ≤ 961 = mul-le-mul {n₂ = 31} {m₂ = 31} (f .wide) (f .high) in
     part-take (m .cells) (m .wide * m .high) longest s (omega (arith, f .place))

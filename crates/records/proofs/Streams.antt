@@ -6,7 +6,7 @@ use Prim.Native.Nat.{ℕ, suc, _+_, _-_}
 use mathlib.Core.Path.{_≡_, refl, ap, _∙_}
 use mathlib.Core.List.{List}
 use native.Mathlib.Omega.{arith}
-use Rattle.records.specs.Format.{mapIn, pastMap, jobIn, pastJob, recordAt, first}
+use Rattle.records.specs.Format.{mapIn, pastMap, jobIn, pastJob, recordAt, startCursor}
 use Rattle.records.specs.Format.{ended, badAt, withMap, withJob, andRest, steps, streamFrom, streamOf}
 use Rattle.records.specs.declared.stream.Cursor.{Cursor}
 use Rattle.records.specs.declared.stream.MapRecord.{MapRecord}
@@ -15,7 +15,7 @@ use Rattle.records.specs.declared.stream.Record.{Record}
 use Rattle.records.specs.declared.stream.Record.the-variants.{Map, Job, End, Bad}
 use Rattle.records.proofs.Found.{Finding, found-map, no-map, at-end, found-job, no-job, finding}
 
-pub stream-first : (s : List ℕ) → streamOf s ≡ streamFrom s first
+pub stream-first : (s : List ℕ) → streamOf s ≡ streamFrom s startCursor
 unfolding streamOf
 stream-first s = refl
 

@@ -42,8 +42,8 @@ abbrev pub highAt : List ℕ → ℕ → ℕ
 highAt s p = getD s (p + 3) 0
 
 -- A side is 1 to 31.
-abbrev pub side : ℕ → Bool
-side n = leb 1 n && leb n 31
+abbrev pub mapSide : ℕ → Bool
+mapSide n = leb 1 n && leb n 31
 
 -- Cell k of the cells that start at p is 0 or 1.
 abbrev pub cellByte : List ℕ → ℕ → ℕ → Bool
@@ -51,7 +51,7 @@ cellByte s p k = leb (getD s (p + k) 0) 1
 
 unfoldable pub goodMap : List ℕ → ℕ → Bool
 goodMap s p =
-    markedAt s p 0x4D 0x50 && side (wideAt s p) && side (highAt s p) && wholeAt s p (4 + wideAt s p * highAt s p)
+    markedAt s p 0x4D 0x50 && mapSide (wideAt s p) && mapSide (highAt s p) && wholeAt s p (4 + wideAt s p * highAt s p)
     && every (wideAt s p * highAt s p) (cellByte s (p + 4))
 
 abbrev pub mapIn : List ℕ → ℕ → MapRecord
@@ -83,8 +83,8 @@ recordAt s c =
     (pick (leb (length s) (c .at)) End
     (pick (leb (c .due) 1000) (jobAt s (c .at) (c .due)) (Bad (c .at))))
 
-abbrev pub first : Cursor
-first = record { at = 0; due = 0 }
+abbrev pub startCursor : Cursor
+startCursor = record { at = 0; due = 0 }
 
 abbrev pub cellsOf : List ℕ → MapRecord → List ℕ
 cellsOf s m = take (m .wide * m .high) (drop (m .cells) s)
@@ -124,4 +124,4 @@ unfoldable pub streamFrom : List ℕ → Cursor → Stream
 streamFrom s c = steps (suc (1001 - c .due)) s c
 
 unfoldable pub streamOf : List ℕ → Stream
-streamOf s = streamFrom s first
+streamOf s = streamFrom s startCursor

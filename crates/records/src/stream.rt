@@ -3,7 +3,7 @@ ghost use mathlib.Core.Path.{_≡_};
 ghost use Prim.Native.Nat.{_+_, _*_, _<_, _≤_};
 ghost use lib.ListN.{length, getD};
 ghost use Rattle.basics.specs.Bounded.{every};
-ghost use Rattle.records.specs.Format.{wordAt, markedAt, side, cellByte, mapAt, jobAt, recordAt, first};
+ghost use Rattle.records.specs.Format.{wordAt, markedAt, mapSide, cellByte, mapAt, jobAt, recordAt, startCursor};
 
 // The place of the next record, and its number: 0 for the map, k for job k.
 pub struct Cursor {
@@ -65,7 +65,7 @@ pub fn word(s: &[u8], at: usize) -> usize
 
 // Whether a side of the map is 1 to 31.
 fn side_good(n: usize) -> bool
-    ensures { λ r. ⌜ r ≡ side n ⌝ }
+    ensures { λ r. ⌜ r ≡ mapSide n ⌝ }
 {
     if n < 1 {
         return false;
@@ -161,7 +161,7 @@ fn read_job(s: &[u8], at: usize, number: usize) -> Record
 impl Cursor {
     // At the start of a stream.
     pub fn new() -> Self
-        ensures { λ c. ⌜ c ≡ first ⌝ }
+        ensures { λ c. ⌜ c ≡ startCursor ⌝ }
     {
         Cursor { at: 0, due: 0 }
     }

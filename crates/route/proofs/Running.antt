@@ -14,7 +14,7 @@ use native.Mathlib.Omega.{arith}
 use native.Mathlib.Nat.{mul-le-mul}
 use lib.ListN.{length}
 use Rattle.floor.specs.Floor.{vertices}
-use Rattle.records.specs.Format.{recordAt, first, cellsOf}
+use Rattle.records.specs.Format.{recordAt, startCursor, cellsOf}
 use Rattle.records.specs.declared.stream.Cursor.{Cursor}
 use Rattle.records.specs.declared.stream.MapRecord.{MapRecord}
 use Rattle.records.specs.declared.stream.Record.{Record}
@@ -25,35 +25,35 @@ use Rattle.jobs.specs.declared.Turn.the-variants.{More}
 use Rattle.jobs.specs.Contract.{SmallFloor, CellsIn, Moves, GoesOn}
 use Rattle.jobs.proofs.Cells.{map-small}
 
-module _ (s : List ℕ) (m : MapRecord) (c : Cursor) (e : recordAt s first ≡ Map m c) where
+module _ (s : List ℕ) (m : MapRecord) (c : Cursor) (e : recordAt s startCursor ≡ Map m c) where
   pub cells-lent : (map : List ℕ) → length map ≡ m .wide * m .high → CellsIn s m map
   cells-lent map size =
-      let f = map-step s first m c e in
+      let f = map-step s startCursor m c e in
       record { within = omega (arith, f .cells-end, f .moved .within); size = size }
 
   pub few-cells : m .wide * m .high ≤ 961
   few-cells =
-      let f = map-step s first m c e in
+      let f = map-step s startCursor m c e in
       mul-le-mul {n₂ = 31} {m₂ = 31} (f .wide) (f .high)
 
   pub map-sides : (m .wide ≤ 127) × (m .high ≤ 127)
   map-sides =
-      let f = map-step s first m c e in
+      let f = map-step s startCursor m c e in
       (omega (arith, f .wide), omega (arith, f .high))
 
   pub few-places : vertices (m .wide) (m .high) ≤ 1024
   few-places =
-      let f = map-step s first m c e in
+      let f = map-step s startCursor m c e in
       mul-le-mul {n₂ = 32} {m₂ = 32} (omega (arith, f .high)) (omega (arith, f .wide))
 
   pub jobs-start : (map : List ℕ) → map ≡ cellsOf s m → (1 ≤ c .due) × SmallFloor (m .wide) (m .high) map
   jobs-start map same =
-      let f = map-step s first m c e in
+      let f = map-step s startCursor m c e in
       (omega (arith, f .moved .next), rw same (map-small s m c e))
 
 -- The first step.
-pub first-step : (s : List ℕ) {m : MapRecord} {c d : Cursor} {r : Record} → c ≡ first → r ≡ recordAt s c
-    → r ≡ Map m d → recordAt s first ≡ Map m d
+pub first-step : (s : List ℕ) {m : MapRecord} {c d : Cursor} {r : Record} → c ≡ startCursor → r ≡ recordAt s c
+    → r ≡ Map m d → recordAt s startCursor ≡ Map m d
 first-step s p q t = ap (recordAt s) (sym p) ∙ sym q ∙ t
 
 pub goes-on : {s : List ℕ} {c d : Cursor} {r : Turn} {n : ℕ} → GoesOn s c r → r ≡ More n d

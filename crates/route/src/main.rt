@@ -9,7 +9,7 @@ ghost use Prim.Native.Nat.{_*_, _≤_};
 ghost use lib.ListN.{length};
 ghost use Rattle.floor.specs.Floor.{vertices};
 ghost use Rattle.planner.specs.Plan.{slicesOf};
-ghost use Rattle.records.specs.Format.{recordAt, first};
+ghost use Rattle.records.specs.Format.{recordAt, startCursor};
 ghost use Rattle.records.specs.declared.stream.Record.the-variants.{Map};
 ghost use Rattle.jobs.specs.Contract.{SmallFloor, Ready, GoesOn};
 use jobs::Turn;
@@ -83,7 +83,7 @@ fn lend_turn(s: &[u8], c: Cursor, w: usize, h: usize, map: &[u8], d: &mut [u32])
 // The jobs that follow the map m, with a slice for its cells and one for the costs from a start, which the next job may
 // share.
 fn run_jobs(s: &[u8], m: MapRecord, past: Cursor, map: &mut [u8], d: &mut [u32])
-    requires { ⌜ (recordAt (now s) first ≡ Map m past) × (length (now map) ≡ m .wide * m .high)
+    requires { ⌜ (recordAt (now s) startCursor ≡ Map m past) × (length (now map) ≡ m .wide * m .high)
         × (length (now d) ≡ vertices (m .wide) (m .high)) ⌝ }
 {
     jobs::copy_cells(s, m, map);
@@ -100,7 +100,7 @@ fn run_jobs(s: &[u8], m: MapRecord, past: Cursor, map: &mut [u8], d: &mut [u32])
 
 // Lends the arrays for the cells and for the costs.
 fn lend_map(s: &[u8], m: MapRecord, past: Cursor)
-    requires { ⌜ recordAt (now s) first ≡ Map m past ⌝ }
+    requires { ⌜ recordAt (now s) startCursor ≡ Map m past ⌝ }
 {
     let n = m.wide * m.high;
     let v = floor::vertex_count(m.wide, m.high);

@@ -13,7 +13,7 @@ use Rattle.floor.specs.declared.Shape.{Shape}
 use Rattle.floor.specs.declared.Shape.the-variants.{Good, Refused}
 use Rattle.thinning.specs.Thinning.{seen, keptPositions}
 use Rattle.floor.specs.Refusals.{leftBy}
-use Rattle.thinning.specs.Answer.{listShape, answerOf, thinAnswer, thinOutput}
+use Rattle.thinning.specs.Answer.{listShape, shapeAnswer, thinAnswer, thinOutput}
 use Rattle.thinning.specs.declared.Thinned.{Thinned}
 use Rattle.thinning.specs.declared.Thinned.the-variants.{Kept, Unthinned}
 use Rattle.thinning.proofs.Shapes.{GoodList, good-list, joined-list}
@@ -52,7 +52,7 @@ module _ (w h : ℕ) (map list out : List ℕ) (n k : ℕ) where
   answered e = cases (listShape w h map list (length out) n) refl e
     where
       cases : (s : Shape) → listShape w h map list (length out) n ≡ s
-          → answerOf s (length (keptPositions (floorOf w h map) list n)) ≡ Kept k
+          → shapeAnswer s (length (keptPositions (floorOf w h map) list n)) ≡ Kept k
           → Answered w h map list out n k (leftBy s (padded (length out) (keptPositions (floorOf w h map) list n)) out)
       cases Good q x = answered-good q cc
       cases (Refused r) q x = let z : _≡_ {A = ℕ} 0 1 = cc in absurd (omega arith)

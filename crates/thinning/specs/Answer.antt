@@ -1,7 +1,7 @@
 -- Document 01, "Thinning": what the operation answers and what it leaves, for every input.
 --
 --   listShape ..      == refusals 1, 2, 3, then 6 for the list slice and an output slice of k places, then 10
---   answerOf s k      == the answer for the shape s: k positions are kept, or its refusal
+--   shapeAnswer s k   == the answer for the shape s: k positions are kept, or its refusal
 --   thinAnswer ..     == the answer: how many positions are kept, or the refusal
 --   thinOutput ..     == the output slice afterwards: the kept positions, then 0; untouched at a refusal
 --   Thins .. r left   == r is the answer, and `left` is what the output slice holds afterwards
@@ -29,13 +29,13 @@ listShape w h map list k n =
     (andThen (pick (leb (length list) 16384 && eqb k (length list)) Good (Refused SliceLength))
     (pick (joinedList (floorOf w h map) list n) Good (Refused NotJoined)))
 
-abbrev pub answerOf : Shape → ℕ → Thinned
-answerOf Good k = Kept k
-answerOf (Refused r) k = Unthinned r
+abbrev pub shapeAnswer : Shape → ℕ → Thinned
+shapeAnswer Good k = Kept k
+shapeAnswer (Refused r) k = Unthinned r
 
 unfoldable pub thinAnswer : ℕ → ℕ → List ℕ → List ℕ → List ℕ → ℕ → Thinned
 thinAnswer w h map list out n =
-    answerOf (listShape w h map list (length out) n) (length (keptPositions (floorOf w h map) list n))
+    shapeAnswer (listShape w h map list (length out) n) (length (keptPositions (floorOf w h map) list n))
 
 unfoldable pub thinOutput : ℕ → ℕ → List ℕ → List ℕ → List ℕ → ℕ → List ℕ
 thinOutput w h map list out n =

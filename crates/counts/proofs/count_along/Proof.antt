@@ -7,7 +7,7 @@ use borrow.Author.Needs.{needs}
 use lib.ListN.{length}
 use Rattle.neighbours.specs.Reading.{sumOf}
 use Rattle.workspace.specs.Regions.{maskAt}
-use Rattle.counts.specs.Passes.{placeOf, countOf}
+use Rattle.counts.specs.Passes.{turnPlace, countOf}
 use Rattle.counts.proofs.Sequence.{place-lt}
 use Rattle.counts.proofs.Passing.{Turning, turn-start, turn-len, turn-more, turn-over, turn-end}
 use Rattle.counts.proofs.count_along.Statement.{statement}
@@ -30,7 +30,7 @@ inside c =
     let s = start (c .before .before) in
     let i = c .before .before .loop .i in
     let l = place-lt (s .args .n) i (s .args .rev) (omega arith) in
-    omega (arith, c .vertex-of-turn .ensures, s .pre .0 .vertex (placeOf (s .args .n) i (s .args .rev)) l)
+    omega (arith, c .vertex-of-turn .ensures, s .pre .0 .vertex (turnPlace (s .args .n) i (s .args .rev)) l)
 
 loop-holds : tie.Need-loop-holds Inv-loop μ-loop
 loop-holds c = turn-start (c .before .before .before .before .pre .1)

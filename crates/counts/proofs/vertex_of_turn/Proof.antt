@@ -1,4 +1,4 @@
--- `counts::vertex_of_turn` meets its contract: each arm reads the place that `placeOf` names. Assumes nothing.
+-- `counts::vertex_of_turn` meets its contract: each arm reads the place that `turnPlace` names. Assumes nothing.
 use borrow.Author.Needs.{needs}
 use Rattle.counts.proofs.vertex_of_turn.Statement.{statement}
 use Rattle.counts.proofs.vertex_of_turn.Tie as tie

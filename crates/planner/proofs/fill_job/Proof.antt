@@ -7,7 +7,7 @@ use Rattle.planner.proofs.fill_job.Statement.{statement}
 use Rattle.planner.proofs.fill_job.Tie as tie
 
 -- The call that fills the costs, from the return.
-abbrev filled : tie.After-slice-known4 → tie.After-fill-costs
+abbrev filled : tie.After-slice-known4 → tie.After-costs-from
 filled c = c .before .before .before .before
 
 vertex-count-requires : tie.Need-vertex-count-requires
@@ -24,21 +24,21 @@ returns-2 c =
     let at = c .before in
     costs-cramped (at .before .vertex-count .ensures .0) (at .if1 .left) (c .if2 .taken) refl
 
-fill-costs-requires : tie.Need-fill-costs-requires
-fill-costs-requires c κs = search needs
+costs-from-requires : tie.Need-costs-from-requires
+costs-from-requires c κs = search needs
 
 same-length : tie.Need-same-length
-same-length c = filled c .fill-costs .kept .1 .1 .1 .1 .1 .0
+same-length c = filled c .costs-from .kept .1 .1 .1 .1 .1 .0
 
 same-length-2 : tie.Need-same-length-2
-same-length-2 c = filled c .fill-costs .kept .1 .1 .1 .1 .1 .1 .0
+same-length-2 c = filled c .costs-from .kept .1 .1 .1 .1 .1 .1 .0
 
 returns-3 : tie.Need-returns-3
 returns-3 c =
     let sized = filled c .before .before .before in
     let at = sized .before in
     costs-filled (at .before .vertex-count .ensures .0) (at .if1 .left) (sized .if2 .left)
-    (filled c .fill-costs .ensures)
+    (filled c .costs-from .ensures)
 
 pub fill-job-spec : {M : Type 1} → statement M
 fill-job-spec =
@@ -48,7 +48,7 @@ fill-job-spec =
     returns
     mul-if2
     returns-2
-    fill-costs-requires
+    costs-from-requires
     same-length
     same-length-2
     returns-3)

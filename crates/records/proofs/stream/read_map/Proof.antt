@@ -6,7 +6,7 @@ use mathlib.Core.List.{List}
 use native.Mathlib.Omega.{arith}
 use native.Mathlib.Nat.{mul-le-mul}
 use Rattle.basics.specs.Bounded.{every}
-use Rattle.records.specs.Format.{side, cellByte, wideAt, highAt}
+use Rattle.records.specs.Format.{mapSide, cellByte, wideAt, highAt}
 use Rattle.records.proofs.Found.{refuted, granted, side-le, GoodMap, map-found, map-bad}
 use borrow.Author.Needs.{needs}
 use Rattle.records.proofs.stream.read_map.Statement.{statement}
@@ -72,7 +72,7 @@ returns-4 c =
     let a = c .before .before .before .before .before .before .before .before .args in
     map-bad (a .s .now) (a .at)
     (λ g.
-    refuted (c .before .side-good .ensures ∙ ap side (c .before .before .byte .ensures .0)) (c .if4 .taken) (g .wide))
+    refuted (c .before .side-good .ensures ∙ ap mapSide (c .before .before .byte .ensures .0)) (c .if4 .taken) (g .wide))
 
 add-byte-2 : tie.Need-add-byte-2
 add-byte-2 c = search needs
@@ -88,7 +88,7 @@ returns-5 c =
     let a = c .before .before .before .before .before .before .before .before .before .before .before .args in
     map-bad (a .s .now) (a .at)
     (λ g.
-    refuted (c .before .side-good2 .ensures ∙ ap side (c .before .before .byte2 .ensures .0)) (c .if5 .taken) (g .high))
+    refuted (c .before .side-good2 .ensures ∙ ap mapSide (c .before .before .byte2 .ensures .0)) (c .if5 .taken) (g .high))
 
 mul-count : tie.Need-mul-count
 mul-count c = omega (arith, count-small c)
@@ -127,8 +127,8 @@ returns-8 c =
           granted (t .before .marked .ensures) (t .if3 .left);
       wide =
           let t = k .before .before .before in
-          granted (t .before .side-good .ensures ∙ ap side (wide-is k)) (t .if4 .left);
-      high = granted (k .before .side-good2 .ensures ∙ ap side (high-is k)) (k .if5 .left);
+          granted (t .before .side-good .ensures ∙ ap mapSide (wide-is k)) (t .if4 .left);
+      high = granted (k .before .side-good2 .ensures ∙ ap mapSide (high-is k)) (k .if5 .left);
       whole = omega (arith, count-is k);
       cells =
           let e = ap (λ (n : ℕ). every n (cellByte (bytes k) (place k + 4))) (count-is k) in

@@ -1,9 +1,9 @@
--- `distances::fill_costs` meets its contract: the masks are stored, the costs are filled over them, and then the
+-- `distances::costs_from` meets its contract: the masks are stored, the costs are filled over them, and then the
 -- working slice is cleared. Assumes nothing.
 use Rattle.distances.proofs.Operations.{costing-on, filled-costs}
 use borrow.Author.Needs.{needs}
-use Rattle.distances.proofs.fill_costs.Statement.{statement}
-use Rattle.distances.proofs.fill_costs.Tie as tie
+use Rattle.distances.proofs.costs_from.Statement.{statement}
+use Rattle.distances.proofs.costs_from.Tie as tie
 
 store-masks-requires : tie.Need-store-masks-requires
 store-masks-requires c κs = search needs
@@ -28,8 +28,8 @@ returns c =
     let b = c .before .before .before .before .before .before .before .before in
     filled-costs (b .costs-over-masks .ensures) (c .before .before .fill-u32 .ensures)
 
-pub fill-costs-spec : {M : Type 1} → statement M
-fill-costs-spec =
+pub costs-from-spec : {M : Type 1} → statement M
+costs-from-spec =
     tie.close
     (tie.spec
     store-masks-requires
