@@ -6,11 +6,9 @@
 --   column-stops, -keeps == a flag that the vertices of a row before column x pass, after the test of one more
 use Prim.Native.Nat.{ℕ, zero, suc, _+_, _*_, _<_}
 use mathlib.Core.Path.{_≡_, sym, ap, _∙_}
-use mathlib.Core.Bool.{Bool, true, false, _&&_, not, and-true, and-false, and-assoc}
+use mathlib.Core.Bool.{Bool, true, false, _&&_, not, and-assoc}
 use mathlib.Core.List.{List}
 use native.Mathlib.Omega.{arith}
-use native.Mathlib.Numerals.{add-one}
-use borrow.Author.Tests.{not-true, not-false}
 use lib.ListN.{length}
 use Rattle.basics.specs.Bounded.{every}
 use Rattle.basics.proofs.Bounded.{every-rows}
@@ -27,6 +25,7 @@ use Rattle.paths.specs.Local.{entry, localOn}
 use Rattle.grid.specs.Grid.{floorGraph}
 use Rattle.neighbours.specs.Reading.{maskGraph, Readable}
 use Rattle.neighbours.proofs.Agree.{Agrees, rightCostIn-agrees, countAt-agrees}
+use Rattle.neighbours.proofs.Columns.{flag-stops, flag-keeps}
 use Rattle.checker.specs.Tests.{countsTest, vertexTest, verticesTest, columnTest, rowTest, Posed}
 use Rattle.checker.proofs.Posed.{posed-readable, posed-agrees}
 
@@ -69,10 +68,7 @@ module _ {w h : ℕ} {l : List ℕ} {r : Rows} {a b : ℕ} {s : Sheet} (p : Pose
     on-floor = rw numbered at is ∙ vertexTest-agrees (posed-agrees p S inside open-at) j a b s
 
     pub column-stops : not new ≡ true → false ≡ every (x + 1) (columnTest j g a b s w y)
-    unfolding every
-    column-stops e = rw (add-one, sym on-floor ∙ not-true new e) (sym (and-false (every x (columnTest j g a b s w y))))
+    column-stops = flag-stops (columnTest j g a b s w y) x on-floor
 
     pub column-keeps : not new ≡ false → old ≡ every (x + 1) (columnTest j g a b s w y)
-    unfolding every
-    column-keeps e = before ∙ rw (add-one, sym on-floor ∙ not-false new e)
-        (sym (and-true (every x (columnTest j g a b s w y))))
+    column-keeps = flag-keeps (columnTest j g a b s w y) x on-floor before

@@ -4,15 +4,13 @@
 --   vertex-tested              == the test by the least that a move gives is that of the moves of the mask
 --   column-readable            == the moves from the vertex in column x can be read by its mask
 --   column-right               == what the code finds of its cost, said of the floor's graph
---   column-stops, column-keeps == a flag that the costs of a row before column x pass, after the test of one more
 --   start-false                == a cost at the start other than 0 is false
 --   rows-true                  == where it is 0, the tests of all rows say whether the costs are true
-use Prim.Native.Nat.{ℕ, suc, _+_, _≤_}
+use Prim.Native.Nat.{ℕ, suc, _≤_}
 use mathlib.Core.Path.{_≡_, sym, ap, _∙_}
-use mathlib.Core.Bool.{Bool, true, false, not, and-true, and-false}
+use mathlib.Core.Bool.{Bool, true, false}
 use mathlib.Core.List.{List}
-use native.Mathlib.Numerals.{add-one}
-use borrow.Author.Tests.{not-true, not-false, eq-eqb, ne-eqb}
+use borrow.Author.Tests.{eq-eqb, ne-eqb}
 use lib.ListN.{length}
 use Rattle.basics.specs.Bounded.{every}
 use Rattle.basics.specs.Lists.{tabulate, same}
@@ -58,17 +56,6 @@ module _ (g : Graph) (a : ℕ) (d : List ℕ) where
   pub list-true : d ≡ truth → costsTrue g a d ≡ true
   unfolding costsTrue
   list-true e = ap (same d) (sym e) ∙ same-refl d
-
--- ---- a flag over a row: it falls where a test fails, and stays where it holds
-
-module _ (p : ℕ → Bool) (x : ℕ) {t : Bool} (is : t ≡ p x) where
-  pub column-stops : not t ≡ true → false ≡ every (x + 1) p
-  unfolding every
-  column-stops e = rw (add-one, sym is ∙ not-true t e) (sym (and-false (every x p)))
-
-  pub column-keeps : {old : Bool} → old ≡ every x p → not t ≡ false → old ≡ every (x + 1) p
-  unfolding every
-  column-keeps before e = before ∙ rw (add-one, sym is ∙ not-false t e) (sym (and-true (every x p)))
 
 -- ---- one vertex
 

@@ -1,9 +1,14 @@
 -- The vertex in column x and row y of a job's floor, as a loop over a row meets it.
 --
---   column-shows   == the mask of its open moves shows the steps from it
-use Prim.Native.Nat.{ℕ}
-use mathlib.Core.Path.{_≡_}
+--   column-shows            == the mask of its open moves shows the steps from it
+--   flag-stops, flag-keeps  == a flag that the columns before x pass a test, after the test of one more
+use Prim.Native.Nat.{ℕ, _+_}
+use mathlib.Core.Path.{_≡_, sym, _∙_}
+use mathlib.Core.Bool.{Bool, true, false, not, and-true, and-false}
 use mathlib.Core.List.{List}
+use native.Mathlib.Numerals.{add-one}
+use borrow.Author.Tests.{not-true, not-false}
+use Rattle.basics.specs.Bounded.{every}
 use Rattle.floor.specs.Floor.{floorOf, number}
 use Rattle.floor.proofs.Numbers.{number-lt}
 use Rattle.moves.specs.declared.Rows.{Rows}
@@ -23,3 +28,12 @@ column-shows {w} {h} {x = x} {y} {mask} {map = map} {r = r} J S o k numbered =
     rw numbered
     (mask-shows (floorOf w h map) r (listed-lawful (J .listed)) S (J .sized .wide) (J .sized .high) mask (number w x y)
     (number-lt w h x y (o .column) (o .row)) (mask-number (floorOf w h map) x y (o .column) k))
+
+module _ (p : ℕ → Bool) (x : ℕ) {t : Bool} (is : t ≡ p x) where
+  pub flag-stops : not t ≡ true → false ≡ every (x + 1) p
+  unfolding every
+  flag-stops e = rw (add-one, sym is ∙ not-true t e) (sym (and-false (every x p)))
+
+  pub flag-keeps : {old : Bool} → old ≡ every x p → not t ≡ false → old ≡ every (x + 1) p
+  unfolding every
+  flag-keeps before e = before ∙ rw (add-one, sym is ∙ not-false t e) (sym (and-true (every x p)))

@@ -12,8 +12,9 @@ use Rattle.floor.proofs.Numbers.{mul-fits, vertices-le, number-lt}
 use Rattle.moves.specs.Table.{OnFloor}
 use Rattle.masks.specs.Masks.{OpenMask}
 use Rattle.grid.specs.Grid.{floorGraph}
+use Rattle.neighbours.proofs.Columns.{flag-stops, flag-keeps}
 use Rattle.given_costs.specs.Tests.{columnTest}
-use Rattle.given_costs.proofs.Tested.{column-readable, column-right, column-stops, column-keeps}
+use Rattle.given_costs.proofs.Tested.{column-readable, column-right}
 use borrow.Author.Needs.{needs}
 use Rattle.given_costs.proofs.row_right.Statement.{statement}
 use Rattle.given_costs.proofs.row_right.Tie as tie
@@ -114,7 +115,7 @@ loop-again c =
     let i = t .before .loop .inv .0 in
     let is = column-right (p .0) (t .before .before .before .before .shifts-of .ensures) (on-row t) (mask-of t)
     (at-number t) (start t .args .d .now) (p .1) (r .vertex-right .ensures) in (
-      ⊎-elim (λ w. w .1 ∙ column-stops _ _ is (w .0 .taken)) (λ w. w .1 ∙ column-keeps _ _ is i (w .0 .left))
+      ⊎-elim (λ w. w .1 ∙ flag-stops _ _ is (w .0 .taken)) (λ w. w .1 ∙ flag-keeps _ _ is i (w .0 .left))
           (c .if1 .came),
       omega arith,
     )
