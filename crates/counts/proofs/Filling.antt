@@ -30,7 +30,7 @@ use Rattle.moves.specs.declared.Rows.{Rows}
 use Rattle.neighbours.proofs.Choice.{onShortest-sum}
 use Rattle.workspace.specs.Regions.{maskAt, Masked}
 use Rattle.workspace.proofs.Regions.{masked-kept}
-use Rattle.counts.specs.Passes.{evenAt, Filtered, Readied, WayOrder, Passable, Known, Passed, Filled}
+use Rattle.counts.specs.Passes.{evenAt, Filtered, Readied, WayOrder, Passable, Known, Summed, Filled}
 use Rattle.counts.proofs.Sequence.{costs-len, costs-at, order-turned}
 
 -- ---- where some of the order are kept
@@ -150,7 +150,7 @@ module _ {g : Graph} {rows : Rows} {shifts : List ℕ} {a b n k : ℕ} {d e work
       ∙ countFrom-way g b a a way in
       omega (arith, total-turned)
 
-  pub filled-both : {f back : List ℕ} (r : Bool) → Passed g b a back true → entry back a < 2 ^ 64 → Passed g a b f r
+  pub filled-both : {f back : List ℕ} (r : Bool) → Summed g b a back true → entry back a < 2 ^ 64 → Summed g a b f r
       → Filled g rows shifts a b r work′ f back
   unfolding fits
   filled-both true B small F =
@@ -164,7 +164,7 @@ module _ {g : Graph} {rows : Rows} {shifts : List ℕ} {a b n k : ℕ} {d e work
       }
   filled-both false B small F = absurd (omega (arith, passed-total (B .counted refl) small, F .over refl))
 
-  pub filled-none : {f back back′ : List ℕ} → Passed g b a back false → f ≡ zeros (length d) → length back ≡ length d
+  pub filled-none : {f back back′ : List ℕ} → Summed g b a back false → f ≡ zeros (length d) → length back ≡ length d
       → back′ ≡ zeros (length back) → Filled g rows shifts a b false work′ f back′
   unfolding fits
   filled-none B f-zero same back-zero = record {

@@ -1,7 +1,7 @@
 -- One turn of a counting pass: the vertex gets its count, since the cheaper vertices on the way have theirs.
 --
 --   count-one, count-sum  == what the code answers for the start, and for any other vertex on the way
---   Counted g s x i P f   == the vertices of the first i turns have their counts from s, and off the way stands 0
+--   Tallied g s x i P f   == the vertices of the first i turns have their counts from s, and off the way stands 0
 --   counted-none          == so it is at the start
 --   count-right           == the count that the code works out for the next vertex is its count
 --   counted-more          == so it is one turn on
@@ -38,7 +38,7 @@ use Rattle.neighbours.specs.Reading.{maskGraph, sumOf}
 use Rattle.neighbours.proofs.Agree.{countAt-agrees}
 use Rattle.neighbours.proofs.Sums.{sumOf-fits, sumOf-is, sumOf-passes}
 use Rattle.workspace.specs.Regions.{maskAt}
-use Rattle.counts.specs.Passes.{turnOf, countOf, Passable, Passed}
+use Rattle.counts.specs.Passes.{turnOf, countOf, Passable, Summed}
 use Rattle.counts.proofs.Sequence.{costs-len, costs-at, agrees, turn-before}
 
 -- ---- the count of one vertex
@@ -68,12 +68,12 @@ count-all g s on D F u o = sym (pick-yes (on u) _ 0 o)
 
 -- ---- the counts so far
 
-pub record Counted (g : Graph) (s x i : ℕ) (P : ℕ → ℕ) (f : List ℕ) : Type 0 where
+pub record Tallied (g : Graph) (s x i : ℕ) (P : ℕ → ℕ) (f : List ℕ) : Type 0 where
   pub len : length f ≡ g .size
   pub done : (j : ℕ) → j < i → entry f (P j) ≡ countFrom g s x (P j)
   pub off : (u : ℕ) → u < g .size → onWay g s x u ≡ false → entry f u ≡ 0
 
-pub counted-none : (g : Graph) (s x : ℕ) (P : ℕ → ℕ) (f : List ℕ) → f ≡ zeros (g .size) → Counted g s x 0 P f
+pub counted-none : (g : Graph) (s x : ℕ) (P : ℕ → ℕ) (f : List ℕ) → f ≡ zeros (g .size) → Tallied g s x 0 P f
 counted-none g s x P f e = record {
   len = ap length e ∙ length-replicate (g .size) 0;
   done = λ j l. absurd (omega arith);
@@ -87,7 +87,7 @@ module _ {g : Graph} {rows : Rows} {shifts : List ℕ} {s x n : ℕ} {rev : Bool
   abbrev on : ℕ → Bool
   on = onWay g s x
 
-  module _ {i : ℕ} {f : List ℕ} (l : i < n) (C : Counted g s x i P f) where
+  module _ {i : ℕ} {f : List ℕ} (l : i < n) (C : Tallied g s x i P f) where
     abbrev u : ℕ
     u = P i
 
@@ -121,7 +121,7 @@ module _ {g : Graph} {rows : Rows} {shifts : List ℕ} {s x n : ℕ} {rev : Bool
     below : (j : ℕ) → j < i + 1 → (u ≡ P j → ⊥) → j < i
     below j k ne = ⊎-elim (λ h. h) (λ h. absurd (ne (ap P (omega arith)))) (le-or-lt (suc j) i)
 
-    pub counted-more : (y : ℕ) → y ≡ countFrom g s x u → Counted g s x (i + 1) P (set f u y)
+    pub counted-more : (y : ℕ) → y ≡ countFrom g s x u → Tallied g s x (i + 1) P (set f u y)
     counted-more y q = record {
       len = length-set f u y ∙ C .len;
       done = λ j k. ⊎-elim
@@ -137,7 +137,7 @@ module _ {g : Graph} {rows : Rows} {shifts : List ℕ} {s x n : ℕ} {rev : Bool
     pub count-over : 2 ^ 64 ≤ countFrom g s x u → 2 ^ 64 ≤ pathCount g s x
     count-over h = omega (arith, countFrom-fits g (K .lawful) s x u)
 
-  pub counted-all : {f : List ℕ} → Counted g s x n P f → f ≡ tabulate (g .size) (countFrom g s x)
+  pub counted-all : {f : List ℕ} → Tallied g s x n P f → f ≡ tabulate (g .size) (countFrom g s x)
   counted-all {f} C = tabulate-of (g .size) f (countFrom g s x) (C .len) (λ v k. ⊎-elim
       (λ o. let r = K .way .found v k o in subst (λ z. entry f z ≡ countFrom g s x z) (r .2) (C .done (r .0) (r .1)))
       (λ o. C .off v k o ∙ sym (countFrom-off g s x v o)) (true-or-false (onWay g s x v)))
@@ -147,7 +147,7 @@ module _ {g : Graph} {rows : Rows} {shifts : List ℕ} {s x n : ℕ} {rev : Bool
 pub record Turning (rows : Rows) (shifts : List ℕ) (s n : ℕ) (rev : Bool) (d work : List ℕ) (i : ℕ) (f : List ℕ) : Type 0 where
   pub within : i ≤ n
   pub len : length f ≡ length d
-  pub counted : (g : Graph) (x : ℕ) → Passable g rows shifts s x n rev d work → Counted g s x i (turnOf work n rev) f
+  pub counted : (g : Graph) (x : ℕ) → Passable g rows shifts s x n rev d work → Tallied g s x i (turnOf work n rev) f
 
 module _ {rows : Rows} {shifts : List ℕ} {s n : ℕ} {rev : Bool} {d work : List ℕ} where
   pub turn-start : {f : List ℕ} → f ≡ zeros (length d) → Turning rows shifts s n rev d work 0 f
@@ -174,21 +174,21 @@ module _ {rows : Rows} {shifts : List ℕ} {s n : ℕ} {rev : Bool} {d work : Li
       within = omega arith;
       len = length-set f u y ∙ h .len;
       counted = λ g x K.
-          subst (λ v. Counted g s x (i + 1) (turnOf work n rev) (set f v y)) (sym at)
+          subst (λ v. Tallied g s x (i + 1) (turnOf work n rev) (set f v y)) (sym at)
           (counted-more K l (h .counted g x K) y (sym (sumOf-is _ y (sym sum ∙ q)) ∙ worked g x K));
     }
 
-    pub turn-over : r ≡ Over → (g : Graph) (x : ℕ) → Passable g rows shifts s x n rev d work → Passed g s x f false
+    pub turn-over : r ≡ Over → (g : Graph) (x : ℕ) → Passable g rows shifts s x n rev d work → Summed g s x f false
     turn-over q g x K = record {
       counted = λ z. absurd (true≢false (sym z));
       over = λ z. count-over K l (h .counted g x K) (omega (arith, sumOf-passes _ (sym sum ∙ q), worked g x K));
     }
 
   pub turn-end : {i : ℕ} {f : List ℕ} → Turning rows shifts s n rev d work i f → n ≤ i → (g : Graph) (x : ℕ)
-      → Passable g rows shifts s x n rev d work → Passed g s x f true
+      → Passable g rows shifts s x n rev d work → Summed g s x f true
   turn-end {i} {f} h l g x K =
       let q : i ≡ n = omega (arith, h .within) in
       record {
-        counted = λ z. counted-all K (subst (λ j. Counted g s x j (turnOf work n rev) f) q (h .counted g x K));
+        counted = λ z. counted-all K (subst (λ j. Tallied g s x j (turnOf work n rev) f) q (h .counted g x K));
         over = λ z. absurd (true≢false z);
       }

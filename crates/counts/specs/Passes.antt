@@ -14,7 +14,7 @@
 --                             of graph g; the n turns come to the vertices on the way in a WayOrder
 --   Known g rows shifts a b n d e work == d are the costs from a, e those from b, which a walk joins; the masks are those of
 --                             graph g; the order is by rising cost from b
---   Passed g s x f r       == f are the counts from s on the way to x, or r is false and the total is above 64 bits
+--   Summed g s x f r       == f are the counts from s on the way to x, or r is false and the total is above 64 bits
 --   Filled g rows shifts a b r work f back == r says whether the total fits 64 bits; f and back are the counts where it does,
 --                             else 0; the working slice has the masks
 use Prim.Native.Nat.{ℕ, _+_, _-_, _*_, _^_, _≤_, _<_}
@@ -88,7 +88,7 @@ pub record Known (g : Graph) (rows : Rows) (shifts : List ℕ) (a b n : ℕ) (d 
   pub masked : Masked g rows shifts work
   pub ordered : Ordered (g .size) n (entry e) (entry work)
 
-pub record Passed (g : Graph) (s x : ℕ) (f : List ℕ) (r : Bool) : Type 0 where
+pub record Summed (g : Graph) (s x : ℕ) (f : List ℕ) (r : Bool) : Type 0 where
   pub counted : r ≡ true → f ≡ tabulate (g .size) (countFrom g s x)
   pub over : r ≡ false → 2 ^ 64 ≤ pathCount g s x
 

@@ -20,7 +20,7 @@ ghost use Rattle.counts.specs.Passes.{
   Readied,
   Passable,
   Known,
-  Passed,
+  Summed,
   Filled,
 };
 use moves::Rows;
@@ -114,7 +114,7 @@ fn count_along(
         × (now f ≡ zeros (length (now d))) ⌝ }
     ensures { λ r. ⌜ ((g : Graph) (goal : ℕ)
         → Passable g rows (now (shifts .entry)) start goal n rev (now (d .entry)) (now (work .entry))
-        → Passed g start goal (now (f .exit)) r) ⌝ }
+        → Summed g start goal (now (f .exit)) r) ⌝ }
 {
     for i in 0..n {
         let u = vertex_of_turn(work, n, rev, i);

@@ -5,7 +5,7 @@
 --   key-most              == and are at most `unreachable`
 --   passed-same           == a position that stays
 --   passed-next           == the position that moves on by one
---   Least ..              == position k has the least key
+--   Lowest ..             == position k has the least key
 --   Keys ..               == the keys of both positions, as the code works them out
 --   least-of              == so has the one whose key is at most both
 --   MergingOn ..          == `Merging` on any graph and rows that the merge can run on: the invariant of the loop
@@ -35,7 +35,7 @@ use Rattle.paths.proofs.Costs.{walked-true}
 use Rattle.workspace.proofs.Regions.{masked-kept}
 use Rattle.distances.specs.Costs.{SettledCosts}
 use Rattle.distances.specs.Merge.{keyOf, Keyed, Settled, Ready, Grown}
-use Rattle.distances.specs.Merge.{Relaxing, Relaxed, Passed, Merging, Mergeable, remaining}
+use Rattle.distances.specs.Merge.{Relaxing, Relaxed, Placed, Merging, Mergeable, remaining}
 use Rattle.distances.proofs.Store.{last, settled-le}
 
 -- ---- keys
@@ -68,7 +68,7 @@ module _ {g : Graph} {a n s key : ℕ} {d d′ work work′ : List ℕ} (S : Set
   stays : (i : ℕ) → i < n → entry d′ (entry work′ i) ≡ entry d (entry work i)
   stays i h = ap (entry d′) (G .same-order i h) ∙ G .same-cost (entry work i) (S .ordered .placed i h)
 
-  module _ {r : Rows} {c : Class} {p : ℕ} (c-low : c .cost ≤ 4095) (P : Passed g r n c p d work) where
+  module _ {r : Rows} {c : Class} {p : ℕ} (c-low : c .cost ≤ 4095) (P : Placed g r n c p d work) where
     relaxed-on : 0 < c .cost → (i m w : ℕ) → i < p → Member r c m → m < g .moves → g .step m (entry work′ i) ≡ some w
         → entry d′ w ≤ entry d′ (entry work′ i) + c .cost
     relaxed-on f i m w h M lt st =
@@ -79,7 +79,7 @@ module _ {g : Graph} {a n s key : ℕ} {d d′ work work′ : List ℕ} (S : Set
         let e = settled-le S in
         omega (arith, stays i l, G .same-cost w (omega arith))
 
-    pub passed-same : key ≤ keyOf n p (c .cost) d work → Passed g r s c p d′ work′
+    pub passed-same : key ≤ keyOf n p (c .cost) d work → Placed g r s c p d′ work′
     passed-same le = record {
       unused = P .unused;
       room = λ f. omega (arith, P .room f, G .more);
@@ -91,7 +91,7 @@ module _ {g : Graph} {a n s key : ℕ} {d d′ work work′ : List ℕ} (S : Set
 
     pub passed-next : p < n → key ≡ entry d (entry work p) + c .cost
         → ((m w : ℕ) → Member r c m → m < g .moves → g .step m (entry work p) ≡ some w → entry d′ w ≤ key)
-        → Passed g r s c (p + 1) d′ work′
+        → Placed g r s c (p + 1) d′ work′
     passed-next lt is done = record {
       unused = λ z. omega (arith, P .unused z);
       room = λ f. omega (arith, G .more);
@@ -106,7 +106,7 @@ module _ {g : Graph} {a n s key : ℕ} {d d′ work work′ : List ℕ} (S : Set
 
 -- ---- the least key
 
-pub record Least (n k key : ℕ) (l : List Class) (pos d work : List ℕ) : Type 0 where
+pub record Lowest (n k key : ℕ) (l : List Class) (pos d work : List ℕ) : Type 0 where
   pub one : k < classCount
   pub is : key ≡ keyOf n (getD pos k 0) (classAt l k .cost) d work
   pub least : (j : ℕ) → j < classCount → key ≤ keyOf n (getD pos j 0) (classAt l j .cost) d work
@@ -118,7 +118,7 @@ pub record Keys (n k0 k1 : ℕ) (l : List Class) (pos d work : List ℕ) : Type 
 
 module _ {n k0 k1 key : ℕ} {l : List Class} {pos d work : List ℕ} (K : Keys n k0 k1 l pos d work) where
   pub least-of : (k : ℕ) → k < classCount → key ≡ keyOf n (getD pos k 0) (classAt l k .cost) d work
-      → key ≤ k0 → key ≤ k1 → Least n k key l pos d work
+      → key ≤ k0 → key ≤ k1 → Lowest n k key l pos d work
   least-of k h is l0 l1 = record { one = h; is = is; least = each }
     where
       each : (j : ℕ) → j < classCount → key ≤ keyOf n (getD pos j 0) (classAt l j .cost) d work
@@ -152,7 +152,7 @@ pub record Turn (g : Graph) (r : Rows) (shifts : List ℕ) (a n k key : ℕ) (l 
       → Merging g r a s l (set pos k (getD pos k 0 + 1)) d′ work₀ work′
 
 module _ {g : Graph} {r : Rows} {shifts : List ℕ} {a n k key : ℕ} {l : List Class} {pos d₀ d work₀ work : List ℕ}
-    (M : Mergeable g r shifts l a d₀ work₀) (K : Merging g r a n l pos d work₀ work) (T : Least n k key l pos d work)
+    (M : Mergeable g r shifts l a d₀ work₀) (K : Merging g r a n l pos d work₀ work) (T : Lowest n k key l pos d work)
   where
     module _ (low : key < unreachable) where
       abbrev p : ℕ
@@ -205,18 +205,18 @@ module _ {g : Graph} {r : Rows} {shifts : List ℕ} {a n k key : ℕ} {l : List 
       merging-next {s} {d′} {work′} len P = record {
         settled = P .ready .settled;
         passed = λ j h. ⊎-elim
-            (λ e. subst (λ z. Passed g r s (classAt l z) (getD (set pos k (p + 1)) z 0) d′ work′) (sym e) moved)
-            (λ e. subst (λ z. Passed g r s (classAt l j) z d′ work′) (sym (getD-set-other pos k j (p + 1) 0 e))
+            (λ e. subst (λ z. Placed g r s (classAt l z) (getD (set pos k (p + 1)) z 0) d′ work′) (sym e) moved)
+            (λ e. subst (λ z. Placed g r s (classAt l j) z d′ work′) (sym (getD-set-other pos k j (p + 1) 0 e))
             (stayed j h)) (eq-or-ne j k);
         rest = λ i h. P .grown .same-rest i h ∙ K .rest i h;
       }
         where
-          moved : Passed g r s c (getD (set pos k (p + 1)) k 0) d′ work′
-          moved = subst (λ z. Passed g r s c z d′ work′) (sym (getD-set-same pos k (p + 1) 0 (omega (arith, T .one))))
+          moved : Placed g r s c (getD (set pos k (p + 1)) k 0) d′ work′
+          moved = subst (λ z. Placed g r s c z d′ work′) (sym (getD-set-same pos k (p + 1) 0 (omega (arith, T .one))))
               (passed-next (K .settled) (P .ready) (P .grown) (one-cost .high) (K .passed k (T .one)) before-end key-is
               (P .relaxed))
 
-          stayed : (j : ℕ) → j < classCount → Passed g r s (classAt l j) (getD pos j 0) d′ work′
+          stayed : (j : ℕ) → j < classCount → Placed g r s (classAt l j) (getD pos j 0) d′ work′
           stayed j h =
               passed-same (K .settled) (P .ready) (P .grown) (M .classes .each j h .high) (K .passed j h) (T .least j h)
 

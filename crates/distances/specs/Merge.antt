@@ -13,7 +13,7 @@
 --   Grown ..                 == from n settled vertices to r, those added at cost key; all else is as it was
 --   Relaxing ..              == what the relaxing of a class of moves takes
 --   Relaxed ..               == the far ends of the moves of class c from u cost at most key
---   Passed ..                == what holds of one class and its position p in the order
+--   Placed ..                == what holds of one class and its position p in the order
 --   Merging ..               == what holds at each turn of the merge, of the classes l and their positions pos
 --   Mergeable ..             == what the merge takes
 --   remaining v pos          == what the positions have before them: the merge's measure
@@ -114,7 +114,7 @@ pub record Relaxed (g : Graph) (r : Rows) (a u : ℕ) (c : Class) (key n s : ℕ
 
 -- Before place p no move of the class gives a lower cost; from p on, no key is less than a cost that was given. A class of
 -- no move has its position past all vertices.
-pub record Passed (g : Graph) (r : Rows) (n : ℕ) (c : Class) (p : ℕ) (d work : List ℕ) : Type 0 where
+pub record Placed (g : Graph) (r : Rows) (n : ℕ) (c : Class) (p : ℕ) (d work : List ℕ) : Type 0 where
   pub unused : c .cost ≡ 0 → g .size ≤ p
   pub room : 0 < c .cost → p ≤ n
   pub relaxed : 0 < c .cost → (i m w : ℕ) → i < p → Member r c m → m < g .moves → g .step m (entry work i) ≡ some w
@@ -123,7 +123,7 @@ pub record Passed (g : Graph) (r : Rows) (n : ℕ) (c : Class) (p : ℕ) (d work
 
 pub record Merging (g : Graph) (r : Rows) (a n : ℕ) (l : List Class) (pos d work₀ work : List ℕ) : Type 0 where
   pub settled : Settled g a n d work
-  pub passed : (k : ℕ) → k < classCount → Passed g r n (classAt l k) (getD pos k 0) d work
+  pub passed : (k : ℕ) → k < classCount → Placed g r n (classAt l k) (getD pos k 0) d work
   pub rest : (i : ℕ) → g .size < i → entry work i ≡ entry work₀ i
 
 pub record Mergeable (g : Graph) (r : Rows) (shifts : List ℕ) (l : List Class) (a : ℕ) (d work : List ℕ) : Type 0 where

@@ -5,7 +5,7 @@ use mathlib.Core.Path.{sym, ap, _∙_, subst}
 use native.Mathlib.Omega.{arith}
 use lib.ListN.{length, length-replicate}
 use Rattle.basics.specs.Lists.{zeros}
-use Rattle.counts.specs.Passes.{Passed}
+use Rattle.counts.specs.Passes.{Summed}
 use Rattle.counts.proofs.Filling.{
   readied-kept,
   readied-other,
@@ -64,7 +64,7 @@ returns c =
     let A = s .pre .0 in
     let R = k .keep-on-way .ensures in
     filled-both K A R (c .before .before .count-along2 .result)
-    (subst (Passed g (s .args .b) (s .args .a) _) (fitting .if1 .taken)
+    (subst (Summed g (s .args .b) (s .args .a) _) (fitting .if1 .taken)
     (first .count-along .ensures g (s .args .a) (passable-back K A R)))
     (omega (arith, fitting .before .slice-known5 .given (s .args .a)))
     (c .before .before .count-along2 .ensures g (s .args .b) (passable-forth K A R))
@@ -89,7 +89,7 @@ returns-2 c =
     let R = k .keep-on-way .ensures in
     let same = first .count-along .kept .1 .1 .1 .1 .1 .1 .1 .0 in
     filled-none K A R
-    (subst (Passed g (s .args .b) (s .args .a) _) (over .if1 .left)
+    (subst (Summed g (s .args .b) (s .args .a) _) (over .if1 .left)
     (first .count-along .ensures g (s .args .a) (passable-back K A R)))
     (s .pre .4) (same ∙ ap length (s .pre .5) ∙ length-replicate _ 0) (c .before .before .clear-u64 .ensures)
 

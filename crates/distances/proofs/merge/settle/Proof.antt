@@ -12,7 +12,7 @@ use Rattle.offsets.specs.Classes.{classAt}
 use Rattle.paths.specs.Graph.{Graph}
 use Rattle.paths.specs.Distance.{unreachable}
 use Rattle.distances.specs.Merge.{Mergeable, remaining}
-use Rattle.distances.proofs.Turn.{keyed, key-most, Keys, Least, least-of, MergingOn, Turn, turn, filled}
+use Rattle.distances.proofs.Turn.{keyed, key-most, Keys, Lowest, least-of, MergingOn, Turn, turn, filled}
 use Rattle.distances.proofs.Start.{start-rest, mergeable-start, merging-start, two-first}
 use Rattle.distances.proofs.merge.settle.Statement.{statement}
 use Rattle.distances.proofs.merge.settle.Tie as tie
@@ -97,7 +97,7 @@ abbrev Chosen : tie.After-key-at2 Inv-loop μ-loop → ℕ → ℕ → Type 0
 Chosen c k key =
     let l = top c in
     let s = start (entered l) in
-    Least (l .loop .n) k key (classes s) (positions l) (l .loop .d) (l .loop .work)
+    Lowest (l .loop .n) k key (classes s) (positions l) (l .loop .d) (l .loop .work)
 
 abbrev TurnOf : tie.After-key-at2 Inv-loop μ-loop → ℕ → ℕ → Type 0
 TurnOf c k key =
