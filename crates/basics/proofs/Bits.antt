@@ -1,15 +1,17 @@
 -- Bits of a number.
 --
 --   bit-or   == n | m has the bits that either has
+--   bit-and  == n & m has the bits that both have
+--   without-bit == n ^ (n & 2^k) has those of n but for bit k
 --   bits-at  == the number made of a test's bits has those bits, and no others
 use Prim.Native.Nat.{ℕ, zero, suc, _/_, _%_, _^_, _≤_, _<_}
 use mathlib.Core.Path.{_≡_, refl, sym, ap, ap₂, _∙_}
 use mathlib.Core.Logic.{⊎-elim}
-use mathlib.Core.Bool.{Bool, true, false, _&&_, _||_, and-true, and-false, or-false}
+use mathlib.Core.Bool.{Bool, true, false, _&&_, _||_, not, and-true, and-false, or-false}
 use native.Mathlib.Omega.{arith}
 use native.Mathlib.Nat.{div-one, div-div-eq-div-mul, pow-suc, zero-div}
 use borrow.Author.Tests.{eq-eqb, ne-eqb, lt-ltb, le-ltb}
-use lib.Bits.{bitOr, or-shr, or-mod}
+use lib.Bits.{bitOr, bitAnd, bitXor, or-shr, or-mod, and-shr, and-mod, xor-shr, xor-mod}
 use lib.Dec.{eqb, ltb}
 use Rattle.basics.specs.Bounded.{pick}
 use Rattle.basics.proofs.Order.{le-or-lt, eq-or-ne}
@@ -41,6 +43,39 @@ bit-or a b k =
     ap (λ x. eqb x 1) (ap (λ (x : ℕ). x % 2) (or-shr a b k) ∙ or-mod (a / 2 ^ k) (b / 2 ^ k) 1)
     ∙ or-small (digit a k) (digit b k) (omega arith) (omega arith)
 
+and-small : (x y : ℕ) → x < 2 → y < 2 → eqb (bitAnd x y) 1 ≡ (eqb x 1 && eqb y 1)
+and-small zero zero p q = refl
+and-small zero (suc zero) p q = refl
+and-small (suc zero) zero p q = refl
+and-small (suc zero) (suc zero) p q = refl
+and-small (suc (suc x)) y p q = absurd (omega arith)
+and-small zero (suc (suc y)) p q = absurd (omega arith)
+and-small (suc zero) (suc (suc y)) p q = absurd (omega arith)
+
+pub bit-and : (a b k : ℕ) → bit (bitAnd a b) k ≡ (bit a k && bit b k)
+bit-and a b k =
+    ap (λ x. eqb x 1) (ap (λ (x : ℕ). x % 2) (and-shr a b k) ∙ and-mod (a / 2 ^ k) (b / 2 ^ k) 1)
+    ∙ and-small (digit a k) (digit b k) (omega arith) (omega arith)
+
+-- One of two tests, and not both.
+abbrev differ : Bool → Bool → Bool
+differ true b = not b
+differ false b = b
+
+xor-small : (x y : ℕ) → x < 2 → y < 2 → eqb (bitXor x y) 1 ≡ differ (eqb x 1) (eqb y 1)
+xor-small zero zero p q = refl
+xor-small zero (suc zero) p q = refl
+xor-small (suc zero) zero p q = refl
+xor-small (suc zero) (suc zero) p q = refl
+xor-small (suc (suc x)) y p q = absurd (omega arith)
+xor-small zero (suc (suc y)) p q = absurd (omega arith)
+xor-small (suc zero) (suc (suc y)) p q = absurd (omega arith)
+
+bit-xor : (a b k : ℕ) → bit (bitXor a b) k ≡ differ (bit a k) (bit b k)
+bit-xor a b k =
+    ap (λ x. eqb x 1) (ap (λ (x : ℕ). x % 2) (xor-shr a b k) ∙ xor-mod (a / 2 ^ k) (b / 2 ^ k) 1)
+    ∙ xor-small (digit a k) (digit b k) (omega arith) (omega arith)
+
 half-bit : (n k : ℕ) → bit n (suc k) ≡ bit (n / 2) k
 half-bit n k = ap (λ x. eqb x 1) (half-digit n k)
 
@@ -68,6 +103,15 @@ pow-bit : (j k : ℕ) → bit (2 ^ j) k ≡ eqb j k
 pow-bit j k =
     ⊎-elim (λ (e : j ≡ k). rw (← e) (pow-set j ∙ sym (eq-eqb j j refl)))
     (λ ne. pow-unset j k ne ∙ sym (ne-eqb j k ne)) (eq-or-ne j k)
+
+pub without-bit : (n k j : ℕ) → bit (bitXor n (bitAnd n (2 ^ k))) j ≡ (bit n j && not (eqb k j))
+without-bit n k j =
+    bit-xor n (bitAnd n (2 ^ k)) j ∙ ap (differ (bit n j)) (bit-and n (2 ^ k) j ∙ ap (λ b. bit n j && b) (pow-bit k j))
+    ∙ rest (bit n j) (eqb k j)
+  where
+    rest : (a b : Bool) → differ a (a && b) ≡ (a && not b)
+    rest true b = refl
+    rest false b = refl
 
 row-bit : (t : Bool) (j k : ℕ) → bit (pick t (2 ^ j) 0) k ≡ (t && eqb j k)
 row-bit true j k = pow-bit j k

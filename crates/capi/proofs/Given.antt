@@ -7,7 +7,7 @@ use Rattle.floor.specs.Refusals.{refusalNumber}
 use Rattle.floor.specs.declared.Refusal.{Refusal}
 use Rattle.sight.specs.Question.{sightNumber}
 use Rattle.sight.specs.declared.Obstacle.{Obstacle}
-use Rattle.sight.specs.declared.Obstacle.the-variants.{Clear, Cell, Step}
+use Rattle.sight.specs.declared.Obstacle.the-variants.{Clear, Cell, Step, Pinch}
 use Rattle.sight.specs.declared.Sight.{Sight}
 use Rattle.sight.specs.declared.Sight.the-variants.{Answered, Unasked}
 use Rattle.planner.specs.Plan.{CostSlices, FillsCosts, costedNumber}
@@ -38,6 +38,7 @@ pub clear-alike : (s : Sight) → eqb (obstacleResult s .answer) 0 ≡ eqb (sigh
 clear-alike (Answered Clear) = refl
 clear-alike (Answered (Cell c)) = refl
 clear-alike (Answered (Step v)) = refl
+clear-alike (Answered (Pinch v)) = refl
 clear-alike (Unasked r) = refl
 
 pub fills-to : {w h : ℕ} {map : List ℕ} {nb a : ℕ} {s s' : CostSlices} {c : Costed} {r : ℕ}

@@ -1,7 +1,8 @@
 -- The answers of the C interface: the operations' own, as numbers with their values beside them.
 --
---   obstacleNumber o == what is in the way: 0 nothing, 101 a blocked cell that is entered, 102 a shut step
---   obstaclePlace o  == the cell's number, or that of the vertex where the step begins; 0 where nothing is in the way
+--   obstacleNumber o == what is in the way: 0 nothing, 101 a blocked cell that is entered, 102 a shut step, 103 a pinch
+--   obstaclePlace o  == the cell's number, or that of the vertex where the step begins or which is the pinch; 0 where
+--                       nothing is in the way
 --   obstacleResult s == an answer to the sight question, with what is in the way; at a refusal its number and place 0
 --   planResult p     == an answer of the planner's second operation
 --   thinResult t     == an answer of the thinning
@@ -17,7 +18,7 @@ use mathlib.Core.List.{List}
 use lib.ListN.{length}
 use Rattle.floor.specs.Refusals.{refusalNumber}
 use Rattle.sight.specs.declared.Obstacle.{Obstacle}
-use Rattle.sight.specs.declared.Obstacle.the-variants.{Clear, Cell, Step}
+use Rattle.sight.specs.declared.Obstacle.the-variants.{Clear, Cell, Step, Pinch}
 use Rattle.sight.specs.declared.Sight.{Sight}
 use Rattle.sight.specs.declared.Sight.the-variants.{Answered, Unasked}
 use Rattle.planner.specs.Plan.{CostSlices, costsAnswer, costsLeft, costedNumber}
@@ -39,11 +40,13 @@ abbrev pub obstacleNumber : Obstacle → ℕ
 obstacleNumber Clear = 0
 obstacleNumber (Cell c) = 101
 obstacleNumber (Step v) = 102
+obstacleNumber (Pinch v) = 103
 
 abbrev pub obstaclePlace : Obstacle → ℕ
 obstaclePlace Clear = 0
 obstaclePlace (Cell c) = c .0
 obstaclePlace (Step v) = v .0
+obstaclePlace (Pinch v) = v .0
 
 abbrev pub obstacleResult : Sight → ObstacleResult
 obstacleResult (Answered o) = record { place = obstaclePlace o; answer = obstacleNumber o }

@@ -59,10 +59,11 @@ fn obstacle_number(o: Obstacle) -> u8
         Obstacle::Clear => 0,
         Obstacle::Cell(_) => 101,
         Obstacle::Step(_) => 102,
+        Obstacle::Pinch(_) => 103,
     }
 }
 
-// Where it is: the cell's number, or that of the vertex where the step begins.
+// Where it is: the cell's number, or that of the vertex where the step begins or which is the pinch.
 fn obstacle_place(o: Obstacle) -> usize
     ensures { λ r. ⌜ r ≡ obstaclePlace o ⌝ }
 {
@@ -70,6 +71,7 @@ fn obstacle_place(o: Obstacle) -> usize
         Obstacle::Clear => 0,
         Obstacle::Cell(c) => c.0,
         Obstacle::Step(v) => v.0,
+        Obstacle::Pinch(v) => v.0,
     }
 }
 

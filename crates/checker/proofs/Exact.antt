@@ -38,14 +38,14 @@ module _ {g : Graph} (L : Lawful g) (a : ℕ) (D : ℕ → ℕ) where
   costs-at t = every-at (g .size) (rightCostIn g a D) (costs-in g L D a ∙ t)
 
 -- What `vertexTest` has of a vertex of a route sheet.
-record RightAt (g : Graph) (a b : ℕ) (s : Sheet) (v : ℕ) : Type 0 where
-  d : rightCostIn g a (entry (s .d)) v ≡ true
-  e : rightCostIn g b (entry (s .e)) v ≡ true
-  f : eqb (entry (s .f) v) (countAt g a (localOn b s) (entry (s .d)) (entry (s .f)) v) ≡ true
-  b-is : eqb (entry (s .b) v) (countAt g b (localOn b s) (entry (s .e)) (entry (s .b)) v) ≡ true
+pub record RightAt (g : Graph) (a b : ℕ) (s : Sheet) (v : ℕ) : Type 0 where
+  pub d : rightCostIn g a (entry (s .d)) v ≡ true
+  pub e : rightCostIn g b (entry (s .e)) v ≡ true
+  pub f : eqb (entry (s .f) v) (countAt g a (localOn b s) (entry (s .d)) (entry (s .f)) v) ≡ true
+  pub b-is : eqb (entry (s .b) v) (countAt g b (localOn b s) (entry (s .e)) (entry (s .b)) v) ≡ true
 
 module _ (g : Graph) (a b : ℕ) (s : Sheet) where
-  right-at : (v : ℕ) → vertexTest true g a b s v ≡ true → RightAt g a b s v
+  pub right-at : (v : ℕ) → vertexTest true g a b s v ≡ true → RightAt g a b s v
   unfolding vertexTest countsTest
   right-at v t =
       let d = rightCostIn g a (entry (s .d)) v in
@@ -55,7 +55,7 @@ module _ (g : Graph) (a b : ℕ) (s : Sheet) where
       let counts = and-right (d && e) _ t in
       record { d = and-left d e costs; e = and-right d e costs; f = and-left f _ counts; b-is = and-right f _ counts }
 
-  at-right : (v : ℕ) → RightAt g a b s v → vertexTest true g a b s v ≡ true
+  pub at-right : (v : ℕ) → RightAt g a b s v → vertexTest true g a b s v ≡ true
   unfolding vertexTest countsTest
   at-right v r = and-intro _ _ (and-intro _ _ (r .d) (r .e)) (and-intro _ _ (r .f) (r .b-is))
 

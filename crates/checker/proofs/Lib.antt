@@ -1,5 +1,6 @@
 pub mod Chains
 pub mod Exact
+pub mod Leaving
 pub mod Counts
 pub mod Vertex
 pub mod Posed

@@ -16,13 +16,14 @@ use Rattle.floor.specs.Floor.{floorOf, vertices, number}
 use Rattle.floor.proofs.Numbers.{number-lt}
 use Rattle.moves.specs.declared.Rows.{Rows}
 use Rattle.moves.specs.Table.{OnFloor}
-use Rattle.masks.specs.Masks.{OpenMask, OpenAt}
+use Rattle.moves.specs.Leaving.{leaves}
+use Rattle.masks.specs.Masks.{MaskAt, leavingMask}
 use Rattle.masks.proofs.Masks.{mask-number}
 use Rattle.offsets.specs.Offsets.{Shifts}
 use Rattle.paths.specs.Graph.{Graph}
 use Rattle.paths.specs.Sheet.{Sheet}
 use Rattle.paths.specs.Local.{entry, localOn}
-use Rattle.grid.specs.Grid.{floorGraph}
+use Rattle.grid.specs.Leaving.{leavingGraph}
 use Rattle.neighbours.specs.Reading.{maskGraph, Readable}
 use Rattle.neighbours.proofs.Agree.{Agrees, rightCostIn-agrees, countAt-agrees}
 use Rattle.neighbours.proofs.Columns.{flag-stops, flag-keeps}
@@ -41,31 +42,31 @@ vertexTest-agrees q j a b s =
     )
 
 pub vertices-rows : (w h : ℕ) (l : List ℕ) (r : Rows) (j : Bool) (a b : ℕ) (s : Sheet)
-    → let g = floorGraph (floorOf w h l) r in every (suc h) (rowTest j g a b s w) ≡ verticesTest j g a b s
+    → let g = leavingGraph (floorOf w h l) r in every (suc h) (rowTest j g a b s w) ≡ verticesTest j g a b s
 unfolding verticesTest
-vertices-rows w h l r j a b s = sym (every-rows (suc h) (suc w) (vertexTest j (floorGraph (floorOf w h l) r) a b s))
+vertices-rows w h l r j a b s = sym (every-rows (suc h) (suc w) (vertexTest j (leavingGraph (floorOf w h l) r) a b s))
 
--- What the loop finds of the vertex in column x, said of the floor's graph: a flag falls where a test fails, and stays
+-- What the loop finds of the vertex in column x, said of the graph of the moves that leave: a flag falls where a test fails, and stays
 -- where it holds.
 module _ {w h : ℕ} {l : List ℕ} {r : Rows} {a b : ℕ} {s : Sheet} (p : Posed w h l r a b s) {m : List ℕ}
-    (S : Shifts w m) {x y mask v : ℕ} (o : OnFloor w h x y) (k : OpenMask (floorOf w h l) x y mask)
+    (S : Shifts w m) {x y mask v : ℕ} (o : OnFloor w h x y) (k : mask ≡ leavingMask (floorOf w h l) x y)
     (numbered : v ≡ number w x y) where
   abbrev g : Graph
-  g = floorGraph (floorOf w h l) r
+  g = leavingGraph (floorOf w h l) r
 
   inside : number w x y < vertices w h
   inside = number-lt w h x y (o .column) (o .row)
 
-  open-at : OpenAt (floorOf w h l) (number w x y) mask
-  open-at = mask-number (floorOf w h l) x y (o .column) k
+  leaving-at : MaskAt leaves (floorOf w h l) (number w x y) mask
+  leaving-at = mask-number (floorOf w h l) x y (o .column) k
 
   pub column-readable : Readable (length (s .d)) r m mask v
-  column-readable = rw numbered (posed-readable p S inside open-at)
+  column-readable = rw numbered (posed-readable p S inside leaving-at)
 
   module _ (j : Bool) {old new : Bool} (before : old ≡ every x (columnTest j g a b s w y))
       (is : new ≡ vertexTest j (maskGraph (length (s .d)) r m mask) a b s v) where
     on-floor : new ≡ columnTest j g a b s w y x
-    on-floor = rw numbered at is ∙ vertexTest-agrees (posed-agrees p S inside open-at) j a b s
+    on-floor = rw numbered at is ∙ vertexTest-agrees (posed-agrees p S inside leaving-at) j a b s
 
     pub column-stops : not new ≡ true → false ≡ every (x + 1) (columnTest j g a b s w y)
     column-stops = flag-stops (columnTest j g a b s w y) x on-floor

@@ -1,7 +1,6 @@
 -- The test of the route, place by place, by what the code finds in turn.
 --
 --   point-..      == what a place is found to be, said of `pointTest`
---   next-local    == the next vertex by a mask is the next vertex on the floor
 --   points-..     == the same of the whole route, said of `pointsTest`
 use Prim.Native.Nat.{ℕ, suc, _+_, _≤_, _<_}
 use mathlib.Core.Path.{_≡_, sym, _∙_}
@@ -13,11 +12,8 @@ use borrow.Author.Tests.{lt-ltb, le-ltb, le-leb, lt-leb, eq-eqb, ne-eqb}
 use lib.Dec.{ltb, eqb}
 use Rattle.basics.specs.Bounded.{every}
 use Rattle.paths.specs.Graph.{Graph}
-use Rattle.paths.specs.Route.{onShortest, nextVertex}
 use Rattle.paths.specs.Sheet.{Sheet}
-use Rattle.paths.specs.Local.{is-there, rightPoint, rightRoute, entry, localOn, localNext}
-use Rattle.neighbours.specs.Choice.{traversalOf}
-use Rattle.neighbours.proofs.Agree.{Agrees, nextVertex-agrees}
+use Rattle.paths.specs.Local.{is-there, rightPoint, rightRoute, entry, localNext}
 use Rattle.checker.specs.Tests.{pointTest, pointsTest}
 
 -- ---- one place
@@ -61,14 +57,6 @@ module _ (g : Graph) (b : ℕ) (s : Sheet) (i at : ℕ) (is : at ≡ entry (s .r
           point-next w x e y =
               let q : localNext g b s (entry (s .route) i) ≡ some w = rw is at e in
               rw (lt-ltb i (s .n) l, inside, other, lt-ltb (suc i) (s .n) (omega arith), q, y, add-one)
-
--- ---- the next vertex
-
-pub next-local : {g h : Graph} {v : ℕ} → Agrees g h v → (b : ℕ) (s : Sheet)
-    → nextVertex g (onShortest (entry (s .d)) (entry (s .e)) b) (entry (s .d)) (traversalOf (s .f) (s .b)) v
-    ≡ localNext h b s v
-unfolding localNext localOn
-next-local q b s = nextVertex-agrees q (entry (s .d)) (localOn b s) (traversalOf (s .f) (s .b))
 
 -- ---- the whole route
 

@@ -2,7 +2,8 @@
 --
 --   posed-uncounted          == the point count is no part of it
 --   posed-goal               == the goal is as good an end as the start
---   posed-readable, -agrees  == the moves from a vertex can be read by its mask, and lead where those of the floor lead
+--   posed-readable, -agrees  == the moves that leave a vertex can be read by its mask, and lead where those of the floor
+--                               lead
 --   posed-shaped             == the slices are all as long as that of the costs from a
 use Prim.Native.Nat.{ℕ, _<_}
 use mathlib.Core.Path.{refl, sym, _∙_, subst}
@@ -10,12 +11,14 @@ use mathlib.Core.List.{List}
 use lib.ListN.{length}
 use Rattle.floor.specs.Floor.{floorOf, vertices}
 use Rattle.moves.specs.declared.Rows.{Rows}
+use Rattle.moves.specs.Leaving.{leaves}
 use Rattle.moves.proofs.Table.{listed-lawful}
-use Rattle.masks.specs.Masks.{OpenAt}
+use Rattle.masks.specs.Masks.{MaskAt}
 use Rattle.offsets.specs.Offsets.{Shifts}
 use Rattle.paths.specs.Sheet.{Sheet, sheetOf}
 use Rattle.paths.specs.Local.{Shaped}
-use Rattle.grid.specs.Grid.{floorGraph}
+use Rattle.grid.specs.Leaving.{leavingGraph}
+use Rattle.grid.proofs.Jobs.{goal-alone}
 use Rattle.neighbours.specs.Reading.{maskGraph, Readable}
 use Rattle.neighbours.proofs.Agree.{Agrees}
 use Rattle.neighbours.proofs.Shown.{Shows, mask-shows}
@@ -30,15 +33,7 @@ posed-uncounted p = record {
 
 module _ {w h : ℕ} {l : List ℕ} {r : Rows} {a b : ℕ} {s : Sheet} (p : Posed w h l r a b s) where
   pub posed-goal : Posed w h l r b b s
-  posed-goal = record {
-    job = record {
-      sized = p .job .sized;
-      listed = p .job .listed;
-      start-in = p .job .goal-in;
-      goal-in = p .job .goal-in;
-    };
-    shape = p .shape;
-  }
+  posed-goal = record { job = goal-alone (p .job); shape = p .shape }
 
   pub posed-shaped : Shaped (length (s .d)) s
   posed-shaped = record {
@@ -49,14 +44,14 @@ module _ {w h : ℕ} {l : List ℕ} {r : Rows} {a b : ℕ} {s : Sheet} (p : Pose
     route = p .shape .route ∙ sym (p .shape .d);
   }
 
-  module _ {m : List ℕ} (S : Shifts w m) {mask v : ℕ} (i : v < vertices w h) (o : OpenAt (floorOf w h l) v mask) where
-    shown : Shows (floorGraph (floorOf w h l) r) r m mask v
+  module _ {m : List ℕ} (S : Shifts w m) {mask v : ℕ} (i : v < vertices w h) (o : MaskAt leaves (floorOf w h l) v mask) where
+    shown : Shows (leavingGraph (floorOf w h l) r) r m mask v
     shown =
-        mask-shows (floorOf w h l) r (listed-lawful (p .job .listed)) S (p .job .sized .wide) (p .job .sized .high) mask
-        v i o
+        mask-shows leaves (floorOf w h l) r (listed-lawful (p .job .listed)) S (p .job .sized .wide)
+        (p .job .sized .high) mask v i o
 
     pub posed-readable : Readable (length (s .d)) r m mask v
     posed-readable = subst (λ (n : ℕ). Readable n r m mask v) (sym (p .shape .d)) (shown .readable)
 
-    pub posed-agrees : Agrees (maskGraph (length (s .d)) r m mask) (floorGraph (floorOf w h l) r) v
+    pub posed-agrees : Agrees (maskGraph (length (s .d)) r m mask) (leavingGraph (floorOf w h l) r) v
     posed-agrees = let q = shown .agrees in record { moves = q .moves; cost = q .cost; step = q .step }

@@ -1,5 +1,6 @@
 -- Document 01, "The checker uses 1 to 6 and then .. 0 .. exactly when n and every slice are the true route sheet, 7 ..
--- exactly when they are the true no-route sheet, and 9 .. for every other sheet".
+-- exactly when they are the true no-route sheet, and 9 .. for every other sheet"; by request 5 of document 02 it uses 11
+-- too, after 5 and before 6.
 --
 --   verdict g a b s      == the answer to the sheet s of the job from a to b on graph g
 --   sheetSized v s       == refusal 6 does not apply: each slice of the sheet s has v places

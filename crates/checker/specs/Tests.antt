@@ -13,13 +13,16 @@
 --   pointsTest g a b s       == the route is right, and its point count
 --   routeTest g a b s        == s is the true route sheet
 --   noRouteTest g a b s      == s is the true no-route sheet
+--   PinchesFar f d           == the costs d have every pinch unreached
 --   Posed w h l r a b s      == a good job, with a sheet whose slices have a place for each vertex
-use Prim.Native.Nat.{ℕ, suc}
+use Prim.Native.Nat.{ℕ, suc, _<_}
+use mathlib.Core.Path.{_≡_}
 use mathlib.Core.Bool.{Bool, true, false, _&&_}
 use mathlib.Core.List.{List, []}
 use lib.Dec.{ltb, eqb}
 use Rattle.basics.specs.Bounded.{pick, every}
-use Rattle.floor.specs.Floor.{vertices, number}
+use Rattle.floor.specs.Floor.{Floor, vertices, number, column, row}
+use Rattle.sight.specs.Sight.{pinch}
 use Rattle.moves.specs.declared.Rows.{Rows}
 use Rattle.paths.specs.Graph.{Graph}
 use Rattle.paths.specs.Distance.{unreachable}
@@ -70,6 +73,10 @@ unfoldable pub noRouteTest : Graph → ℕ → ℕ → Sheet → Bool
 noRouteTest g a b s =
     eqb (entry (s .d) b) unreachable
     && (eqb (s .n) 0 && (eqb (entry (s .d) a) 0 && verticesTest false g a b s))
+
+pub record PinchesFar (f : Floor) (d : List ℕ) : Type 0 where
+  pub at : (v : ℕ) → v < vertices (f .wide) (f .high) → pinch f (column (f .wide) v) (row (f .wide) v) ≡ true
+      → entry d v ≡ unreachable
 
 pub record Posed (w h : ℕ) (l : List ℕ) (r : Rows) (a b : ℕ) (s : Sheet) : Type 0 where
   pub job : GoodJob w h l r a b

@@ -4,10 +4,12 @@ ghost use Prim.Native.Nat.{_≤_, _<_};
 ghost use lib.ListN.{length};
 ghost use Rattle.floor.specs.Floor.{floorOf};
 ghost use Rattle.offsets.specs.Offsets.{Shifts};
+ghost use Rattle.paths.specs.Distance.{unreachable};
+ghost use Rattle.paths.specs.Local.{entry};
 ghost use Rattle.paths.specs.Sheet.{sheetOf};
 ghost use Rattle.grid.specs.Grid.{floorGraph};
 ghost use Rattle.neighbours.specs.Choice.{Counted};
-ghost use Rattle.checker.specs.Tests.{pointTest, pointsTest, Posed};
+ghost use Rattle.checker.specs.Tests.{PinchesFar, pointTest, pointsTest, Posed};
 use floor::Vertex;
 use moves::Rows;
 use neighbours::Next;
@@ -38,7 +40,8 @@ fn point_right(
 ) -> bool
     requires { ⌜ Posed w h (now map) rows (b .0) (b .0)
         (sheetOf (now d) (now e) (now f) (now back) (now route) n) × Shifts w (now shifts)
-        × Counted (length (now d)) (now f) (now back) × (n ≤ length (now route)) × (i < length (now route)) ⌝ }
+        × Counted (length (now d)) (now f) (now back) × PinchesFar (floorOf w h (now map)) (now d)
+        × (entry (now d) (b .0) < unreachable) × (n ≤ length (now route)) × (i < length (now route)) ⌝ }
     ensures { λ r. ⌜ r ≡ pointTest (floorGraph (floorOf w h (now (map .entry))) rows) (b .0)
         (sheetOf (now (d .entry)) (now (e .entry)) (now (f .entry)) (now (back .entry)) (now (route .entry)) n) i ⌝ }
 {
@@ -55,7 +58,7 @@ fn point_right(
     if n <= i + 1 {
         return false;
     }
-    let mask = masks::open_moves(w, h, map, at);
+    let mask = masks::leaving_moves(w, h, map, at);
     let Next::To(u) = neighbours::next_at(rows, shifts, mask, d, e, f, back, b.0, at.0) else {
         return false;
     };
@@ -78,7 +81,8 @@ pub fn route_right(
     n: usize,
 ) -> bool
     requires { ⌜ Posed w h (now map) rows (a .0) (b .0)
-        (sheetOf (now d) (now e) (now f) (now back) (now route) n) × Counted (length (now d)) (now f) (now back) ⌝ }
+        (sheetOf (now d) (now e) (now f) (now back) (now route) n) × Counted (length (now d)) (now f) (now back)
+        × PinchesFar (floorOf w h (now map)) (now d) × (entry (now d) (b .0) < unreachable) ⌝ }
     ensures { λ r. ⌜ r ≡ pointsTest (floorGraph (floorOf w h (now (map .entry))) rows) (a .0) (b .0)
         (sheetOf (now (d .entry)) (now (e .entry)) (now (f .entry)) (now (back .entry)) (now (route .entry)) n) ⌝ }
 {

@@ -8,6 +8,7 @@ ghost use Rattle.offsets.specs.Classes.{Classes};
 ghost use Rattle.paths.specs.Local.{entry, countAt, Shaped, blankAt};
 ghost use Rattle.paths.specs.Sheet.{sheetOf};
 ghost use Rattle.grid.specs.Grid.{floorGraph};
+ghost use Rattle.grid.specs.Leaving.{leavingGraph};
 ghost use Rattle.neighbours.specs.Reading.{maskGraph, Readable};
 ghost use Rattle.checker.specs.Tests.{numbersOf, blankOf, countsTest, vertexTest, rowTest, verticesTest, Posed};
 use floor::Vertex;
@@ -123,7 +124,7 @@ fn vertex_right(
     blank_at(e, f, back, route, v)
 }
 
-// The numbers of the vertices of row y are right. Each is looked at, also after one that is false: a way out of the
+// The numbers of the vertices of row y are right, by the moves that leave each. Each is looked at, also after one that is false: a way out of the
 // loop makes every turn slower.
 fn row_right(
     w: usize,
@@ -141,20 +142,20 @@ fn row_right(
     y: usize,
 ) -> bool
     requires { ⌜ Posed w h (now map) rows a b (sheetOf (now d) (now e) (now f) (now back) (now route) 0) × (y ≤ h) ⌝ }
-    ensures { λ r. ⌜ r ≡ rowTest joined (floorGraph (floorOf w h (now (map .entry))) rows) a b
+    ensures { λ r. ⌜ r ≡ rowTest joined (leavingGraph (floorOf w h (now (map .entry))) rows) a b
         (sheetOf (now (d .entry)) (now (e .entry)) (now (f .entry)) (now (back .entry)) (now (route .entry)) 0) w y ⌝ }
 {
     let shifts = offsets::shifts_of(w);
     let classes = offsets::classes_of(rows);
+    let leaving = masks::leaving_row(w, h, map, y);
     let first = y * (w + 1);
     let mut right = true;
     for x in 0..w + 1 {
-        let mask = masks::open_from(w, h, map, x, y);
         if !vertex_right(
             rows,
             &shifts,
             classes,
-            mask,
+            leaving[x],
             joined,
             a,
             b,
@@ -171,7 +172,9 @@ fn row_right(
     right
 }
 
-// The numbers of every vertex are right: one pass over the floor, row by row, up to the first row with a false number.
+// The numbers of every vertex are right: one pass over the floor, row by row, up to the first row with a false number. A
+// move to a pinch is read as open: nothing leaves a pinch, so that its own test makes it unreached, and a move to it adds
+// nothing.
 pub fn vertices_right(
     w: usize,
     h: usize,

@@ -1,5 +1,5 @@
--- Document 01, "Answers by number", and request 1 of document 02 for 12 to 14: each refusal's number, and the refusals
--- over the shape of a floor and of an end. No refusal here has the number 11.
+-- Document 01, "Answers by number", and of document 02 request 5 for 11 and request 1 for 12 to 14: each refusal's
+-- number, and the refusals over the shape of a floor and of an end.
 --
 --   refusalNumber r    == the number of refusal r
 --   sidesShape w h     == refusal 1: the sides
@@ -26,6 +26,7 @@ use Rattle.floor.specs.declared.Refusal.the-variants.{
   TooMany,
   FalseSheet,
   NotJoined,
+  Pinched,
   ClosureBounds,
   SlotsFull,
   SlotEmpty,
@@ -44,6 +45,7 @@ refusalNumber NoRoute = 7
 refusalNumber TooMany = 8
 refusalNumber FalseSheet = 9
 refusalNumber NotJoined = 10
+refusalNumber Pinched = 11
 refusalNumber ClosureBounds = 12
 refusalNumber SlotsFull = 13
 refusalNumber SlotEmpty = 14

@@ -15,7 +15,7 @@ pub struct Cell(pub usize);
 // The number of a vertex, a cell corner: column + row * (W + 1).
 pub struct Vertex(pub usize);
 
-// Every refusal of the papers, in the order of its numbers. No refusal here has the number 11.
+// Every refusal of the papers, in the order of its numbers.
 pub enum Refusal {
     Size,
     MapLength,
@@ -27,6 +27,7 @@ pub enum Refusal {
     TooMany,
     FalseSheet,
     NotJoined,
+    Pinched,
     ClosureBounds,
     SlotsFull,
     SlotEmpty,
@@ -53,6 +54,7 @@ pub fn refusal_number(r: Refusal) -> u8
         Refusal::TooMany => 8,
         Refusal::FalseSheet => 9,
         Refusal::NotJoined => 10,
+        Refusal::Pinched => 11,
         Refusal::ClosureBounds => 12,
         Refusal::SlotsFull => 13,
         Refusal::SlotEmpty => 14,

@@ -1,2 +1,1 @@
-pub mod RowMasks
 pub mod Tested

@@ -3,7 +3,7 @@
 --   true-list, list-true       == true costs are the list of the distances
 --   vertex-tested              == the test by the least that a move gives is that of the moves of the mask
 --   column-readable            == the moves from the vertex in column x can be read by its mask
---   column-right               == what the code finds of its cost, said of the floor's graph
+--   column-right               == what the code finds of its cost, said of the graph of the moves that leave
 --   start-false                == a cost at the start other than 0 is false
 --   rows-true                  == where it is 0, the tests of all rows say whether the costs are true
 use Prim.Native.Nat.{ℕ, suc, _≤_}
@@ -21,7 +21,7 @@ use Rattle.floor.specs.Floor.{floorOf, vertices, number}
 use Rattle.moves.specs.declared.Rows.{Rows}
 use Rattle.moves.specs.Table.{OnFloor}
 use Rattle.moves.proofs.Table.{listed-lawful}
-use Rattle.masks.specs.Masks.{OpenMask}
+use Rattle.masks.specs.Masks.{leavingMask}
 use Rattle.offsets.specs.declared.Class.{Class}
 use Rattle.offsets.specs.Offsets.{Shifts}
 use Rattle.offsets.specs.Classes.{Classes}
@@ -30,6 +30,7 @@ use Rattle.paths.specs.Distance.{unreachable, distance}
 use Rattle.paths.specs.Local.{entry, rightCosts}
 use Rattle.paths.proofs.CostTest.{rightCosts-list}
 use Rattle.grid.specs.Grid.{floorGraph}
+use Rattle.grid.specs.Leaving.{leavingGraph}
 use Rattle.grid.specs.Known.{GoodJob}
 use Rattle.grid.proofs.Lawful.{floor-lawful}
 use Rattle.neighbours.specs.Reading.{maskGraph, Readable}
@@ -37,7 +38,9 @@ use Rattle.neighbours.specs.Least.{rightCostIn, rightNear}
 use Rattle.neighbours.proofs.Agree.{rightCostIn-agrees}
 use Rattle.neighbours.proofs.Classed.{mask-classed}
 use Rattle.neighbours.proofs.Columns.{column-shows}
+use Rattle.neighbours.proofs.Half.{half-costs}
 use Rattle.neighbours.proofs.Incoming.{costs-in}
+use Rattle.neighbours.proofs.Leaving.{leaving-half}
 use Rattle.neighbours.proofs.Least.{least-right}
 use Rattle.neighbours.proofs.Shown.{Shows}
 use Rattle.given_costs.specs.Given.{costsTrue}
@@ -69,18 +72,22 @@ module _ {w h : ℕ} {l : List ℕ} {r : Rows} {a : ℕ} (J : GoodJob w h l r a 
   abbrev g : Graph
   g = floorGraph (floorOf w h l) r
 
+  -- The graph of the moves that leave a vertex.
+  abbrev k : Graph
+  k = leavingGraph (floorOf w h l) r
+
   module _ {s : List ℕ} (S : Shifts w s) {x y mask v : ℕ} (o : OnFloor w h x y)
-      (k : OpenMask (floorOf w h l) x y mask) (numbered : v ≡ number w x y) where
-    shown : Shows g r s mask v
-    shown = column-shows J S o k numbered
+      (is : mask ≡ leavingMask (floorOf w h l) x y) (numbered : v ≡ number w x y) where
+    shown : Shows k r s mask v
+    shown = column-shows J S o is numbered
 
     pub column-readable : {n : ℕ} → n ≡ vertices w h → Readable n r s mask v
     column-readable len = rw len (shown .readable)
 
     pub column-right : {n : ℕ} {t : Bool} (d : List ℕ) → n ≡ vertices w h
-        → t ≡ rightCostIn (maskGraph n r s mask) a (entry d) v → t ≡ columnTest g a d w y x
-    column-right d len is =
-        (rw len at is) ∙ rightCostIn-agrees (shown .agrees) (entry d) a ∙ ap (rightCostIn g a (entry d)) numbered
+        → t ≡ rightCostIn (maskGraph n r s mask) a (entry d) v → t ≡ columnTest k a d w y x
+    column-right d len found =
+        (rw len at found) ∙ rightCostIn-agrees (shown .agrees) (entry d) a ∙ ap (rightCostIn k a (entry d)) numbered
 
   -- ---- every row
 
@@ -98,8 +105,9 @@ module _ {w h : ℕ} {l : List ℕ} {r : Rows} {a : ℕ} (J : GoodJob w h l r a 
     unfolding rightCosts
     start-false n = rw (ne-eqb (entry d a) 0 n) at tested-true
 
-    pub rows-true : entry d a ≡ 0 → every (suc h) (rowTest g a d w) ≡ costsTrue g a d
+    pub rows-true : entry d a ≡ 0 → every (suc h) (rowTest k a d w) ≡ costsTrue g a d
     unfolding rightCosts
     rows-true z =
-        sym (every-rows (suc h) (suc w) (rightCostIn g a (entry d)))
+        sym (every-rows (suc h) (suc w) (rightCostIn k a (entry d)))
+        ∙ sym (half-costs (leaving-half (floorOf w h l) r (listed-lawful (J .listed)) a (J .start-free)) (entry d))
         ∙ costs-in g rules (entry d) a ∙ (rw (eq-eqb (entry d a) 0 z) at tested-true)

@@ -1,17 +1,18 @@
 // Costs that a caller hands in, tested by the local law: each cost against those of its neighbours, in one pass over
 // the floor, with nothing to write in.
 ghost use mathlib.Core.Path.{_≡_};
-ghost use Prim.Native.Nat.{suc, _≤_};
+ghost use Prim.Native.Nat.{_≤_};
 ghost use lib.ListN.{length};
-ghost use Rattle.floor.specs.Floor.{Sized, floorOf, vertices};
+ghost use Rattle.floor.specs.Floor.{floorOf, vertices};
 ghost use Rattle.offsets.specs.Classes.{Classes};
 ghost use Rattle.paths.specs.Local.{entry};
 ghost use Rattle.grid.specs.Grid.{floorGraph};
+ghost use Rattle.grid.specs.Leaving.{leavingGraph};
 ghost use Rattle.grid.specs.Known.{GoodJob};
 ghost use Rattle.neighbours.specs.Reading.{maskGraph, Readable};
 ghost use Rattle.neighbours.specs.Least.{rightCostIn};
 ghost use Rattle.given_costs.specs.Given.{costsTrue};
-ghost use Rattle.given_costs.specs.Tests.{RowMasks, rowTest};
+ghost use Rattle.given_costs.specs.Tests.{rowTest};
 use floor::Vertex;
 use moves::Rows;
 use offsets::Class;
@@ -33,34 +34,19 @@ fn vertex_right(
     neighbours::cost_right(shifts, classes, mask, a, d, v)
 }
 
-// The masks of the vertices of row y. Those of the two ends are made apart, so that between them nothing is left of the
-// tests of the edge.
-fn row_masks(w: usize, h: usize, map: &[u8], y: usize) -> [u32; 128]
-    requires { ⌜ Sized w h (now map) × (y ≤ h) ⌝ }
-    ensures { λ r. ⌜ RowMasks (floorOf w h (now (map .entry))) y (suc w) r ⌝ }
-{
-    let mut row = [0; 128];
-    row[0] = masks::open_from(w, h, map, 0, y);
-    for x in 1..w {
-        row[x] = masks::open_from(w, h, map, x, y);
-    }
-    row[w] = masks::open_from(w, h, map, w, y);
-    row
-}
-
-// The costs of the vertices of row y are right, each by its neighbours. Each is looked at, also after one that is
+// The costs of the vertices of row y are right, each by the moves that leave it. Each is looked at, also after one that is
 // false: a way out of the loop makes every turn slower.
 fn row_right(w: usize, h: usize, map: &[u8], rows: Rows, a: usize, d: &[u32], y: usize) -> bool
     requires { ⌜ GoodJob w h (now map) rows a a × (length (now d) ≡ vertices w h) × (y ≤ h) ⌝ }
-    ensures { λ r. ⌜ r ≡ rowTest (floorGraph (floorOf w h (now (map .entry))) rows) a (now (d .entry)) w y ⌝ }
+    ensures { λ r. ⌜ r ≡ rowTest (leavingGraph (floorOf w h (now (map .entry))) rows) a (now (d .entry)) w y ⌝ }
 {
     let shifts = offsets::shifts_of(w);
     let classes = offsets::classes_of(rows);
-    let row = row_masks(w, h, map, y);
+    let leaving = masks::leaving_row(w, h, map, y);
     let first = y * (w + 1);
     let mut right = true;
     for x in 0..w + 1 {
-        if !vertex_right(rows, &shifts, classes, row[x], a, d, first + x) {
+        if !vertex_right(rows, &shifts, classes, leaving[x], a, d, first + x) {
             right = false;
         }
     }
@@ -68,7 +54,7 @@ fn row_right(w: usize, h: usize, map: &[u8], rows: Rows, a: usize, d: &[u32], y:
 }
 
 // Whether d holds the true costs from a: 0 at a, and every cost right by its neighbours. It stops at the first row with
-// a false cost.
+// a false cost. A move to a pinch is read as open, as the checker does.
 pub fn costs_true(w: usize, h: usize, map: &[u8], rows: Rows, a: Vertex, d: &[u32]) -> bool
     requires { ⌜ GoodJob w h (now map) rows (a .0) (a .0) × (length (now d) ≡ vertices w h) ⌝ }
     ensures { λ r. ⌜ r ≡ costsTrue (floorGraph (floorOf w h (now (map .entry))) rows) (a .0) (now (d .entry)) ⌝ }

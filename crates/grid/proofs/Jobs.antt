@@ -1,30 +1,105 @@
 -- The shape of a job: what the tests of the code say of `jobOf`, and what a fit job has.
 --
---   FitJob ..   == a floor, neighbourhood and ends of good shape
---   job-fit     == `jobOf` answers `Fit` of just those
---   good-job    == so such a job is good
+--   FitJob ..               == a floor, neighbourhood and ends of good shape
+--   job-fit                 == `jobOf` answers `Fit` of just those
+--   good-job                == so such a job is good
+--   start-fit               == where a job is fit, so is its start alone
+--   start-alone, goal-alone == each end of a good job is a good job by itself
 use Prim.Native.Nat.{ℕ, _<_}
-use mathlib.Core.Path.{_≡_, refl}
-use mathlib.Core.Bool.{true}
+use mathlib.Core.Path.{_≡_, refl, sym}
+use mathlib.Core.Bool.{Bool, true, false}
 use mathlib.Core.List.{List}
 use native.Mathlib.Omega.{arith}
-use Rattle.floor.specs.Floor.{vertices}
+use Rattle.basics.specs.Bounded.{pick}
+use Rattle.floor.specs.Floor.{Floor, floorOf, vertices, column, row}
 use Rattle.floor.specs.Refusals.{floorShape, endShape, andThen}
 use Rattle.floor.specs.declared.Refusal.{Refusal}
-use Rattle.floor.specs.declared.Refusal.the-variants.{Neighbourhood as BadNeighbourhood}
+use Rattle.floor.specs.declared.Refusal.the-variants.{Neighbourhood as BadNeighbourhood, Pinched}
 use Rattle.floor.specs.declared.Shape.{Shape}
 use Rattle.floor.specs.declared.Shape.the-variants.{Good, Refused}
-use Rattle.floor.proofs.Shapes.{GoodFloor, good-floor, good-end}
+use Rattle.floor.proofs.Shapes.{GoodFloor, good-floor, good-end, good-first, good-second}
+use Rattle.sight.specs.Sight.{pinch}
 use Rattle.moves.specs.declared.Rows.{Rows}
 use Rattle.moves.specs.declared.Neighbourhood.{Neighbourhood}
 use Rattle.moves.specs.declared.Neighbourhood.the-variants.{Known, Unknown}
 use Rattle.moves.specs.Moves.{neighbourhoodOf}
 use Rattle.moves.specs.Table.{Listed, lawfulRows}
 use Rattle.moves.proofs.Table.{listed-lawful}
-use Rattle.grid.specs.Grid.{orUnfit, withRows, jobOf}
+use Rattle.grid.specs.Grid.{orUnfit, withRows, pinchShape, endsShape, jobOf}
 use Rattle.grid.specs.Known.{GoodJob}
 use Rattle.grid.specs.declared.Job.{Job}
 use Rattle.grid.specs.declared.Job.the-variants.{Fit, Unfit}
+
+-- ---- one end, and both
+
+pub pinch-refused : (f : Floor) (v : ℕ) → pinch f (column (f .wide) v) (row (f .wide) v) ≡ true
+    → Refused Pinched ≡ pinchShape f v
+unfolding pinchShape
+pinch-refused f v e = rw e
+
+pub pinch-passed : (f : Floor) (v : ℕ) → pinch f (column (f .wide) v) (row (f .wide) v) ≡ false → Good ≡ pinchShape f v
+unfolding pinchShape
+pinch-passed f v e = rw e
+
+good-free : (f : Floor) (v : ℕ) → pinchShape f v ≡ Good → pinch f (column (f .wide) v) (row (f .wide) v) ≡ false
+unfolding pinchShape
+good-free f v e = cases (pinch f (column (f .wide) v) (row (f .wide) v)) e
+  where
+    cases : (b : Bool) → pick b (Refused Pinched) Good ≡ Good → b ≡ false
+    cases true q = let z : _≡_ {A = ℕ} 0 1 = cc in absurd (omega arith)
+    cases false q = refl
+
+-- What ends of good shape have: each shape by itself.
+record GoodEnds (w h : ℕ) (l : List ℕ) (a b : ℕ) : Type 0 where
+  start : endShape w h a ≡ Good
+  end : endShape w h b ≡ Good
+  start-free : pinchShape (floorOf w h l) a ≡ Good
+  end-free : pinchShape (floorOf w h l) b ≡ Good
+
+module _ (w h : ℕ) (l : List ℕ) (a b : ℕ) where
+  -- What the code answers of both ends, test by test.
+  pub first-refused : {r : Refusal} → endShape w h a ≡ Refused r → endShape w h a ≡ endsShape w h l a b
+  unfolding endsShape
+  first-refused e = rw e
+
+  module _ (i : endShape w h a ≡ Good) where
+    pub last-refused : {r : Refusal} → endShape w h b ≡ Refused r → endShape w h b ≡ endsShape w h l a b
+    unfolding endsShape
+    last-refused e = rw (i, e)
+
+    module _ (j : endShape w h b ≡ Good) where
+      pub first-pinched : {r : Refusal} → pinchShape (floorOf w h l) a ≡ Refused r
+          → pinchShape (floorOf w h l) a ≡ endsShape w h l a b
+      unfolding endsShape
+      first-pinched e = rw (i, j, e)
+
+      pub last-pinched : pinchShape (floorOf w h l) a ≡ Good → pinchShape (floorOf w h l) b ≡ endsShape w h l a b
+      unfolding endsShape
+      last-pinched e = rw (i, j, e)
+
+  abbrev inside : Shape
+  inside = andThen (endShape w h a) (endShape w h b)
+
+  abbrev free : Shape
+  free = andThen (pinchShape (floorOf w h l) a) (pinchShape (floorOf w h l) b)
+
+  good-ends : endsShape w h l a b ≡ Good → GoodEnds w h l a b
+  unfolding endsShape
+  good-ends e =
+      let i = good-first inside free e in
+      let f = good-second inside free e in
+      record {
+        start = good-first (endShape w h a) _ i;
+        end = good-second (endShape w h a) _ i;
+        start-free = good-first (pinchShape (floorOf w h l) a) _ f;
+        end-free = good-second (pinchShape (floorOf w h l) a) _ f;
+      }
+
+  ends-good : GoodEnds w h l a b → endsShape w h l a b ≡ Good
+  unfolding endsShape
+  ends-good g = rw (g .start, g .end, g .start-free, g .end-free)
+
+-- ---- a job
 
 pub record FitJob (w h : ℕ) (l : List ℕ) (nb a b : ℕ) (r : Rows) : Type 0 where
   pub floor : GoodFloor w h l
@@ -33,38 +108,57 @@ pub record FitJob (w h : ℕ) (l : List ℕ) (nb a b : ℕ) (r : Rows) : Type 0 
   pub lawful : lawfulRows r ≡ true
   pub start : a < vertices w h
   pub end : b < vertices w h
+  pub start-free : pinch (floorOf w h l) (column w a) (row w a) ≡ false
+  pub end-free : pinch (floorOf w h l) (column w b) (row w b) ≡ false
+
+-- What the tests of a fit job found.
+record Shapes (w h : ℕ) (l : List ℕ) (nb a b : ℕ) (r : Rows) : Type 0 where
+  floor : floorShape w h l ≡ Good
+  known : neighbourhoodOf nb ≡ Known r
+  ends : endsShape w h l a b ≡ Good
 
 never : {P : Type 0} {r : Refusal} {q : Rows} → _≡_ {A = Job} (Unfit r) (Fit q) → P
 never {P} {r} {q} e = let z : _≡_ {A = ℕ} 0 1 = cc in absurd (omega arith)
 
 module _ (w h : ℕ) (l : List ℕ) (nb a b : ℕ) where
-  pub job-fit : (r : Rows) → jobOf w h l nb a b ≡ Fit r → FitJob w h l nb a b r
+  shapes : (r : Rows) → jobOf w h l nb a b ≡ Fit r → Shapes w h l nb a b r
   unfolding jobOf
-  job-fit r e = cases (floorShape w h l) (neighbourhoodOf nb) (endShape w h a) (endShape w h b) refl refl refl refl e
+  shapes r e = cases (floorShape w h l) (neighbourhoodOf nb) (endsShape w h l a b) refl refl refl e
     where
-      cases : (f : Shape) (n : Neighbourhood) (s t : Shape) → floorShape w h l ≡ f → neighbourhoodOf nb ≡ n
-          → endShape w h a ≡ s → endShape w h b ≡ t → orUnfit f (withRows n (andThen s t)) ≡ Fit r
-          → FitJob w h l nb a b r
-      cases (Refused z) n s t p q i j x = never x
-      cases Good Unknown s t p q i j x = never x
-      cases Good (Known k) (Refused z) t p q i j x = never x
-      cases Good (Known k) Good (Refused z) p q i j x = never x
-      cases Good (Known k) Good Good p q i j x =
-          let known : neighbourhoodOf nb ≡ Known r = cc in
-          let listed : Listed r = record { number = nb; known = known } in
-          record {
-            floor = good-floor w h l p;
-            known = known;
-            listed = listed;
-            lawful = listed-lawful listed;
-            start = good-end w h a i;
-            end = good-end w h b j;
-          }
+      cases : (f : Shape) (n : Neighbourhood) (s : Shape) → floorShape w h l ≡ f → neighbourhoodOf nb ≡ n
+          → endsShape w h l a b ≡ s → orUnfit f (withRows n s) ≡ Fit r → Shapes w h l nb a b r
+      cases (Refused z) n s p q i x = never x
+      cases Good Unknown s p q i x = never x
+      cases Good (Known k) (Refused z) p q i x = never x
+      cases Good (Known k) Good p q i x = record { floor = p; known = cc; ends = i }
+
+  pub job-fit : (r : Rows) → jobOf w h l nb a b ≡ Fit r → FitJob w h l nb a b r
+  job-fit r e =
+      let s = shapes r e in
+      let ends = good-ends w h l a b (s .ends) in
+      let listed : Listed r = record { number = nb; known = s .known } in
+      record {
+        floor = good-floor w h l (s .floor);
+        known = s .known;
+        listed = listed;
+        lawful = listed-lawful listed;
+        start = good-end w h a (ends .start);
+        end = good-end w h b (ends .end);
+        start-free = good-free (floorOf w h l) a (ends .start-free);
+        end-free = good-free (floorOf w h l) b (ends .end-free);
+      }
 
   pub good-job : (r : Rows) → jobOf w h l nb a b ≡ Fit r → GoodJob w h l r a b
   good-job r e =
       let j = job-fit r e in
-      record { sized = j .floor .sized; listed = j .listed; start-in = j .start; goal-in = j .end }
+      record {
+        sized = j .floor .sized;
+        listed = j .listed;
+        start-in = j .start;
+        goal-in = j .end;
+        start-free = j .start-free;
+        goal-free = j .end-free;
+      }
 
   -- What the code answers, test by test.
   pub unfit-floor : (s : Refusal) → floorShape w h l ≡ Refused s → Unfit s ≡ jobOf w h l nb a b
@@ -77,14 +171,43 @@ module _ (w h : ℕ) (l : List ℕ) (nb a b : ℕ) where
     unfit-neighbourhood e = rw (f, e)
 
     module _ (r : Rows) (k : neighbourhoodOf nb ≡ Known r) where
-      pub unfit-start : (s : Refusal) → endShape w h a ≡ Refused s → Unfit s ≡ jobOf w h l nb a b
+      pub unfit-ends : (s : Refusal) → endsShape w h l a b ≡ Refused s → Unfit s ≡ jobOf w h l nb a b
       unfolding jobOf
-      unfit-start s e = rw (f, k, e)
+      unfit-ends s e = rw (f, k, e)
 
-      pub unfit-end : (s : Refusal) → endShape w h a ≡ Good → endShape w h b ≡ Refused s → Unfit s ≡ jobOf w h l nb a b
+      pub fit : endsShape w h l a b ≡ Good → Fit r ≡ jobOf w h l nb a b
       unfolding jobOf
-      unfit-end s i e = rw (f, k, i, e)
+      fit e = rw (f, k, e)
 
-      pub fit : endShape w h a ≡ Good → endShape w h b ≡ Good → Fit r ≡ jobOf w h l nb a b
-      unfolding jobOf
-      fit i e = rw (f, k, i, e)
+pub start-fit : (w h : ℕ) (l : List ℕ) (nb a b : ℕ) (r : Rows) → jobOf w h l nb a b ≡ Fit r → jobOf w h l nb a a ≡ Fit r
+start-fit w h l nb a b r e =
+    let s = shapes w h l nb a b r e in
+    let g = good-ends w h l a b (s .ends) in
+    let alone : GoodEnds w h l a a = record {
+      start = g .start;
+      end = g .start;
+      start-free = g .start-free;
+      end-free = g .start-free;
+    } in
+    sym (fit w h l nb a a (s .floor) r (s .known) (ends-good w h l a a alone))
+
+module _ {w h : ℕ} {map : List ℕ} {rows : Rows} {a b : ℕ} (J : GoodJob w h map rows a b) where
+  pub start-alone : GoodJob w h map rows a a
+  start-alone = record {
+    sized = J .sized;
+    listed = J .listed;
+    start-in = J .start-in;
+    goal-in = J .start-in;
+    start-free = J .start-free;
+    goal-free = J .start-free;
+  }
+
+  pub goal-alone : GoodJob w h map rows b b
+  goal-alone = record {
+    sized = J .sized;
+    listed = J .listed;
+    start-in = J .goal-in;
+    goal-in = J .goal-in;
+    start-free = J .goal-free;
+    goal-free = J .goal-free;
+  }

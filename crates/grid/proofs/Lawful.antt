@@ -12,15 +12,15 @@ use mathlib.Core.Bool.{true}
 use Rattle.floor.specs.Floor.{Floor, column, row}
 use Rattle.floor.proofs.Numbers.{vertices-le, column-le}
 use Rattle.sight.specs.Sight.{Segment, sees}
-use Rattle.sight.proofs.Symmetry.{sees-same}
+use Rattle.sight.proofs.Symmetry.{sees-back, sees-same}
 use Rattle.moves.specs.declared.Move.{Move}
 use Rattle.moves.specs.declared.Rows.{Rows}
 use Rattle.moves.specs.Moves.{moveAt}
-use Rattle.moves.specs.Steps.{openEndAt}
+use Rattle.moves.specs.Steps.{endIf}
 use Rattle.moves.specs.AnyTable.{LawfulTable}
 use Rattle.moves.specs.Table.{lawfulRows}
 use Rattle.moves.proofs.Table.{rows-lawful}
-use Rattle.moves.proofs.Steps.{goes-open}
+use Rattle.moves.proofs.Steps.{goes-end}
 use Rattle.moves.proofs.Opposites.{goes, goes-inside, goes-dx, goes-dy, goes-back}
 use Rattle.paths.specs.Graph.{Lawful}
 use Rattle.grid.specs.Grid.{tableGraph, floorGraph}
@@ -30,18 +30,18 @@ module _ (f : Floor) (n : ℕ) (M : ℕ → Move) (T : LawfulTable n M) where
   table-lawful = record {
     low = T .low;
     high = T .high;
-    inside = λ m u w l i s. goes-inside f (M m) u w (goes f (M m) u w s);
+    inside = λ m u w l i s. goes-inside sees f (M m) u w (goes sees f (M m) u w s);
     distinct = λ m k u w l h i s t.
-        let a = goes f (M m) u w s in
-        let b = goes f (M k) u w t in
-        T .distinct m k l h (goes-dx f (M m) (M k) u w a b) (goes-dy f (M m) (M k) u w a b);
+        let a = goes sees f (M m) u w s in
+        let b = goes sees f (M k) u w t in
+        T .distinct m k l h (goes-dx sees f (M m) (M k) u w a b) (goes-dy sees f (M m) (M k) u w a b);
     opposite = T .opposite;
     opposite-listed = T .opposite-listed;
     opposite-cost = T .opposite-cost;
     opposite-back = λ m u w l i s.
         let back = M (T .opposite m) in
-        goes-open f back (column (f .wide) w) (row (f .wide) w) u (column-le (f .wide) w)
-        (goes-back f (M m) back u w i (T .opposite-dx m l) (T .opposite-dy m l) (goes f (M m) u w s));
+        goes-end sees f back (column (f .wide) w) (row (f .wide) w) u (column-le (f .wide) w)
+        (goes-back sees f (sees-back f) (M m) back u w i (T .opposite-dx m l) (T .opposite-dy m l) (goes sees f (M m) u w s));
   }
 
 module _ (f : Floor) where
@@ -53,7 +53,7 @@ module _ (f : Floor) where
 
 pub graph-same : (f h : Floor) (r : Rows) → f .wide ≡ h .wide → f .high ≡ h .high
     → ((i j : ℕ) → i < f .wide → j < f .high → f .cell i j ≡ h .cell i j) → floorGraph f r ≡ floorGraph h r
-unfolding openEndAt
+unfolding endIf
 graph-same f h r p q e =
     let s : (z : Segment) → sees f z ≡ sees h z = sees-same f h p q e in
     simp (p, q, s)

@@ -1,16 +1,20 @@
--- A floor with a neighbourhood as a graph, and the shape of a job: refusals 1 to 5.
+-- A floor with a neighbourhood as a graph, and the shape of a job: refusals 1 to 5, then 11.
 --
 --   tableGraph f n M     == the graph of floor f with the moves M 0, .. M (n - 1)
 --   floorGraph f r       == the same with the moves of the neighbourhood whose rows are r
+--   pinchShape f v       == refusal 11 of one end: request 5 of document 02, "when an end is a pinch"
+--   endsShape w h l a b  == the refusals of both ends: 5 of either, then 11 of either
 --   jobOf w h l nb a b   == `Fit` with the rows of the neighbourhood where floor, neighbourhood and both ends have a
---                           good shape, else the first refusal of 1 to 5 that applies
+--                           good shape, else the first refusal that applies, of 1 to 5 and then 11
 use Prim.Native.Nat.{ℕ}
 use mathlib.Core.List.{List}
-use Rattle.floor.specs.Floor.{Floor, vertices}
+use Rattle.basics.specs.Bounded.{pick}
+use Rattle.floor.specs.Floor.{Floor, floorOf, vertices, column, row}
 use Rattle.floor.specs.Refusals.{floorShape, endShape, andThen}
-use Rattle.floor.specs.declared.Refusal.the-variants.{Neighbourhood as BadNeighbourhood}
+use Rattle.floor.specs.declared.Refusal.the-variants.{Neighbourhood as BadNeighbourhood, Pinched}
 use Rattle.floor.specs.declared.Shape.{Shape}
 use Rattle.floor.specs.declared.Shape.the-variants.{Good, Refused}
+use Rattle.sight.specs.Sight.{pinch}
 use Rattle.moves.specs.declared.Move.{Move}
 use Rattle.moves.specs.declared.Rows.{Rows}
 use Rattle.moves.specs.declared.Neighbourhood.{Neighbourhood}
@@ -42,6 +46,13 @@ abbrev pub withRows : Neighbourhood → Shape → Job
 withRows (Known r) s = orUnfit s (Fit r)
 withRows Unknown s = Unfit BadNeighbourhood
 
+unfoldable pub pinchShape : Floor → ℕ → Shape
+pinchShape f v = pick (pinch f (column (f .wide) v) (row (f .wide) v)) (Refused Pinched) Good
+
+unfoldable pub endsShape : ℕ → ℕ → List ℕ → ℕ → ℕ → Shape
+endsShape w h l a b =
+    andThen (andThen (endShape w h a) (endShape w h b))
+    (andThen (pinchShape (floorOf w h l) a) (pinchShape (floorOf w h l) b))
+
 unfoldable pub jobOf : ℕ → ℕ → List ℕ → ℕ → ℕ → ℕ → Job
-jobOf w h l nb a b =
-    orUnfit (floorShape w h l) (withRows (neighbourhoodOf nb) (andThen (endShape w h a) (endShape w h b)))
+jobOf w h l nb a b = orUnfit (floorShape w h l) (withRows (neighbourhoodOf nb) (endsShape w h l a b))

@@ -1,10 +1,13 @@
 -- What planner and checker know of a job whose shape is good. Nobody has to believe these: they stand in contracts of
 -- functions behind the operations' doors, and `job-fit` shows that such a job has them.
 --
---   GoodJob w h map rows a b == the floor, the rows of the neighbourhood and both ends are good
+--   GoodJob w h map rows a b == the floor, the rows of the neighbourhood and both ends are good; no end is a pinch
 use Prim.Native.Nat.{ℕ, _<_}
+use mathlib.Core.Path.{_≡_}
+use mathlib.Core.Bool.{false}
 use mathlib.Core.List.{List}
-use Rattle.floor.specs.Floor.{Sized, vertices}
+use Rattle.floor.specs.Floor.{Sized, floorOf, vertices, column, row}
+use Rattle.sight.specs.Sight.{pinch}
 use Rattle.moves.specs.declared.Rows.{Rows}
 use Rattle.moves.specs.Table.{Listed}
 
@@ -13,3 +16,5 @@ pub record GoodJob (w h : ℕ) (map : List ℕ) (rows : Rows) (a b : ℕ) : Type
   pub listed : Listed rows
   pub start-in : a < vertices w h
   pub goal-in : b < vertices w h
+  pub start-free : pinch (floorOf w h map) (column w a) (row w a) ≡ false
+  pub goal-free : pinch (floorOf w h map) (column w b) (row w b) ≡ false

@@ -1,19 +1,53 @@
 // A floor with a neighbourhood as a graph: definitions in specs/, the law that it is a lawful graph in proofs/, and the
 // shape of a job.
 ghost use mathlib.Core.Path.{_≡_};
-ghost use Rattle.grid.specs.Grid.{jobOf};
+ghost use Prim.Native.Nat.{_<_};
+ghost use Rattle.floor.specs.Floor.{Sized, floorOf, vertices};
+ghost use Rattle.grid.specs.Grid.{pinchShape, endsShape, jobOf};
 use floor::Refusal;
 use floor::Shape;
+use floor::Vertex;
 use moves::Neighbourhood;
 use moves::Rows;
 
-// What the tests of a job's shape find: the rows of its neighbourhood, or the first refusal of 1 to 5.
+// What the tests of a job's shape find: the rows of its neighbourhood, or the first refusal of 1 to 5, then 11.
 pub enum Job {
     Fit(Rows),
     Unfit(Refusal),
 }
 
-// Refusals 1 to 5 of a job: those of the floor, of the neighbourhood, then of the two ends.
+// Refusal 11: one end is a pinch.
+fn pinch_shape(w: usize, h: usize, map: &[u8], v: Vertex) -> Shape
+    requires { ⌜ Sized w h (now map) × (v .0 < vertices w h) ⌝ }
+    ensures { λ r. ⌜ r ≡ pinchShape (floorOf w h (now (map .entry))) (v .0) ⌝ }
+{
+    if sight::is_pinch(w, h, map, floor::column_of(w, v), floor::row_of(w, h, v)) {
+        return Shape::Refused(Refusal::Pinched);
+    }
+    Shape::Good
+}
+
+// The refusals of both ends: 5 of either, then 11 of either.
+fn ends_shape(w: usize, h: usize, map: &[u8], a: usize, b: usize) -> Shape
+    requires { ⌜ Sized w h (now map) ⌝ }
+    ensures { λ r. ⌜ r ≡ endsShape w h (now (map .entry)) a b ⌝ }
+{
+    let first = floor::end_shape(w, h, a);
+    let Shape::Good = first else {
+        return first;
+    };
+    let last = floor::end_shape(w, h, b);
+    let Shape::Good = last else {
+        return last;
+    };
+    let start = pinch_shape(w, h, map, Vertex(a));
+    let Shape::Good = start else {
+        return start;
+    };
+    pinch_shape(w, h, map, Vertex(b))
+}
+
+// Refusals 1 to 5, then 11, of a job: those of the floor, of the neighbourhood, then of the two ends.
 pub fn job_of(w: usize, h: usize, map: &[u8], nb: usize, a: usize, b: usize) -> Job
     ensures { λ r. ⌜ r ≡ jobOf w h (now (map .entry)) nb a b ⌝ }
 {
@@ -24,12 +58,8 @@ pub fn job_of(w: usize, h: usize, map: &[u8], nb: usize, a: usize, b: usize) -> 
     let Neighbourhood::Known(rows) = moves::rows_of(nb) else {
         return Job::Unfit(Refusal::Neighbourhood);
     };
-    let first = floor::end_shape(w, h, a);
-    if let Shape::Refused(r) = first {
-        return Job::Unfit(r);
-    }
-    let last = floor::end_shape(w, h, b);
-    if let Shape::Refused(r) = last {
+    let ends = ends_shape(w, h, map, a, b);
+    if let Shape::Refused(r) = ends {
         return Job::Unfit(r);
     }
     Job::Fit(rows)

@@ -27,7 +27,7 @@ use Rattle.sight.specs.Sight.{segment, sees}
 use Rattle.moves.specs.declared.Move.{Move}
 use Rattle.moves.specs.declared.Rows.{Rows}
 use Rattle.moves.specs.Moves.{moveAt}
-use Rattle.moves.specs.Steps.{thenAt, farEndAt, openEndAt, openEnd}
+use Rattle.moves.specs.Steps.{thenAt, farEndAt, endIf, openEndAt, openEnd}
 use Rattle.paths.specs.Graph.{Graph, Lawful}
 use Rattle.paths.specs.Distance.{unreachable, distance}
 use Rattle.paths.specs.Route.{centralRoute}
@@ -47,7 +47,7 @@ use Rattle.jobs.specs.Text.{routeText}
 
 open-sees : (f : Floor) (m : Move) (x y w : ℕ) → openEndAt f m x y ≡ some w
     → sees f (segment (f .wide) (number (f .wide) x y) w) ≡ true
-unfolding openEndAt thenAt
+unfolding endIf thenAt
 open-sees f m x y w e = far (farEndAt (f .wide) (f .high) m x y) e
   where
     sight : ℕ → Bool

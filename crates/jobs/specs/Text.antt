@@ -4,8 +4,9 @@
 --                              points kept, and the kept vertices
 --   answerText n f points r == the lines of job n on floor f for the planner's answer r: the refused line, or the two
 --                              of the route
---   answerOf f a b shape    == the planner's answer for a job from a to b of the given shape: refused by 1 to 5, or fit
---   pointsOf f a b shape    == the points of its central route; none where it is refused by 1 to 5
+--   answerOf f a b shape    == the planner's answer for a job from a to b of the given shape: refused by 1 to 5 or 11,
+--                              or fit
+--   pointsOf f a b shape    == the points of its central route; none where it is refused by 1 to 5 or 11
 --   jobText w h map j       == the lines of job j on a floor of width w and height h
 --   jobsText w h map js     == those of the jobs js in turn
 --   restText w h map t      == those of the jobs of t, the rest of a stream, and the bad line where it has a bad record

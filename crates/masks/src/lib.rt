@@ -1,33 +1,48 @@
-// The open moves of a vertex as a mask, a bit for each row of the table, and the masks of all vertices of a floor. Every
-// bit of a mask comes from the test of a move.
+// The moves of a vertex as a mask, a bit for each row of the table: those that leave it, and those of all vertices of a floor
+// that are open. Every bit of a mask comes from the test of a move, and the pinches from that of a vertex, both in sight.
 ghost use mathlib.Core.Path.{_≡_};
-ghost use Prim.Native.Nat.{_+_, _<_, _≤_};
+ghost use Prim.Native.Nat.{suc, _+_, _<_, _≤_};
 ghost use lib.ListN.{length};
 ghost use Rattle.basics.specs.Bounded.{pick};
 ghost use Rattle.basics.specs.Bits.{bitsOf};
-ghost use Rattle.floor.specs.Floor.{Sized, floorOf, vertices, number};
+ghost use Rattle.floor.specs.Floor.{Sized, floorOf, vertices, number, column, row};
+ghost use Rattle.sight.specs.Sight.{unblocked};
 ghost use Rattle.moves.specs.Moves.{moves, moveOf};
-ghost use Rattle.moves.specs.Steps.{openAt};
+ghost use Rattle.moves.specs.Steps.{endIf, isSome};
 ghost use Rattle.moves.specs.Table.{Short, OnFloor};
-ghost use Rattle.masks.specs.Masks.{rowOpen, OpenMask, OpenAt, MasksTo, OpenMasks};
+ghost use Rattle.masks.specs.Masks.{rowIf, OpenMasks, leavingMask, LeavingRow, LeavingTo};
+ghost use Rattle.masks.specs.Masks.{Cleared, WithoutBit, turnedRow, ClearsRow, ClearsTo};
 use floor::Vertex;
 use moves::MOVES;
+use moves::Step;
 
-// The bit, where the move of these offsets is open from (x, y).
-fn open_bit(w: usize, h: usize, map: &[u8], x: usize, y: usize, dx: i8, dy: i8, bit: u32) -> u32
+// The mask of a pinch: no row, and a bit above those of the rows.
+const PINCH: u32 = 65536;
+
+// The bit, where nothing is in the way of the move of these offsets from (x, y).
+fn unblocked_bit(
+    w: usize,
+    h: usize,
+    map: &[u8],
+    x: usize,
+    y: usize,
+    dx: i8,
+    dy: i8,
+    bit: u32,
+) -> u32
     requires { ⌜ Sized w h (now map) × OnFloor w h x y × Short (moveOf dx dy 0) ⌝ }
-    ensures { λ r. ⌜ r ≡ pick (openAt (floorOf w h (now (map .entry))) (moveOf dx dy 0) x y) bit 0 ⌝ }
+    ensures { λ r. ⌜ r ≡ pick (isSome (endIf unblocked (floorOf w h (now (map .entry))) (moveOf dx dy 0) x y)) bit 0 ⌝ }
 {
-    if moves::is_open(w, h, map, x, y, dx, dy) {
+    if moves::is_unblocked(w, h, map, x, y, dx, dy) {
         return bit;
     }
     0
 }
 
-// The open rows of the vertex (x, y). They are named one by one, so that each test is compiled for its offsets.
-fn rows_open(w: usize, h: usize, map: &[u8], x: usize, y: usize) -> u32
+// The rows of the vertex (x, y) that nothing is in the way of. They are named one by one, so that each test is compiled for its offsets.
+fn rows_unblocked(w: usize, h: usize, map: &[u8], x: usize, y: usize) -> u32
     requires { ⌜ Sized w h (now map) × OnFloor w h x y ⌝ }
-    ensures { λ r. ⌜ r ≡ bitsOf (length moves) (rowOpen (floorOf w h (now (map .entry))) x y) ⌝ }
+    ensures { λ r. ⌜ r ≡ bitsOf (length moves) (rowIf unblocked (floorOf w h (now (map .entry))) x y) ⌝ }
 {
     let r0 = MOVES[0];
     let r1 = MOVES[1];
@@ -37,21 +52,21 @@ fn rows_open(w: usize, h: usize, map: &[u8], x: usize, y: usize) -> u32
     let r5 = MOVES[5];
     let r6 = MOVES[6];
     let r7 = MOVES[7];
-    open_bit(w, h, map, x, y, r0.dx, r0.dy, 1)
-        | open_bit(w, h, map, x, y, r1.dx, r1.dy, 2)
-        | open_bit(w, h, map, x, y, r2.dx, r2.dy, 4)
-        | open_bit(w, h, map, x, y, r3.dx, r3.dy, 8)
-        | open_bit(w, h, map, x, y, r4.dx, r4.dy, 16)
-        | open_bit(w, h, map, x, y, r5.dx, r5.dy, 32)
-        | open_bit(w, h, map, x, y, r6.dx, r6.dy, 64)
-        | open_bit(w, h, map, x, y, r7.dx, r7.dy, 128)
+    unblocked_bit(w, h, map, x, y, r0.dx, r0.dy, 1)
+        | unblocked_bit(w, h, map, x, y, r1.dx, r1.dy, 2)
+        | unblocked_bit(w, h, map, x, y, r2.dx, r2.dy, 4)
+        | unblocked_bit(w, h, map, x, y, r3.dx, r3.dy, 8)
+        | unblocked_bit(w, h, map, x, y, r4.dx, r4.dy, 16)
+        | unblocked_bit(w, h, map, x, y, r5.dx, r5.dy, 32)
+        | unblocked_bit(w, h, map, x, y, r6.dx, r6.dy, 64)
+        | unblocked_bit(w, h, map, x, y, r7.dx, r7.dy, 128)
 }
 
 // The same in a function of its own: called at one place, where (x, y) is known to be off the floor's edge, it is compiled
 // without the tests of the edge.
 fn rows_inside(w: usize, h: usize, map: &[u8], x: usize, y: usize) -> u32
     requires { ⌜ Sized w h (now map) × OnFloor w h x y ⌝ }
-    ensures { λ r. ⌜ r ≡ bitsOf (length moves) (rowOpen (floorOf w h (now (map .entry))) x y) ⌝ }
+    ensures { λ r. ⌜ r ≡ bitsOf (length moves) (rowIf unblocked (floorOf w h (now (map .entry))) x y) ⌝ }
 {
     let r0 = MOVES[0];
     let r1 = MOVES[1];
@@ -61,78 +76,173 @@ fn rows_inside(w: usize, h: usize, map: &[u8], x: usize, y: usize) -> u32
     let r5 = MOVES[5];
     let r6 = MOVES[6];
     let r7 = MOVES[7];
-    open_bit(w, h, map, x, y, r0.dx, r0.dy, 1)
-        | open_bit(w, h, map, x, y, r1.dx, r1.dy, 2)
-        | open_bit(w, h, map, x, y, r2.dx, r2.dy, 4)
-        | open_bit(w, h, map, x, y, r3.dx, r3.dy, 8)
-        | open_bit(w, h, map, x, y, r4.dx, r4.dy, 16)
-        | open_bit(w, h, map, x, y, r5.dx, r5.dy, 32)
-        | open_bit(w, h, map, x, y, r6.dx, r6.dy, 64)
-        | open_bit(w, h, map, x, y, r7.dx, r7.dy, 128)
+    unblocked_bit(w, h, map, x, y, r0.dx, r0.dy, 1)
+        | unblocked_bit(w, h, map, x, y, r1.dx, r1.dy, 2)
+        | unblocked_bit(w, h, map, x, y, r2.dx, r2.dy, 4)
+        | unblocked_bit(w, h, map, x, y, r3.dx, r3.dy, 8)
+        | unblocked_bit(w, h, map, x, y, r4.dx, r4.dy, 16)
+        | unblocked_bit(w, h, map, x, y, r5.dx, r5.dy, 32)
+        | unblocked_bit(w, h, map, x, y, r6.dx, r6.dy, 64)
+        | unblocked_bit(w, h, map, x, y, r7.dx, r7.dy, 128)
 }
 
-// Whether the vertex (x, y) of the floor is off its edge.
-fn is_inside(w: usize, h: usize, x: usize, y: usize) -> bool {
-    if x == 0 {
-        return false;
+// The mask of a vertex whose rows are given.
+fn marked(mask: u32, pinched: bool) -> u32
+    ensures { λ r. ⌜ r ≡ pick pinched 65536 mask ⌝ }
+{
+    if pinched {
+        return PINCH;
     }
-    if y == 0 {
-        return false;
-    }
-    if w <= x {
-        return false;
-    }
-    y < h
+    mask
 }
 
-// The mask of the open moves of the vertex (x, y).
-pub fn open_from(w: usize, h: usize, map: &[u8], x: usize, y: usize) -> u32
+// The mask of the moves that leave the vertex (x, y).
+fn leaving_at(w: usize, h: usize, map: &[u8], x: usize, y: usize) -> u32
     requires { ⌜ Sized w h (now map) × OnFloor w h x y ⌝ }
-    ensures { λ r. ⌜ OpenMask (floorOf w h (now (map .entry))) x y r ⌝ }
+    ensures { λ r. ⌜ r ≡ leavingMask (floorOf w h (now (map .entry))) x y ⌝ }
 {
-    if is_inside(w, h, x, y) {
-        return rows_inside(w, h, map, x, y);
-    }
-    rows_open(w, h, map, x, y)
+    marked(
+        rows_unblocked(w, h, map, x, y),
+        sight::is_pinch(w, h, map, x, y),
+    )
 }
 
-// The mask of the open moves of vertex v.
-pub fn open_moves(w: usize, h: usize, map: &[u8], v: Vertex) -> u32
+// The same where (x, y) is off the floor's edge, in a function of its own as `rows_inside` is.
+fn leaving_inside(w: usize, h: usize, map: &[u8], x: usize, y: usize) -> u32
+    requires { ⌜ Sized w h (now map) × OnFloor w h x y ⌝ }
+    ensures { λ r. ⌜ r ≡ leavingMask (floorOf w h (now (map .entry))) x y ⌝ }
+{
+    marked(
+        rows_inside(w, h, map, x, y),
+        sight::is_pinch(w, h, map, x, y),
+    )
+}
+
+// The mask of the moves that leave vertex v.
+pub fn leaving_moves(w: usize, h: usize, map: &[u8], v: Vertex) -> u32
     requires { ⌜ Sized w h (now map) × (v .0 < vertices w h) ⌝ }
-    ensures { λ r. ⌜ OpenAt (floorOf w h (now (map .entry))) (v .0) r ⌝ }
+    ensures { λ r. ⌜ r ≡ leavingMask (floorOf w h (now (map .entry))) (column w (v .0)) (row w (v .0)) ⌝ }
 {
-    let column = floor::column_of(w, v);
-    let row = floor::row_of(w, h, v);
-    rows_open(w, h, map, column, row)
+    leaving_at(w, h, map, floor::column_of(w, v), floor::row_of(w, h, v))
 }
 
-// Stores the mask of the vertex (x, y), where those of the vertices before it are stored.
-fn fill_at(w: usize, h: usize, map: &[u8], x: usize, y: usize, masks: &mut [u32])
-    requires { ⌜ Sized w h (now map) × OnFloor w h x y × MasksTo (floorOf w h (now map)) (number w x y) (now masks) ⌝ }
-    ensures { λ _. ⌜ MasksTo (floorOf w h (now (map .entry))) (number w (x + 1) y) (now (masks .exit)) ⌝ }
+// The masks of the vertices of row y.
+fn edge_row(w: usize, h: usize, map: &[u8], y: usize) -> [u32; 128]
+    requires { ⌜ Sized w h (now map) × (y ≤ h) ⌝ }
+    ensures { λ r. ⌜ LeavingRow (floorOf w h (now (map .entry))) y (suc w) r ⌝ }
 {
-    masks[y * (w + 1) + x] = open_from(w, h, map, x, y);
-}
-
-// Stores the masks of the vertices of row y, where those of the rows before it are stored. The vertices at both ends are
-// stored apart, so that between them nothing is left of the tests of the edge.
-fn fill_row(w: usize, h: usize, map: &[u8], y: usize, masks: &mut [u32])
-    requires { ⌜ Sized w h (now map) × (y ≤ h) × MasksTo (floorOf w h (now map)) (number w 0 y) (now masks) ⌝ }
-    ensures { λ _. ⌜ MasksTo (floorOf w h (now (map .entry))) (number w 0 (y + 1)) (now (masks .exit)) ⌝ }
-{
-    fill_at(w, h, map, 0, y, masks);
-    for x in 1..w {
-        fill_at(w, h, map, x, y, masks);
+    let mut masks = [0; 128];
+    for x in 0..w + 1 {
+        masks[x] = leaving_at(w, h, map, x, y);
     }
-    fill_at(w, h, map, w, y, masks);
+    masks
 }
 
-// Fills `masks` with the masks of all vertices.
+// The masks of the vertices of row y. Where it is off the floor's edge, those of the two ends are made apart, so that
+// between them nothing is left of the tests of the edge.
+pub fn leaving_row(w: usize, h: usize, map: &[u8], y: usize) -> [u32; 128]
+    requires { ⌜ Sized w h (now map) × (y ≤ h) ⌝ }
+    ensures { λ r. ⌜ LeavingRow (floorOf w h (now (map .entry))) y (suc w) r ⌝ }
+{
+    if y == 0 {
+        return edge_row(w, h, map, y);
+    }
+    if h <= y {
+        return edge_row(w, h, map, y);
+    }
+    let mut masks = [0; 128];
+    masks[0] = leaving_at(w, h, map, 0, y);
+    for x in 1..w {
+        masks[x] = leaving_inside(w, h, map, x, y);
+    }
+    masks[w] = leaving_at(w, h, map, w, y);
+    masks
+}
+
+// Stores the masks of the vertices of row y, where those of the rows before it are stored.
+fn fill_row(w: usize, h: usize, map: &[u8], y: usize, masks: &mut [u32])
+    requires { ⌜ Sized w h (now map) × (y ≤ h) × LeavingTo (floorOf w h (now map)) (number w 0 y) (now masks) ⌝ }
+    ensures { λ _. ⌜ LeavingTo (floorOf w h (now (map .entry))) (number w 0 (y + 1)) (now (masks .exit)) ⌝ }
+{
+    let leaving = leaving_row(w, h, map, y);
+    let first = y * (w + 1);
+    for x in 0..w + 1 {
+        masks[first + x] = leaving[x];
+    }
+}
+
+// The row opposite to row k.
+fn turned_row(k: usize) -> usize
+    requires { ⌜ k < length moves ⌝ }
+    ensures { λ r. ⌜ (r ≡ turnedRow k) × (r < length moves) ⌝ }
+{
+    (k + 4) % 8
+}
+
+// The mask without bit k.
+fn without(mask: u32, k: usize) -> u32
+    requires { ⌜ k < length moves ⌝ }
+    ensures { λ r. ⌜ WithoutBit k mask r ⌝ }
+{
+    let bit: u32 = 1 << k;
+    mask ^ (mask & bit)
+}
+
+// Clears the bit of the move that leads back to (x, y), from where row k leads to.
+fn clear_back(w: usize, h: usize, x: usize, y: usize, k: usize, masks: &mut [u32])
+    requires { ⌜ OnFloor w h x y × (k < length moves) × (length (now masks) ≡ vertices w h) ⌝ }
+    ensures { λ _. ⌜ ClearsRow w h x y k (now (masks .entry)) (now (masks .exit)) ⌝ }
+{
+    let m = moves::move_at(moves::all_rows(), k);
+    let Step::To(u) = moves::step_from(w, h, x, y, m.dx, m.dy) else {
+        return;
+    };
+    let at = u.0;
+    masks[at] = without(masks[at], turned_row(k));
+}
+
+// Clears the bit of every move that leads to (x, y).
+fn clear_to(w: usize, h: usize, x: usize, y: usize, masks: &mut [u32])
+    requires { ⌜ OnFloor w h x y × (length (now masks) ≡ vertices w h) ⌝ }
+    ensures { λ _. ⌜ ClearsTo w h x y (length moves) (now (masks .entry)) (now (masks .exit)) ⌝ }
+{
+    for k in 0..8 {
+        clear_back(w, h, x, y, k, masks);
+    }
+}
+
+// Clears the bits of the moves that lead to (x, y) where it is a pinch. The map is for the contract only.
+fn clear_at(w: usize, h: usize, map: &[u8], x: usize, y: usize, masks: &mut [u32])
+    requires { ⌜ Sized w h (now map) × OnFloor w h x y × Cleared (floorOf w h (now map)) (number w x y) (now masks) ⌝ }
+    ensures { λ _. ⌜ Cleared (floorOf w h (now (map .entry))) (number w (x + 1) y) (now (masks .exit)) ⌝ }
+{
+    let mask = masks[y * (w + 1) + x];
+    if (mask >> 16) % 2 != 1 {
+        return;
+    }
+    clear_to(w, h, x, y, masks);
+}
+
+// Clears the bits of the moves that lead to pinches of row y, where those to pinches of the rows before it are cleared.
+fn clear_row(w: usize, h: usize, map: &[u8], y: usize, masks: &mut [u32])
+    requires { ⌜ Sized w h (now map) × (y ≤ h) × Cleared (floorOf w h (now map)) (number w 0 y) (now masks) ⌝ }
+    ensures { λ _. ⌜ Cleared (floorOf w h (now (map .entry))) (number w 0 (y + 1)) (now (masks .exit)) ⌝ }
+{
+    for x in 0..w + 1 {
+        clear_at(w, h, map, x, y, masks);
+    }
+}
+
+// Fills `masks` with the masks of the open moves of all vertices: the moves that leave each, then without those that lead
+// to a pinch.
 pub fn fill_masks(w: usize, h: usize, map: &[u8], masks: &mut [u32])
     requires { ⌜ Sized w h (now map) × (length (now masks) ≡ vertices w h) ⌝ }
     ensures { λ _. ⌜ OpenMasks (floorOf w h (now (map .entry))) (now (masks .exit)) ⌝ }
 {
     for y in 0..h + 1 {
         fill_row(w, h, map, y, masks);
+    }
+    for y in 0..h + 1 {
+        clear_row(w, h, map, y, masks);
     }
 }

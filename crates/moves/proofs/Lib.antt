@@ -2,3 +2,4 @@ pub mod Table
 pub mod Signs
 pub mod Steps
 pub mod Opposites
+pub mod Leaving

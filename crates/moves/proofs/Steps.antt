@@ -1,12 +1,12 @@
--- The far end of a move: one coordinate, the spot, the vertex, and what an open move is.
+-- The far end of a move: one coordinate, the spot, the vertex, and a move that passes a test.
 --
 --   shifted-at, shifted-is, -low, -high == one coordinate moved by an offset
 --   shifted-span                        == how far that is
 --   spot-reaches, reaches-on            == the spot to which a move leads
---   Goes f m x y w                      == move m goes from (x, y) to vertex w and is open
---   open-goes, goes-open                == `openEndAt` says so
---   open-if-seen, open-past-spot        == an open move by what its ends see; a move that leaves the floor is not open
---   open-off, open-seen                 == the same, as the code answers it
+--   Goes S f m x y w                    == move m goes from (x, y) to vertex w, and S holds of the segment
+--   end-goes, goes-end                  == `endIf` says so
+--   end-if, end-past                    == a move by what holds of its segment; a move that leaves the floor has no end
+--   end-off, end-there                  == the same, as the code answers it
 use Prim.Native.Nat.{ℕ, _+_, _-_, _≤_, _<_}
 use mathlib.Core.Path.{_≡_, refl, sym, ap, _∙_}
 use mathlib.Core.Bool.{Bool, true, false, _&&_, and-false}
@@ -18,14 +18,14 @@ use lib.IntN.{ℤ, pos, negsuc, natAbs}
 use Rattle.floor.specs.declared.Vertex.{Vertex}
 use Rattle.floor.specs.Floor.{Floor, number}
 use Rattle.floor.proofs.Numbers.{column-number, row-number}
-use Rattle.sight.specs.Sight.{segment, segmentOf, sees}
+use Rattle.sight.specs.Sight.{Segment, segment, segmentOf}
 use Rattle.sight.specs.Obstacle.{span}
 use Rattle.sight.proofs.Travel.{span-up, span-down}
 use Rattle.moves.specs.declared.Move.{Move}
 use Rattle.moves.specs.declared.Place.the-variants.{Is, Past}
 use Rattle.moves.specs.declared.Spot.the-variants.{At, Outside}
 use Rattle.moves.specs.declared.Step.the-variants.{To, Off}
-use Rattle.moves.specs.Steps.{up, down, shifted, thenAt, farEndAt, openEndAt, isSome, openAt, stepOf}
+use Rattle.moves.specs.Steps.{up, down, shifted, thenAt, farEndAt, endIf, isSome, stepOf}
 use Rattle.moves.specs.Table.{OnFloor, Reaches, placeOf, spotOf}
 
 -- ---- one coordinate
@@ -173,16 +173,16 @@ pub step-to : {w h x y i j : ℕ} {m : Move} → Reaches w h m x y i j
 unfolding stepOf
 step-to r = rw (reaches-far r)
 
--- ---- open moves
+-- ---- where a test S holds of the segment: `sees` for an open move
 
-abbrev pub whenSeen : Bool → ℕ → Option ℕ
-whenSeen b w = elim b [ true ↦ some w | false ↦ none ]
+abbrev pub whenHeld : Bool → ℕ → Option ℕ
+whenHeld b w = elim b [ true ↦ some w | false ↦ none ]
 
-module _ (f : Floor) (m : Move) (x y : ℕ) where
-  pub open-past-spot : spotOf (shifted (f .wide) x (m .dx)) (shifted (f .high) y (m .dy)) ≡ Outside
-      → openEndAt f m x y ≡ none
-  unfolding openEndAt thenAt
-  open-past-spot e = rw (far-past (f .wide) (f .high) x y m e)
+module _ (S : Floor → Segment → Bool) (f : Floor) (m : Move) (x y : ℕ) where
+  pub end-past : spotOf (shifted (f .wide) x (m .dx)) (shifted (f .high) y (m .dy)) ≡ Outside
+      → endIf S f m x y ≡ none
+  unfolding endIf thenAt
+  end-past e = rw (far-past (f .wide) (f .high) x y m e)
 
   module _ (i j : ℕ) (on : x ≤ f .wide) (r : Reaches (f .wide) (f .high) m x y i j) where
     -- The segment by its two vertex numbers is the one by their columns and rows.
@@ -197,20 +197,20 @@ module _ (f : Floor) (m : Move) (x y : ℕ) where
           row-number (f .wide) i j h,
         )
 
-    pub open-if-seen : openEndAt f m x y ≡ whenSeen (sees f (segmentOf x y i j)) (number (f .wide) i j)
-    unfolding openEndAt thenAt
-    open-if-seen =
-        ap (λ o. thenAt o (λ w. whenSeen (sees f (segment (f .wide) (number (f .wide) x y) w)) w)) (reaches-far r)
-        ∙ ap (λ s. whenSeen (sees f s) (number (f .wide) i j)) segment-is
+    pub end-if : endIf S f m x y ≡ whenHeld (S f (segmentOf x y i j)) (number (f .wide) i j)
+    unfolding endIf thenAt
+    end-if =
+        ap (λ o. thenAt o (λ w. whenHeld (S f (segment (f .wide) (number (f .wide) x y) w)) w)) (reaches-far r)
+        ∙ ap (λ s. whenHeld (S f s) (number (f .wide) i j)) segment-is
 
 -- What the code answers of a move: `end` is its far end.
-module _ (f : Floor) (m : Move) (x y : ℕ) where
+module _ (S : Floor → Segment → Bool) (f : Floor) (m : Move) (x y : ℕ) where
   abbrev end : Option ℕ
   end = farEndAt (f .wide) (f .high) m x y
 
-  pub open-off : stepOf end ≡ Off → false ≡ openAt f m x y
-  unfolding openEndAt thenAt isSome
-  open-off e = rw (step-none end e)
+  pub end-off : stepOf end ≡ Off → false ≡ isSome (endIf S f m x y)
+  unfolding endIf thenAt isSome
+  end-off e = rw (step-none end e)
 
   -- Where the move leads to a vertex, that is the spot (x + dx, y + dy).
   pub far-reaches : (v : Vertex) → stepOf end ≡ To v
@@ -231,51 +231,51 @@ module _ (f : Floor) (m : Move) (x y : ℕ) where
           record { columns = p ∙ ap some h; rows = q ∙ ap some k }
 
   module _ (i j : ℕ) (on : x ≤ f .wide) (r : Reaches (f .wide) (f .high) m x y i j) where
-    pub open-seen : sees f (segmentOf x y i j) ≡ openAt f m x y
+    pub end-there : S f (segmentOf x y i j) ≡ isSome (endIf S f m x y)
     unfolding isSome
-    open-seen =
-        seen-some (sees f (segmentOf x y i j)) (number (f .wide) i j) ∙ ap isSome (sym (open-if-seen f m x y i j on r))
+    end-there =
+        held-some (S f (segmentOf x y i j)) (number (f .wide) i j) ∙ ap isSome (sym (end-if S f m x y i j on r))
       where
-        seen-some : (b : Bool) (w : ℕ) → b ≡ isSome (whenSeen b w)
-        seen-some true w = refl
-        seen-some false w = refl
+        held-some : (b : Bool) (w : ℕ) → b ≡ isSome (whenHeld b w)
+        held-some true w = refl
+        held-some false w = refl
 
-pub record Goes (f : Floor) (m : Move) (x y w : ℕ) : Type 0 where
+pub record Goes (S : Floor → Segment → Bool) (f : Floor) (m : Move) (x y w : ℕ) : Type 0 where
   pub i : ℕ
   pub j : ℕ
   pub columns : Shifted (f .wide) x i (m .dx)
   pub rows : Shifted (f .high) y j (m .dy)
   pub vertex : w ≡ number (f .wide) i j
-  pub seen : sees f (segmentOf x y i j) ≡ true
+  pub held : S f (segmentOf x y i j) ≡ true
 
-module _ (f : Floor) (m : Move) (x y w : ℕ) (on : x ≤ f .wide) where
-  pub goes-open : Goes f m x y w → openEndAt f m x y ≡ some w
-  goes-open g =
+module _ (S : Floor → Segment → Bool) (f : Floor) (m : Move) (x y w : ℕ) (on : x ≤ f .wide) where
+  pub goes-end : Goes S f m x y w → endIf S f m x y ≡ some w
+  goes-end g =
       let r : Reaches (f .wide) (f .high) m x y (g .i) (g .j) = record {
         columns = shifted-at (f .wide) x (g .i) (m .dx) (g .columns .moved) (g .columns .inside);
         rows = shifted-at (f .high) y (g .j) (m .dy) (g .rows .moved) (g .rows .inside);
       } in
-      open-if-seen f m x y (g .i) (g .j) on r ∙ ap (λ b. whenSeen b (number (f .wide) (g .i) (g .j))) (g .seen)
+      end-if S f m x y (g .i) (g .j) on r ∙ ap (λ b. whenHeld b (number (f .wide) (g .i) (g .j))) (g .held)
       ∙ ap some (sym (g .vertex))
 
-  pub open-goes : openEndAt f m x y ≡ some w → Goes f m x y w
-  open-goes e = spot (shifted (f .wide) x (m .dx)) (shifted (f .high) y (m .dy)) refl refl
+  pub end-goes : endIf S f m x y ≡ some w → Goes S f m x y w
+  end-goes e = spot (shifted (f .wide) x (m .dx)) (shifted (f .high) y (m .dy)) refl refl
     where
-      seen : (i j : ℕ) → shifted (f .wide) x (m .dx) ≡ some i → shifted (f .high) y (m .dy) ≡ some j
-          → (b : Bool) → sees f (segmentOf x y i j) ≡ b → whenSeen b (number (f .wide) i j) ≡ some w → Goes f m x y w
-      seen i j p q true s h = record {
+      held : (i j : ℕ) → shifted (f .wide) x (m .dx) ≡ some i → shifted (f .high) y (m .dy) ≡ some j
+          → (b : Bool) → S f (segmentOf x y i j) ≡ b → whenHeld b (number (f .wide) i j) ≡ some w → Goes S f m x y w
+      held i j p q true s h = record {
         i = i;
         j = j;
         columns = shifted-is (f .wide) x i (m .dx) p;
         rows = shifted-is (f .high) y j (m .dy) q;
         vertex = sym (some-is h);
-        seen = s;
+        held = s;
       }
-      seen i j p q false s h = never h
+      held i j p q false s h = never h
 
-      spot : (a b : Option ℕ) → shifted (f .wide) x (m .dx) ≡ a → shifted (f .high) y (m .dy) ≡ b → Goes f m x y w
-      spot none b p q = never (sym (open-past-spot f m x y (sym (spot-past-column _ _ p))) ∙ e)
-      spot (some i) none p q = never (sym (open-past-spot f m x y (sym (spot-past-row _ _ q))) ∙ e)
+      spot : (a b : Option ℕ) → shifted (f .wide) x (m .dx) ≡ a → shifted (f .high) y (m .dy) ≡ b → Goes S f m x y w
+      spot none b p q = never (sym (end-past S f m x y (sym (spot-past-column _ _ p))) ∙ e)
+      spot (some i) none p q = never (sym (end-past S f m x y (sym (spot-past-row _ _ q))) ∙ e)
       spot (some i) (some j) p q =
-          seen i j p q (sees f (segmentOf x y i j)) refl
-          (sym (open-if-seen f m x y i j on (record { columns = p; rows = q })) ∙ e)
+          held i j p q (S f (segmentOf x y i j)) refl
+          (sym (end-if S f m x y i j on (record { columns = p; rows = q })) ∙ e)

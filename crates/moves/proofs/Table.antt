@@ -29,7 +29,7 @@ use Rattle.moves.specs.declared.Neighbourhood.the-variants.{Known, Unkno
 use Rattle.moves.specs.Moves.{moves, rowMove, rowsOf, rowAt, moveAt, neighbourhoodOf}
 use Rattle.moves.specs.Steps.{up, down}
 use Rattle.moves.specs.AnyTable.{Turned, LawfulTable}
-use Rattle.moves.specs.Table.{Listed, Short, oppositeOf, turned, sameOffset, lawfulTests, lawfulRow, lawfulRows}
+use Rattle.moves.specs.Table.{Listed, Short, oppositeOf, turned, sameOffset, narrow, lawfulTests, lawfulRow, lawfulRows}
 
 -- ---- which moves a neighbourhood has
 
@@ -117,6 +117,7 @@ pub record LawfulMove (r : Rows) (m : ℕ) : Type 0 where
   pub opposite-cost : moveAt r (oppositeOf r m) .cost ≡ moveAt r m .cost
   pub opposite-dx : Turned (moveAt r (oppositeOf r m) .dx) (moveAt r m .dx)
   pub opposite-dy : Turned (moveAt r (oppositeOf r m) .dy) (moveAt r m .dy)
+  pub is-narrow : narrow (moveAt r m) ≡ true
   pub fresh : (n : ℕ) → n < m → moveAt r n .dx ≡ moveAt r m .dx → moveAt r n .dy ≡ moveAt r m .dy → ⊥
 
 -- Move n of the rows leads elsewhere than move m.
@@ -137,6 +138,7 @@ lawful-move r m e l =
       opposite-cost = eqb-true _ _ (test 5 (omega arith));
       opposite-dx = turned-true _ _ (test 6 (omega arith));
       opposite-dy = turned-true _ _ (test 7 (omega arith));
+      is-narrow = test 9 (omega arith);
       fresh = λ n k p q.
           not-both _ (ap₂ _&&_ (same-offset-refl _ _ p) (same-offset-refl _ _ q))
           (not-true _ (every-at m (elsewhere r m) (test 8 (omega arith)) n k));

@@ -2,6 +2,7 @@
 --
 --   shifted n a d       == a + d, where that is from 0 to n
 --   farEndAt w h m x y  == the number of the vertex to which move m leads from (x, y); none where it leaves the floor
+--   endIf S f m x y     == the same where S holds of the segment between the two ends
 --   openEndAt f m x y   == the same where the two ends see each other: where the move is open
 --   openEnd f m v       == the same from the vertex with number v
 --   openAt f m x y      == move m is open from (x, y)
@@ -12,7 +13,7 @@ use mathlib.Core.Option.{Option, none, some}
 use lib.Dec.{leb}
 use lib.IntN.{ℤ, pos, negsuc}
 use Rattle.floor.specs.Floor.{Floor, number, column, row}
-use Rattle.sight.specs.Sight.{segment, sees}
+use Rattle.sight.specs.Sight.{Segment, segment, sees}
 use Rattle.moves.specs.declared.Move.{Move}
 use Rattle.moves.specs.declared.Step.{Step}
 use Rattle.moves.specs.declared.Step.the-variants.{To, Off}
@@ -38,10 +39,13 @@ thenAt (some w) F = F w
 unfoldable pub farEndAt : ℕ → ℕ → Move → ℕ → ℕ → Option ℕ
 farEndAt w h m x y = thenAt (shifted w x (m .dx)) (λ i. thenAt (shifted h y (m .dy)) (λ j. some (number w i j)))
 
-unfoldable pub openEndAt : Floor → Move → ℕ → ℕ → Option ℕ
-openEndAt f m x y =
+unfoldable pub endIf : (Floor → Segment → Bool) → Floor → Move → ℕ → ℕ → Option ℕ
+endIf S f m x y =
     thenAt (farEndAt (f .wide) (f .high) m x y)
-    (λ w. elim (sees f (segment (f .wide) (number (f .wide) x y) w)) [ true ↦ some w | false ↦ none ])
+    (λ w. elim (S f (segment (f .wide) (number (f .wide) x y) w)) [ true ↦ some w | false ↦ none ])
+
+abbrev pub openEndAt : Floor → Move → ℕ → ℕ → Option ℕ
+openEndAt = endIf sees
 
 abbrev pub openEnd : Floor → Move → ℕ → Option ℕ
 openEnd f m v = openEndAt f m (column (f .wide) v) (row (f .wide) v)
@@ -59,5 +63,5 @@ stepOf (some v) = To (record { 0 = v })
 
 -- Named on an `unfolding` line, this opens all of the above, for a theorem that is computed.
 unfoldable pub steps-opened : ℕ
-unfolding up down shifted thenAt farEndAt openEndAt isSome stepOf
+unfolding up down shifted thenAt farEndAt endIf isSome stepOf
 steps-opened = 0

@@ -3,7 +3,8 @@
 --
 --   Listed r       == r are the rows of a neighbourhood
 --   lawfulRows r   == the rows are in the table; each costs 1 to 4,095, goes at most 2 columns and 2 rows, leads where
---                     no other row leads, and has its opposite, half the rows on, at the same cost
+--                     no other row leads, has its opposite, half the rows on, at the same cost, and is narrow
+--   narrow m       == move m goes one column or one row: it passes its two ends and no vertex between them
 --   Short m        == move m goes at most 2 columns and 2 rows: what a step takes
 --   OnFloor ..     == the vertex (x, y) is on a floor whose sides are not refused
 --   Reaches ..     == move m leads from (x, y) to (i, j), which is on the floor
@@ -12,7 +13,7 @@
 --   spotOf a b     == the column a and the row b, where both are there
 use Prim.Native.Nat.{ℕ, _+_, _/_, _%_, _≤_}
 use mathlib.Core.Path.{_≡_}
-use mathlib.Core.Bool.{Bool, true, _&&_, not}
+use mathlib.Core.Bool.{Bool, true, _&&_, _||_, not}
 use mathlib.Core.List.{List, [], _∷_}
 use mathlib.Core.Option.{Option, none, some}
 use lib.Dec.{leb, ltb, eqb}
@@ -49,6 +50,9 @@ pub record Short (m : Move) : Type 0 where
   pub columns : natAbs (m .dx) ≤ 2
   pub rows : natAbs (m .dy) ≤ 2
 
+abbrev pub narrow : Move → Bool
+narrow m = eqb (natAbs (m .dx)) 1 || eqb (natAbs (m .dy)) 1
+
 -- What is tested of move m of the rows r.
 abbrev pub lawfulTests : Rows → ℕ → List Bool
 lawfulTests r m =
@@ -61,6 +65,7 @@ lawfulTests r m =
     ∷ turned (moveAt r (oppositeOf r m) .dx) (moveAt r m .dx)
     ∷ turned (moveAt r (oppositeOf r m) .dy) (moveAt r m .dy)
     ∷ every m (λ n. not (sameOffset (moveAt r n .dx) (moveAt r m .dx) && sameOffset (moveAt r n .dy) (moveAt r m .dy)))
+    ∷ narrow (moveAt r m)
     ∷ []
 
 abbrev pub lawfulRow : Rows → ℕ → Bool

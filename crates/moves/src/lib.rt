@@ -1,13 +1,13 @@
-// The moves: the table, which rows a neighbourhood has, a step, and the test of a move.
+// The moves: the table, which rows a neighbourhood has, a step, and whether something is in its way.
 ghost use mathlib.Core.Path.{_≡_};
 ghost use mathlib.Core.Bool.{true};
 ghost use Prim.Native.Nat.{_+_, _-_, _<_, _≤_};
 ghost use lib.IntN.{natAbs};
 ghost use lib.ListN.{length};
 ghost use Rattle.floor.specs.Floor.{Sized, floorOf};
-ghost use Rattle.sight.specs.Sight.{segmentOf, sees};
+ghost use Rattle.sight.specs.Sight.{segmentOf, unblocked};
 ghost use Rattle.moves.specs.Moves.{moves, moveOf, neighbourhoodOf, rowsOf, rowMove, rowAt, moveAt};
-ghost use Rattle.moves.specs.Steps.{up, down, shifted, farEndAt, openAt, stepOf};
+ghost use Rattle.moves.specs.Steps.{up, down, shifted, farEndAt, endIf, isSome, stepOf};
 ghost use Rattle.moves.specs.Table.{lawfulRows, Short, OnFloor, Reaches, partsOf, placeOf, spotOf};
 use floor::Vertex;
 
@@ -242,9 +242,9 @@ fn moved_by(a: usize, d: i8) -> usize
     a + o.up - o.down
 }
 
-// Whether (x, y) and (i, j), to which dx and dy lead from there, see each other. How far apart they are is read off the
-// offsets: where these are constants, nothing is left to do but to read the cells.
-fn ends_see(
+// Whether no cell and no step is in the way from (x, y) to (i, j), to which dx and dy lead from there. How far apart they
+// are is read off the offsets: where these are constants, nothing is left to do but to read the cells.
+fn ends_unblocked(
     w: usize,
     h: usize,
     map: &[u8],
@@ -257,18 +257,19 @@ fn ends_see(
 ) -> bool
     requires { ⌜ Sized w h (now map) × OnFloor w h x y × Short (moveOf dx dy 0)
         × Reaches w h (moveOf dx dy 0) x y i j ⌝ }
-    ensures { λ r. ⌜ r ≡ sees (floorOf w h (now (map .entry))) (segmentOf x y i j) ⌝ }
+    ensures { λ r. ⌜ r ≡ unblocked (floorOf w h (now (map .entry))) (segmentOf x y i j) ⌝ }
 {
-    sight::in_sight_along(w, h, map, x, y, i, j, length_of(dx), length_of(dy))
+    sight::is_unblocked(w, h, map, x, y, i, j, length_of(dx), length_of(dy))
 }
 
-// The test of a move: it is open from (x, y) where its far end is on the floor and the two ends see each other.
-pub fn is_open(w: usize, h: usize, map: &[u8], x: usize, y: usize, dx: i8, dy: i8) -> bool
+// Whether a move from (x, y) leads to a vertex of the floor with no cell and no step in the way: the test of a move, but
+// for the pinches at its two ends.
+pub fn is_unblocked(w: usize, h: usize, map: &[u8], x: usize, y: usize, dx: i8, dy: i8) -> bool
     requires { ⌜ Sized w h (now map) × OnFloor w h x y × Short (moveOf dx dy 0) ⌝ }
-    ensures { λ r. ⌜ r ≡ openAt (floorOf w h (now (map .entry))) (moveOf dx dy 0) x y ⌝ }
+    ensures { λ r. ⌜ r ≡ isSome (endIf unblocked (floorOf w h (now (map .entry))) (moveOf dx dy 0) x y) ⌝ }
 {
     let Step::To(_) = step_from(w, h, x, y, dx, dy) else {
         return false;
     };
-    ends_see(w, h, map, x, y, moved_by(x, dx), moved_by(y, dy), dx, dy)
+    ends_unblocked(w, h, map, x, y, moved_by(x, dx), moved_by(y, dy), dx, dy)
 }

@@ -21,12 +21,12 @@ pub record Agrees (g h : Graph) (v : ℕ) : Type 0 where
   pub cost : (m : ℕ) → m < g .moves → g .cost m ≡ h .cost m
   pub step : (m : ℕ) → m < g .moves → g .step m v ≡ h .step m v
 
-any-cong : (n : ℕ) (p q : ℕ → Bool) → ((k : ℕ) → k < n → p k ≡ q k) → any n p ≡ any n q
+pub any-cong : (n : ℕ) (p q : ℕ → Bool) → ((k : ℕ) → k < n → p k ≡ q k) → any n p ≡ any n q
 unfolding any
 any-cong zero p q h = refl
 any-cong (suc n) p q h = ap₂ _||_ (any-cong n p q (λ k l. h k (omega arith))) (h n (omega arith))
 
-best-cong : (T : ℕ → ℕ) (n : ℕ) (c e : ℕ → Option ℕ) → ((k : ℕ) → k < n → c k ≡ e k) → best T c n ≡ best T e n
+pub best-cong : (T : ℕ → ℕ) (n : ℕ) (c e : ℕ → Option ℕ) → ((k : ℕ) → k < n → c k ≡ e k) → best T c n ≡ best T e n
 unfolding best
 best-cong T zero c e h = refl
 best-cong T (suc n) c e h = ap₂ (better T) (best-cong T n c e (λ k l. h k (omega arith))) (h n (omega arith))

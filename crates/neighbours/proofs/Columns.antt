@@ -1,6 +1,6 @@
 -- The vertex in column x and row y of a job's floor, as a loop over a row meets it.
 --
---   column-shows            == the mask of its open moves shows the steps from it
+--   column-shows            == the mask of the moves that leave it shows the steps from it
 --   flag-stops, flag-keeps  == a flag that the columns before x pass a test, after the test of one more
 use Prim.Native.Nat.{ℕ, _+_}
 use mathlib.Core.Path.{_≡_, sym, _∙_}
@@ -14,20 +14,22 @@ use Rattle.floor.proofs.Numbers.{number-lt}
 use Rattle.moves.specs.declared.Rows.{Rows}
 use Rattle.moves.specs.Table.{OnFloor}
 use Rattle.moves.proofs.Table.{listed-lawful}
-use Rattle.masks.specs.Masks.{OpenMask}
+use Rattle.moves.specs.Leaving.{leaves}
+use Rattle.masks.specs.Masks.{leavingMask}
 use Rattle.masks.proofs.Masks.{mask-number}
 use Rattle.offsets.specs.Offsets.{Shifts}
-use Rattle.grid.specs.Grid.{floorGraph}
+use Rattle.grid.specs.Leaving.{leavingGraph}
 use Rattle.grid.specs.Known.{GoodJob}
 use Rattle.neighbours.proofs.Shown.{Shows, mask-shows}
 
 pub column-shows : {w h a b x y mask v : ℕ} {map s : List ℕ} {r : Rows} → GoodJob w h map r a b → Shifts w s
-    → OnFloor w h x y → OpenMask (floorOf w h map) x y mask → v ≡ number w x y
-    → Shows (floorGraph (floorOf w h map) r) r s mask v
-column-shows {w} {h} {x = x} {y} {mask} {map = map} {r = r} J S o k numbered =
+    → OnFloor w h x y → mask ≡ leavingMask (floorOf w h map) x y → v ≡ number w x y
+    → Shows (leavingGraph (floorOf w h map) r) r s mask v
+column-shows {w} {h} {x = x} {y} {mask} {map = map} {r = r} J S o is numbered =
+    let f = floorOf w h map in
     rw numbered
-    (mask-shows (floorOf w h map) r (listed-lawful (J .listed)) S (J .sized .wide) (J .sized .high) mask (number w x y)
-    (number-lt w h x y (o .column) (o .row)) (mask-number (floorOf w h map) x y (o .column) k))
+    (mask-shows leaves f r (listed-lawful (J .listed)) S (J .sized .wide) (J .sized .high) mask (number w x y)
+    (number-lt w h x y (o .column) (o .row)) (mask-number f x y (o .column) is))
 
 module _ (p : ℕ → Bool) (x : ℕ) {t : Bool} (is : t ≡ p x) where
   pub flag-stops : not t ≡ true → false ≡ every (x + 1) p

@@ -7,3 +7,5 @@ pub mod Agree
 pub mod Shown
 pub mod Classed
 pub mod Columns
+pub mod Half
+pub mod Leaving

@@ -1,19 +1,21 @@
 -- What the mask of a vertex of a floor shows, with the shifts of the rows.
 --
 --   Shows g r s mask v   == the steps from v by its mask are those of the graph g, and can be read
---   mask-shows           == so it is on a floor, with the mask of v's open moves
+--   mask-shows           == so it is on a floor, with the mask of v's moves that pass the test S
 use Prim.Native.Nat.{ℕ, _≤_, _<_}
 use mathlib.Core.Path.{_≡_, refl, sym, _∙_}
-use mathlib.Core.Bool.{true}
+use mathlib.Core.Bool.{Bool, true}
 use mathlib.Core.List.{List}
 use Rattle.floor.specs.Floor.{Floor, vertices}
+use Rattle.sight.specs.Sight.{Segment}
 use Rattle.moves.specs.declared.Rows.{Rows}
 use Rattle.moves.specs.Table.{lawfulRows}
-use Rattle.masks.specs.Masks.{OpenAt}
+use Rattle.moves.specs.Moves.{moveAt}
+use Rattle.moves.proofs.Opposites.{goes, goes-inside}
+use Rattle.masks.specs.Masks.{MaskAt}
 use Rattle.offsets.specs.Offsets.{Shifts}
 use Rattle.paths.specs.Graph.{Graph}
-use Rattle.grid.specs.Grid.{floorGraph}
-use Rattle.grid.proofs.Lawful.{floor-lawful}
+use Rattle.grid.specs.Leaving.{graphIf}
 use Rattle.grid.proofs.Masks.{step-masked, step-movable}
 use Rattle.neighbours.specs.Reading.{readStep, maskGraph, Readable}
 use Rattle.neighbours.proofs.Agree.{Agrees}
@@ -22,20 +24,20 @@ pub record Shows (g : Graph) (r : Rows) (s : List ℕ) (mask v : ℕ) : Type 0 w
   pub readable : Readable (g .size) r s mask v
   pub agrees : Agrees (maskGraph (g .size) r s mask) g v
 
-module _ (f : Floor) (r : Rows) (lawful : lawfulRows r ≡ true) {s : List ℕ} (S : Shifts (f .wide) s)
-    (p : f .wide ≤ 127) (q : f .high ≤ 127) (mask v : ℕ) (i : v < vertices (f .wide) (f .high))
-    (o : OpenAt f v mask) where
-  step-same : (m : ℕ) → m < r .count → readStep r s mask v m ≡ floorGraph f r .step m v
-  step-same m l = step-masked f r lawful s S v mask o m l
+module _ (S : Floor → Segment → Bool) (f : Floor) (r : Rows) (lawful : lawfulRows r ≡ true) {s : List ℕ}
+    (H : Shifts (f .wide) s) (p : f .wide ≤ 127) (q : f .high ≤ 127) (mask v : ℕ)
+    (i : v < vertices (f .wide) (f .high)) (o : MaskAt S f v mask) where
+  step-same : (m : ℕ) → m < r .count → readStep r s mask v m ≡ graphIf S f r .step m v
+  step-same m l = step-masked S f r lawful s H v mask o m l
 
-  pub mask-shows : Shows (floorGraph f r) r s mask v
+  pub mask-shows : Shows (graphIf S f r) r s mask v
   mask-shows = record {
     readable = record {
       lawful = lawful;
-      shifts-len = S .len;
+      shifts-len = H .len;
       vertex = i;
-      movable = λ m l. step-movable f r lawful s S v mask o m l p q i;
-      inside = λ m w l t. floor-lawful f r lawful .inside m v w l i (sym (step-same m l) ∙ t);
+      movable = λ m l. step-movable S f r lawful s H v mask o m l p q i;
+      inside = λ m w l t. goes-inside S f (moveAt r m) v w (goes S f (moveAt r m) v w (sym (step-same m l) ∙ t));
     };
     agrees = record { moves = refl; cost = λ m l. refl; step = step-same };
   }

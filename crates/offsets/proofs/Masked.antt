@@ -1,15 +1,15 @@
--- A step by a mask: a vertex moved by its row's offset, where its mask has that row's bit, goes where the open move
--- leads.
+-- A step by a mask: a vertex moved by its row's offset, where its mask has that row's bit, goes where the move leads whose
+-- test S the mask holds.
 --
 --   row-offset      == the offset of a row of the table
 --   composed        == the offset of a move, from the parts of its two offsets
---   masked-open     == so it does
+--   masked-end      == so it does
 --   masked-movable  == and that can be worked out
 --   shifts-..       == and the same by the list of shifts
 use Prim.Native.Nat.{ℕ, suc, _+_, _-_, _*_, _≤_, _<_}
 use mathlib.Core.Path.{_≡_, refl, sym, ap, _∙_}
 use mathlib.Core.Logic.{⊎-elim}
-use mathlib.Core.Bool.{true, false}
+use mathlib.Core.Bool.{Bool, true, false}
 use mathlib.Core.Option.{Option, none, some}
 use mathlib.Core.List.{List}
 use native.Mathlib.Omega.{arith}
@@ -21,24 +21,25 @@ use Rattle.basics.proofs.Order.{le-or-lt}
 use Rattle.basics.specs.Bounded.{pick}
 use Rattle.floor.specs.Floor.{Floor, vertices, number, column, row}
 use Rattle.floor.proofs.Numbers.{vertices-le, column-le, number-of}
+use Rattle.sight.specs.Sight.{Segment}
 use Rattle.moves.specs.declared.Move.{Move}
 use Rattle.moves.specs.declared.Offset.{Offset}
 use Rattle.moves.specs.declared.Rows.{Rows}
 use Rattle.moves.specs.Moves.{moves, rowMove, rowsOf, rowAt, moveAt}
-use Rattle.moves.specs.Steps.{up, down, isSome, openEnd}
+use Rattle.moves.specs.Steps.{up, down, endIf, isSome}
 use Rattle.moves.specs.Table.{Short, partsOf}
 use Rattle.basics.specs.Bits.{bit}
-use Rattle.masks.specs.Masks.{OpenAt}
+use Rattle.masks.specs.Masks.{MaskAt}
 use Rattle.offsets.specs.Offsets.{offsetOf, maskedEnd, Movable}
 use Rattle.offsets.specs.Offsets.{shiftBase, Shifts, shiftedBy}
 use Rattle.moves.proofs.Signs.{up-le, down-le}
 use Rattle.moves.proofs.Table.{table-short}
-use Rattle.moves.proofs.Steps.{Goes, open-goes}
+use Rattle.moves.proofs.Steps.{Goes, end-goes}
 
--- Where an open move leads, by its offset.
-pub goes-offset : (f : Floor) (m : Move) (x y w : ℕ) → Goes f m x y w
+-- Where a move leads, by its offset.
+pub goes-offset : (S : Floor → Segment → Bool) (f : Floor) (m : Move) (x y w : ℕ) → Goes S f m x y w
     → w + offsetOf (f .wide) m .down ≡ number (f .wide) x y + offsetOf (f .wide) m .up
-goes-offset f m x y w g =
+goes-offset S f m x y w g =
     let n = suc (f .wide) in
     omega (arith, g .vertex, g .columns .moved, ap (λ z. z * n) (g .rows .moved))
 
@@ -91,31 +92,35 @@ composed w m x y p q l s = rw (p, q) (record {
   is = rw add-one;
 })
 
-module _ (f : Floor) (v n k : ℕ) (mask : OpenAt f v n) (l : k < length moves) where
+module _ (S : Floor → Segment → Bool) (f : Floor) (v n k : ℕ) (mask : MaskAt S f v n) (l : k < length moves) where
   abbrev m : Move
   m = rowMove k
 
   abbrev o : Offset
   o = offsetOf (f .wide) m
 
+  -- The far end, where S holds of the segment to it.
+  abbrev end : Option ℕ
+  end = endIf S f m (column (f .wide) v) (row (f .wide) v)
+
   -- The two cases: the bit and the far end.
-  has : (w : ℕ) → openEnd f m v ≡ some w → bit n k ≡ true
+  has : (w : ℕ) → end ≡ some w → bit n k ≡ true
   unfolding isSome
   has w e = mask .at k l ∙ ap isSome e
 
-  unset : openEnd f m v ≡ none → bit n k ≡ false
+  unset : end ≡ none → bit n k ≡ false
   unfolding isSome
   unset e = mask .at k l ∙ ap isSome e
 
-  moved : (w : ℕ) → openEnd f m v ≡ some w → w + o .down ≡ v + o .up
+  moved : (w : ℕ) → end ≡ some w → w + o .down ≡ v + o .up
   moved w e =
-      let g = open-goes f m (column (f .wide) v) (row (f .wide) v) w (column-le (f .wide) v) e in
-      rw (number-of (f .wide) v) at (goes-offset f m (column (f .wide) v) (row (f .wide) v) w g)
+      let g = end-goes S f m (column (f .wide) v) (row (f .wide) v) w (column-le (f .wide) v) e in
+      rw (number-of (f .wide) v) at (goes-offset S f m (column (f .wide) v) (row (f .wide) v) w g)
 
-  pub masked-open : maskedEnd n v k o ≡ openEnd f m v
-  masked-open = cases (openEnd f m v) refl
+  pub masked-end : maskedEnd n v k o ≡ end
+  masked-end = cases (end) refl
     where
-      cases : (t : Option ℕ) → openEnd f m v ≡ t → maskedEnd n v k o ≡ t
+      cases : (t : Option ℕ) → end ≡ t → maskedEnd n v k o ≡ t
       cases none e = rw (unset e)
       cases (some w) e = let z : v + o .up - o .down ≡ w = omega (arith, moved w e) in rw (has w e, z)
 
@@ -123,10 +128,10 @@ module _ (f : Floor) (v n k : ℕ) (mask : OpenAt f v n) (l : k < length moves) 
   masked-movable p q i = record {
     row = omega arith;
     sum = omega (arith, vertices-le p q, up-small (f .wide) m p (table-short k l));
-    enough = λ e. enough (openEnd f m v) refl e;
+    enough = λ e. enough (end) refl e;
   }
     where
-      enough : (t : Option ℕ) → openEnd f m v ≡ t → bit n k ≡ true → o .down ≤ v + o .up
+      enough : (t : Option ℕ) → end ≡ t → bit n k ≡ true → o .down ≤ v + o .up
       enough none e b = let z : true ≡ false = sym b ∙ unset e in let y : _≡_ {A = ℕ} 0 1 = cc in absurd (omega arith)
       enough (some w) e b = omega (arith, moved w e)
 

@@ -28,6 +28,7 @@ use Rattle.paths.proofs.Reverse.{distance-sym}
 use Rattle.paths.proofs.Way.{way-end, countFrom-way}
 use Rattle.paths.proofs.Sheets.{fits-total}
 use Rattle.grid.specs.Grid.{floorGraph}
+use Rattle.grid.proofs.Jobs.{goal-alone}
 use Rattle.grid.proofs.Lawful.{floor-lawful, size-le}
 use Rattle.offsets.specs.Offsets.{Shifts}
 use Rattle.workspace.specs.Regions.{Masked, MasksIn}
@@ -65,14 +66,12 @@ module _ {w h : ℕ} {map : List ℕ} {rows : Rows} {a b : ℕ} {d e f back rout
     F .back-blank ∙ ap zeros (sym d-len),
   )
 
-  pub found-costing : {x : ℕ} → x < vertices w h → Costing w h map rows x e work
-  found-costing i =
-      let J = F .finishable .job in
-      record {
-        job = record { sized = J .sized; listed = J .listed; start-in = i; goal-in = i };
-        d-len = F .finishable .lent .sheet .e;
-        work-len = F .finishable .lent .work-len;
-      }
+  pub found-costing : Costing w h map rows b e work
+  found-costing = record {
+    job = goal-alone (F .finishable .job);
+    d-len = F .finishable .lent .sheet .e;
+    work-len = F .finishable .lent .work-len;
+  }
 
   module _ {x n : ℕ} {shifts e′ work′ : List ℕ} (C : OrderedCosts (floorOf w h map) rows x n e′ work′)
       (S : Shifts w shifts) where

@@ -5,7 +5,6 @@
 --   lengths-bad                   == slices whose lengths do not pass the test lack the lengths that they need
 --   fills-unfit, fills-fit        == the first operation's answer by the shape of the job
 --   costs-long, -cramped, -filled == and by the lengths of its slices
---   start-alone                   == the start of a good job is one by itself
 --   finishes-unfit, finishes-fit  == the second operation's answer by the shape of the job
 --   job-unsized, -false, -true    == and by the lengths of its slices and the test of d
 --   job-finishable                == what a job takes to be finished, once d has passed
@@ -115,10 +114,6 @@ module _ {w h : ℕ} {map : List ℕ} where
           record { answer = rw (y, z); left = rw (y, z, F .costs, F .clear) }
 
   -- ---- the second operation
-
-  pub start-alone : {rows : Rows} {a b : ℕ} → GoodJob w h map rows a b → GoodJob w h map rows a a
-  start-alone J =
-      record { sized = J .sized; listed = J .listed; start-in = J .start-in; goal-in = J .start-in }
 
   module _ {nb a b : ℕ} {d : List ℕ} {s : Slices} where
     pub finishes-unfit : {z : Refusal} {s′ : Slices} → jobOf w h map nb a b ≡ Unfit z → s′ ≡ s

@@ -1,6 +1,5 @@
 -- The two operations together are document 01's planner.
 --
---   start-fit           == where a job is fit, so is its start alone
 --   finish-true, -false == the second operation on true costs, and on others, where the job is fit and its slices have
 --                          the right lengths
 --   costs-then-finish   == from slices of the right lengths, whatever stands in them, the second operation on the first
@@ -9,7 +8,6 @@ use Prim.Native.Nat.{ℕ, _*_}
 use mathlib.Core.Path.{_≡_, refl, sym, _∙_}
 use mathlib.Core.Bool.{true, false}
 use mathlib.Core.List.{List}
-use native.Mathlib.Omega.{arith}
 use borrow.Author.Tests.{eq-eqb}
 use lib.Dec.{eqb}
 use lib.ListN.{length}
@@ -17,20 +15,13 @@ use Rattle.basics.specs.Lists.{tabulate, zeros}
 use Rattle.basics.proofs.Bools.{and-left}
 use Rattle.basics.proofs.Lists.{length-tabulate}
 use Rattle.floor.specs.Floor.{floorOf, vertices}
-use Rattle.floor.specs.Refusals.{floorShape, endShape, andThen}
-use Rattle.floor.specs.declared.Refusal.{Refusal}
 use Rattle.floor.specs.declared.Refusal.the-variants.{FalseSheet}
-use Rattle.floor.specs.declared.Shape.{Shape}
-use Rattle.floor.specs.declared.Shape.the-variants.{Good, Refused as Bad}
 use Rattle.moves.specs.declared.Rows.{Rows}
-use Rattle.moves.specs.declared.Neighbourhood.{Neighbourhood}
-use Rattle.moves.specs.declared.Neighbourhood.the-variants.{Known, Unknown}
-use Rattle.moves.specs.Moves.{neighbourhoodOf}
 use Rattle.paths.specs.Graph.{Graph}
 use Rattle.paths.specs.Distance.{distance}
-use Rattle.grid.specs.Grid.{floorGraph, orUnfit, withRows, jobOf}
-use Rattle.grid.specs.declared.Job.{Job}
-use Rattle.grid.specs.declared.Job.the-variants.{Fit, Unfit}
+use Rattle.grid.specs.Grid.{floorGraph, jobOf}
+use Rattle.grid.specs.declared.Job.the-variants.{Fit}
+use Rattle.grid.proofs.Jobs.{start-fit}
 use Rattle.given_costs.specs.Given.{costsTrue}
 use Rattle.given_costs.proofs.Tested.{list-true}
 use Rattle.planner.specs.declared.Costed.the-variants.{Filled}
@@ -47,21 +38,6 @@ pub record Together (w h : ℕ) (map : List ℕ) (nb a b : ℕ) (g : Graph) (s :
   pub left : finishLeft w h map nb a b (costsLeft w h map nb a s .d) t ≡ routeLeft g a b
 
 module _ (w h : ℕ) (map : List ℕ) (nb a b : ℕ) (rows : Rows) where
-  pub start-fit : jobOf w h map nb a b ≡ Fit rows → jobOf w h map nb a a ≡ Fit rows
-  unfolding jobOf
-  start-fit e = cases (floorShape w h map) (neighbourhoodOf nb) (endShape w h a) (endShape w h b) e
-    where
-      never : {P : Type 0} {r : Refusal} → _≡_ {A = Job} (Unfit r) (Fit rows) → P
-      never {P} {r} q = let z : _≡_ {A = ℕ} 0 1 = cc in absurd (omega arith)
-
-      cases : (f : Shape) (n : Neighbourhood) (s t : Shape) → orUnfit f (withRows n (andThen s t)) ≡ Fit rows
-          → orUnfit f (withRows n (andThen s s)) ≡ Fit rows
-      cases (Bad z) n s t q = never q
-      cases Good Unknown s t q = never q
-      cases Good (Known k) (Bad z) t q = never q
-      cases Good (Known k) Good (Bad z) q = never q
-      cases Good (Known k) Good Good q = q
-
   abbrev g : Graph
   g = floorGraph (floorOf w h map) rows
 
@@ -94,7 +70,7 @@ module _ (w h : ℕ) (map : List ℕ) (nb a b : ℕ) (rows : Rows) where
         → (t : Slices) → slicesSized (vertices w h) (s .d) t ≡ true → Together w h map nb a b g s t
     unfolding costsAnswer costsLeft
     costs-then-finish s sized t others =
-        let alone = start-fit fit in
+        let alone = start-fit w h map nb a b rows fit in
         let d = tabulate (vertices w h) (distance g a) in
         let both = finish-true d t (refilled s t others sized) (list-true g a d refl) in
         record {

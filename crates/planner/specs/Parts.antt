@@ -11,7 +11,7 @@
 --                                route are all 0
 --   Finished g a b r s        == the answer r and the slices s are those of the job from a to b on graph g
 --   FillsJob .., FinishesJob .. == the answer r and the slices s' are those of the first operation, and of the second,
---                                where none of refusals 1 to 5 applies
+--                                where none of refusals 1 to 5 and 11 applies
 use Prim.Native.Nat.{ℕ, _*_, _^_, _≤_, _<_}
 use mathlib.Core.Path.{_≡_}
 use mathlib.Core.Bool.{Bool, _&&_}

@@ -7,11 +7,11 @@
 --   routeAnswer g a b  == the answer for the job from a to b on graph g, once its shape is good and d is true: 0, 7
 --                         or 8
 --   routeLeft g a b    == the slices that this answer leaves
---   costsAnswer ..     == the first operation's answer, for every input: 0, or a refusal of 1 to 6
+--   costsAnswer ..     == the first operation's answer, for every input: 0, or a refusal of 1 to 5, 11 and 6
 --   costsLeft ..       == its slices afterwards, for every input: untouched at a refusal
 --   FillsCosts ..      == both, as the first operation promises them
 --   finishAnswer ..    == the second operation's answer, for every input: 9 where d is not the costs from a
---   finishLeft ..      == its slices afterwards, for every input: untouched at answers 1 to 6 and 9
+--   finishLeft ..      == its slices afterwards, for every input: untouched at answers 1 to 6, 9 and 11
 --   Finishes ..        == both, as the second operation promises them
 --   costedNumber, planNumber, planCost, planTotal, planPoints == document 01's number and values of an answer
 use Prim.Native.Nat.{ℕ, _*_}

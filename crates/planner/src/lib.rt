@@ -1,9 +1,9 @@
 // The planner, in two operations: costs from a start, and then counts and central route of a job.
 //
 //     fill_costs         the costs from a start, for every input
-//     fill_job           the same where none of refusals 1 to 5 applies
+//     fill_job           the same where none of refusals 1 to 5 and 11 applies
 //     finish             the rest of a job from given costs, which it does not trust, for every input
-//     finish_given       the same where none of refusals 1 to 5 applies
+//     finish_given       the same where none of refusals 1 to 5 and 11 applies
 //     finish_job         the same from true costs: answers 0, 7 and 8
 //     finish_over_masks  the same where the working slice has the masks of the open moves
 //     find_route         the same where a walk joins the ends: answers 0 and 8
@@ -324,8 +324,8 @@ fn finish_given(
 }
 
 // The second operation: finishes the job from a to b from d, which it only reads. For every input it gives document
-// 01's answer, 9 where d is not the costs from a, and leaves every lent slice as document 01 says: answers 1 to 6 and 9
-// touch nothing.
+// 01's answer, 9 where d is not the costs from a, and leaves every lent slice as document 01 says: answers 1 to 6, 9 and
+// 11 touch nothing.
 //
 // Lent are the sheet's slices d, e, f, back (document 01's b) and route, of V places each, and a working slice of
 // 4 * V.

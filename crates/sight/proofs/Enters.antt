@@ -49,21 +49,21 @@ sums-down-down : (x1 y1 dx dy p q P Q : ℕ) → x1 + dx ≡ P + p → y1 + dy �
     → less (P + p) (Q + q) x1 y1 P Q + dx * q ≡ more (P + p) (Q + q) x1 y1 P Q + dy * p
 sums-down-down x1 y1 dx dy p q P Q e f = omega (arith, ap (λ z. z * q) e, ap (λ z. z * p) f)
 
-record Up (a b d k z : ℕ) : Type 0 where
+pub record Up (a b d k z : ℕ) : Type 0 where
   pub far : b ≡ a + d
   pub at : z ≡ a + k
 
-record Down (a b d k z : ℕ) : Type 0 where
+pub record Down (a b d k z : ℕ) : Type 0 where
   pub far : b + d ≡ a
   pub at : a ≡ z + k
 
-abbrev low : ℕ → ℕ → ℕ → ℕ → Bool
+abbrev pub low : ℕ → ℕ → ℕ → ℕ → Bool
 low dx dy p q = ltb (dy * p) (dx * q)
 
-abbrev high : ℕ → ℕ → ℕ → ℕ → Bool
+abbrev pub high : ℕ → ℕ → ℕ → ℕ → Bool
 high dx dy p q = ltb (dx * q) (dy * p)
 
-record Sides (s : Segment) (P Q : ℕ) (a b : Bool) : Type 0 where
+pub record Sides (s : Segment) (P Q : ℕ) (a b : Bool) : Type 0 where
   pub positives : positive s P Q ≡ a
   pub negatives : negative s P Q ≡ b
 
@@ -87,16 +87,16 @@ module _ (x0 y0 x1 y1 dx dy p q P Q : ℕ) where
     negatives = ltb-shift (more x0 y0 x1 y1 P Q) (less x0 y0 x1 y1 P Q) (dy * p) (dx * q) (sym e);
   }
 
-  up-up : Up x0 x1 dx p P → Up y0 y1 dy q Q → Sides s P Q (low dx dy p q) (high dx dy p q)
+  pub up-up : Up x0 x1 dx p P → Up y0 y1 dy q Q → Sides s P Q (low dx dy p q) (high dx dy p q)
   up-up h v = same-way (rw (h .far, h .at, v .far, v .at) (sums-up-up x0 y0 dx dy p q))
 
-  up-down : Up x0 x1 dx p P → Down y0 y1 dy q Q → Sides s P Q (high dx dy p q) (low dx dy p q)
+  pub up-down : Up x0 x1 dx p P → Down y0 y1 dy q Q → Sides s P Q (high dx dy p q) (low dx dy p q)
   up-down h v = other-way (rw (h .far, h .at, v .at) (sums-up-down x0 y1 dx dy p q Q (v .far ∙ v .at)))
 
-  down-up : Down x0 x1 dx p P → Up y0 y1 dy q Q → Sides s P Q (high dx dy p q) (low dx dy p q)
+  pub down-up : Down x0 x1 dx p P → Up y0 y1 dy q Q → Sides s P Q (high dx dy p q) (low dx dy p q)
   down-up h v = other-way (rw (h .at, v .far, v .at) (sums-down-up x1 y0 dx dy p q P (h .far ∙ h .at)))
 
-  down-down : Down x0 x1 dx p P → Down y0 y1 dy q Q → Sides s P Q (low dx dy p q) (high dx dy p q)
+  pub down-down : Down x0 x1 dx p P → Down y0 y1 dy q Q → Sides s P Q (low dx dy p q) (high dx dy p q)
   down-down h v = same-way (rw (h .at, v .at) (sums-down-down x1 y1 dx dy p q P Q (h .far ∙ h .at) (v .far ∙ v .at)))
 
 -- ---- the four corners of a cell

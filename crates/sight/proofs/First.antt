@@ -17,30 +17,34 @@ use Rattle.basics.proofs.Order.{le-or-lt}
 use Rattle.basics.proofs.Bounded.{every-at}
 use Rattle.sight.specs.Obstacle.{isClear, orElse, first}
 use Rattle.sight.specs.declared.Obstacle.{Obstacle}
-use Rattle.sight.specs.declared.Obstacle.the-variants.{Clear, Cell, Step}
+use Rattle.sight.specs.declared.Obstacle.the-variants.{Clear, Cell, Step, Pinch}
 
 pub clear-is : (o : Obstacle) → isClear o ≡ true → o ≡ Clear
 clear-is Clear e = refl
 clear-is (Cell c) e = absurd (true≢false (sym e))
 clear-is (Step v) e = absurd (true≢false (sym e))
+clear-is (Pinch v) e = absurd (true≢false (sym e))
 
 clear-or-not : (o : Obstacle) → (o ≡ Clear) ⊎ (isClear o ≡ false)
 clear-or-not Clear = inl refl
 clear-or-not (Cell c) = inr refl
 clear-or-not (Step v) = inr refl
+clear-or-not (Pinch v) = inr refl
 
-else-clear : (a b : Obstacle) → isClear (orElse a b) ≡ (isClear a && isClear b)
+pub else-clear : (a b : Obstacle) → isClear (orElse a b) ≡ (isClear a && isClear b)
 else-clear Clear b = refl
 else-clear (Cell c) b = refl
 else-clear (Step v) b = refl
+else-clear (Pinch v) b = refl
 
-else-next : (a b : Obstacle) → a ≡ Clear → orElse a b ≡ b
+pub else-next : (a b : Obstacle) → a ≡ Clear → orElse a b ≡ b
 else-next a b e = ap (λ o. orElse o b) e
 
-else-stay : (a b : Obstacle) → isClear a ≡ false → orElse a b ≡ a
+pub else-stay : (a b : Obstacle) → isClear a ≡ false → orElse a b ≡ a
 else-stay Clear b e = absurd (true≢false e)
 else-stay (Cell c) b e = refl
 else-stay (Step v) b e = refl
+else-stay (Pinch v) b e = refl
 
 pub first-every : (n : ℕ) (F : ℕ → Obstacle) → isClear (first n F) ≡ every n (λ k. isClear (F k))
 unfolding first every

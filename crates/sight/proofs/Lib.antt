@@ -7,4 +7,8 @@ pub mod Obstacles
 pub mod Runs
 pub mod Named
 mod Unit
+mod Common
+pub mod Vertices
+pub mod Nearest
+pub mod Passed
 pub mod Question

@@ -1,10 +1,8 @@
--- What is in the way of the three kinds of segment, as the scans look for it, and when nothing is.
+-- The cell or the step in the way of the three kinds of segment, as the scans look for it, and when there is none.
 --
 --   upright-obstacle, level-obstacle == along a grid line: the first shut step
 --   slanted-obstacle  == a slanted segment: the first blocked cell by columns, as the rule has it, is the first by rows
---   obstacle-sees     == nothing is in the way exactly when the ends see each other; obstacle-sees-segment for two
---                        vertices by their numbers
---   obstacle-back     == swapping the ends never changes whether something is in the way
+--   blockage-clear    == no cell and no step is named exactly when none is in the way
 --   upright-.., level-.., cell-.. past, met == one answer of a scan, from what the code reads
 use Prim.Native.Nat.{ℕ, suc, _*_, _≤_, _<_}
 use mathlib.Core.Path.{_≡_, refl, sym, ap, _∙_}
@@ -18,9 +16,8 @@ use Rattle.basics.specs.Bounded.{pick, every}
 use Rattle.basics.proofs.Order.{eq-or-ne}
 use Rattle.basics.proofs.Bools.{and-left, and-right}
 use Rattle.basics.proofs.Bounded.{pick-yes, pick-no, every-cong}
-use Rattle.floor.specs.Floor.{Floor, blocked, vertices, column, row}
-use Rattle.floor.proofs.Numbers.{column-le, row-le}
-use Rattle.sight.specs.Sight.{Segment, segmentOf, segment, uprightOpen, levelOpen, sees}
+use Rattle.floor.specs.Floor.{Floor, blocked}
+use Rattle.sight.specs.Sight.{Segment, segmentOf, uprightOpen, levelOpen, unblocked}
 use Rattle.sight.specs.Obstacle.{
   isClear,
   cellAt,
@@ -32,7 +29,7 @@ use Rattle.sight.specs.Obstacle.{
   blockedCell,
   uprightStep,
   levelStep,
-  obstacle,
+  blockage,
 }
 use Rattle.sight.specs.Travel.{
   Ends,
@@ -48,7 +45,6 @@ use Rattle.sight.specs.declared.Obstacle.{Obstacle}
 use Rattle.sight.specs.declared.Obstacle.the-variants.{Clear}
 use Rattle.sight.proofs.Enters.{enters-on}
 use Rattle.sight.proofs.Sees.{upright-sees, level-sees, slanted-sees}
-use Rattle.sight.proofs.Symmetry.{back, sees-back}
 use Rattle.sight.proofs.First.{first-every, first-cong, stairs-first}
 
 -- Clear where the test holds, and an obstacle elsewhere.
@@ -56,7 +52,7 @@ clear-pick : (t : Bool) (o : Obstacle) → isClear o ≡ false → isClear (pick
 clear-pick true o e = refl
 clear-pick false o e = e
 
-pick-not : (t : Bool) (a b : Obstacle) → pick t a b ≡ pick (not t) b a
+pub pick-not : (t : Bool) (a b : Obstacle) → pick t a b ≡ pick (not t) b a
 pick-not true a b = refl
 pick-not false a b = refl
 
@@ -134,18 +130,18 @@ module _ (f : Floor) (x0 y0 x1 y1 : ℕ) where
   abbrev slanted : Obstacle
   slanted = first (span x0 x1) (λ c. first (span y0 y1) (blockedCell f s c))
 
-  pub upright-obstacle : x0 ≡ x1 → obstacle f s ≡ upright
-  unfolding obstacle
+  pub upright-obstacle : x0 ≡ x1 → blockage f s ≡ upright
+  unfolding blockage
   upright-obstacle e = pick-yes (eqb x0 x1) upright (pick (eqb y0 y1) level slanted) (eq-eqb x0 x1 e)
 
-  pub level-obstacle : x0 ≢ x1 → y0 ≡ y1 → obstacle f s ≡ level
-  unfolding obstacle
+  pub level-obstacle : x0 ≢ x1 → y0 ≡ y1 → blockage f s ≡ level
+  unfolding blockage
   level-obstacle n e =
       pick-no (eqb x0 x1) upright (pick (eqb y0 y1) level slanted) (ne-eqb x0 x1 n)
       ∙ pick-yes (eqb y0 y1) level slanted (eq-eqb y0 y1 e)
 
-  pub columns-obstacle : x0 ≢ x1 → y0 ≢ y1 → obstacle f s ≡ slanted
-  unfolding obstacle
+  pub columns-obstacle : x0 ≢ x1 → y0 ≢ y1 → blockage f s ≡ slanted
+  unfolding blockage
   columns-obstacle n m =
       pick-no (eqb x0 x1) upright (pick (eqb y0 y1) level slanted) (ne-eqb x0 x1 n)
       ∙ pick-no (eqb y0 y1) level slanted (ne-eqb y0 y1 m)
@@ -166,7 +162,7 @@ module _ (f : Floor) (x0 y0 x1 y1 : ℕ) where
       let t = touches (span x0 x1) (span y0 y1) c r in
       and-right b t (not-false (b && t) (sym (cell-clear f s r c) ∙ e))
 
-  pub slanted-obstacle : x0 ≢ x1 → y0 ≢ y1 → obstacle f s ≡ first (span y0 y1) (rowObstacle f s)
+  pub slanted-obstacle : x0 ≢ x1 → y0 ≢ y1 → blockage f s ≡ first (span y0 y1) (rowObstacle f s)
   unfolding rowObstacle
   slanted-obstacle n m =
       let dx = span x0 x1 in
@@ -183,9 +179,9 @@ module _ (f : Floor) (x0 y0 x1 y1 : ℕ) (e : Ends (f .wide) (f .high) x0 y0 x1 
   abbrev t : Segment
   t = segmentOf x0 y0 x1 y1
 
-  -- Where the scan's answers are clear exactly where its tests hold, and the tests make up `sees`.
-  scanned : (n : ℕ) (F : ℕ → Obstacle) (p : ℕ → Bool) → obstacle f t ≡ first n F → sees f t ≡ every n p
-      → ((k : ℕ) → isClear (F k) ≡ p k) → isClear (obstacle f t) ≡ sees f t
+  -- Where the scan's answers are clear exactly where its tests hold, and the tests make up `unblocked`.
+  scanned : (n : ℕ) (F : ℕ → Obstacle) (p : ℕ → Bool) → blockage f t ≡ first n F → unblocked f t ≡ every n p
+      → ((k : ℕ) → isClear (F k) ≡ p k) → isClear (blockage f t) ≡ unblocked f t
   scanned n F p o q h =
       ap isClear o ∙ first-every n F ∙ every-cong n (λ k. isClear (F k)) p (λ k l. h k) ∙ sym q
 
@@ -197,8 +193,8 @@ module _ (f : Floor) (x0 y0 x1 y1 : ℕ) (e : Ends (f .wide) (f .high) x0 y0 x1 
   unfolding levelStep levelFree
   level-clear k = clear-pick (levelOpen f (cellOn x0 x1 k) y0) (stepAt f (startOn x0 x1 k) y0) refl
 
-  pub obstacle-sees : isClear (obstacle f t) ≡ sees f t
-  obstacle-sees =
+  pub blockage-clear : isClear (blockage f t) ≡ unblocked f t
+  blockage-clear =
       ⊎-elim
       (λ p. scanned (span y0 y1) (uprightStep f x0 y0 y1) (uprightFree f x0 y0 y1) (upright-obstacle f x0 y0 x1 y1 p)
       (upright-sees f x0 y0 x1 y1 e p) upright-clear)
@@ -207,26 +203,3 @@ module _ (f : Floor) (x0 y0 x1 y1 : ℕ) (e : Ends (f .wide) (f .high) x0 y0 x1 
       (level-sees f x0 y0 x1 y1 e q) level-clear)
       (λ m. scanned (span y0 y1) (rowObstacle f t) (rowFree f t) (slanted-obstacle f x0 y0 x1 y1 n m)
       (slanted-sees f x0 y0 x1 y1 e n m) (row-clear f t)) (eq-or-ne y0 y1)) (eq-or-ne x0 x1)
-
-module _ (f : Floor) (x0 y0 x1 y1 : ℕ) (e : Ends (f .wide) (f .high) x0 y0 x1 y1) where
-  turned : Ends (f .wide) (f .high) x1 y1 x0 y0
-  turned = record { x-first = e .x-last; y-first = e .y-last; x-last = e .x-first; y-last = e .y-first }
-
-  pub obstacle-back : isClear (obstacle f (back (segmentOf x0 y0 x1 y1))) ≡ isClear (obstacle f (segmentOf x0 y0 x1 y1))
-  obstacle-back =
-      obstacle-sees f x1 y1 x0 y0 turned ∙ sees-back f (segmentOf x0 y0 x1 y1) ∙ sym (obstacle-sees f x0 y0 x1 y1 e)
-
--- The same for two vertices by their numbers.
-module _ (f : Floor) (a b : ℕ) (la : a < vertices (f .wide) (f .high)) (lb : b < vertices (f .wide) (f .high)) where
-  on-floor : Ends (f .wide) (f .high) (column (f .wide) a) (row (f .wide) a) (column (f .wide) b) (row (f .wide) b)
-  on-floor = record {
-    x-first = column-le (f .wide) a;
-    y-first = row-le (f .wide) (f .high) a la;
-    x-last = column-le (f .wide) b;
-    y-last = row-le (f .wide) (f .high) b lb;
-  }
-
-  pub obstacle-sees-segment : isClear (obstacle f (segment (f .wide) a b)) ≡ sees f (segment (f .wide) a b)
-  unfolding segment
-  obstacle-sees-segment =
-      obstacle-sees f (column (f .wide) a) (row (f .wide) a) (column (f .wide) b) (row (f .wide) b) on-floor

@@ -19,7 +19,7 @@ use Rattle.sight.specs.Obstacle.{obstacle}
 use Rattle.sight.specs.Question.{orRefused, sightAnswer, sightNumber}
 use Rattle.sight.specs.declared.Sight.{Sight}
 use Rattle.sight.specs.declared.Sight.the-variants.{Answered, Unasked}
-use Rattle.sight.proofs.Obstacles.{obstacle-sees-segment}
+use Rattle.sight.proofs.Passed.{obstacle-sees-segment}
 
 pub record Asked (w h : ℕ) (l : List ℕ) (a b : ℕ) : Type 0 where
   pub sized : Sized w h l

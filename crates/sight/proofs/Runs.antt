@@ -1,100 +1,138 @@
--- The cells that a segment enters in one row: with dx and dy its spans, in the row r rows from its first end, those from
--- column dx * r / dy to before column (dx * (r + 1) + dy - 1) / dy.
+-- The cells that a segment enters in one row: from the column where it crosses the row's first line to before the first
+-- column that it has not reached on the row's second line.
 --
---   touches-run == a cell is entered exactly when it lies in the run
---   row-run     == the law, for a segment between two vertices
+--   Bounds dx dy r first past == those two columns, by products: of a segment dx columns wide and dy rows high, in the
+--                                row r rows from its first end
+--   touches-run   == a cell is entered exactly when it lies between them
+--   crosses-..    == the crossing of the first row line and of the one after another; it lies inside the segment's box
+--   run-corner, run-across == the cells entered between two crossings: where the second is a vertex, and where not
+--   steep-..      == of a segment with more rows than columns, the crossing of the next row line, and the run of a row
 --   Along f s r first c == what holds in a loop that looks along a run
 --   along-..    == that loop: at its start, past an open cell, at a blocked one, and at its end
-use Prim.Native.Nat.{ℕ, suc, _+_, _-_, _*_, _/_, _≤_, _<_}
+use Prim.Native.Nat.{ℕ, suc, _+_, _-_, _*_, _/_, _%_, _≤_, _<_}
 use mathlib.Core.Path.{_≡_, refl, sym, ap, _∙_}
-use mathlib.Core.Bool.{Bool, true, false, _&&_, not, and-false}
-use mathlib.Core.Logic.{⊎-elim}
+use mathlib.Core.Bool.{true, false, _&&_, not, and-false}
+use mathlib.Core.Logic.{_≢_, ⊎-elim}
 use native.Mathlib.Omega.{arith}
-use native.Mathlib.Nat.{le-div-iff-mul-le, div-lt-iff-lt-mul, mul-le-mul, div-mul-le-self}
+use native.Mathlib.Nat.{div-add-mod', mul-le-mul, le-of-mul-le-mul-left, lt-of-mul-lt-mul-left}
 use borrow.Author.Tests.{ltb-true, lt-ltb, le-ltb, leb-true, le-leb, lt-leb}
 use lib.Dec.{leb, ltb}
-use Rattle.basics.proofs.Order.{le-or-lt}
+use Rattle.basics.specs.Bounded.{pick}
+use Rattle.basics.proofs.Order.{le-or-lt, eq-or-ne}
 use Rattle.basics.proofs.Bools.{iff-eq, and-intro, and-left, and-right}
 use Rattle.floor.specs.Floor.{Floor, blocked}
 use Rattle.sight.specs.Sight.{Segment, segmentOf}
-use Rattle.sight.specs.Obstacle.{cellAt, span, cellOn}
-use Rattle.sight.specs.Travel.{touches, cellFree, rowCell, rowObstacle, RowRun}
+use Rattle.sight.specs.Obstacle.{isClear, cellAt, span, cellOn}
+use Rattle.sight.specs.Travel.{
+  touches,
+  rowCell,
+  cellThere,
+  rowObstacle,
+  RowRun,
+  Crosses,
+  Carried,
+  RunBetween,
+}
+use Rattle.sight.specs.declared.Obstacle.{Obstacle}
 use Rattle.sight.specs.declared.Obstacle.the-variants.{Clear}
 use Rattle.sight.proofs.Enters.{enters-on}
 use Rattle.sight.proofs.Sees.{free-untouched, free-touched}
-use Rattle.sight.proofs.First.{Looked, looked-skip, looked-rest, looked-more, looked-stop}
-use Rattle.sight.proofs.Obstacles.{cell-past, cell-met}
+use Rattle.sight.proofs.First.{clear-is, Looked, looked-skip, looked-rest, looked-more, looked-stop}
+use Rattle.sight.proofs.Obstacles.{pick-not, cell-past}
 
 -- ---- the run of a row, over the spans
 
-module _ (dx dy r : ℕ) (0<dy : 0 < dy) where
-  abbrev head : ℕ
-  head = dx * r / dy
+record Bounds (dx dy r first past : ℕ) : Type 0 where
+  reached : dy * first ≤ dx * r
+  begun : dx * r < dy * suc first
+  ended : dx * suc r ≤ dy * past
+  needed : dy * past < dx * suc r + dy
 
-  abbrev tail : ℕ
-  tail = (dx * r + dx + (dy - 1)) / dy
-
-  from-head : (c : ℕ) → dx * r < dy * suc c → head ≤ c
-  from-head c l =
-      let k : dx * r / dy < suc c = div-lt-iff-lt-mul {k = dy} {x = dx * r} {y = suc c} 0<dy .1 (omega arith) in
+module _ {dx dy r first past : ℕ} (b : Bounds dx dy r first past) where
+  from-first : (c : ℕ) → dx * r < dy * suc c → first ≤ c
+  from-first c l =
+      let k : first < suc c = lt-of-mul-lt-mul-left dy {m = first} {n = suc c} (omega (arith, b .reached)) in
       omega arith
 
-  head-before : (c : ℕ) → head ≤ c → dx * r < dy * suc c
-  head-before c l = omega (arith, div-lt-iff-lt-mul {k = dy} {x = dx * r} {y = suc c} 0<dy .0 (omega arith))
+  first-from : (c : ℕ) → first ≤ c → dx * r < dy * suc c
+  first-from c l =
+      omega (arith, b .begun, mul-le-mul {n₁ = dy} {m₁ = suc first} {n₂ = dy} {m₂ = suc c} (omega arith) (omega arith))
 
-  to-tail : (c : ℕ) → dy * c < dx * suc r → c < tail
-  to-tail c l =
-      let k : suc c ≤ tail
-      = le-div-iff-mul-le {k = dy} {x = suc c} {y = dx * r + dx + (dy - 1)} 0<dy .1 (omega arith) in
-      omega arith
+  to-past : (c : ℕ) → dy * c < dx * suc r → c < past
+  to-past c l = lt-of-mul-lt-mul-left dy {m = c} {n = past} (omega (arith, b .ended))
 
-  tail-after : (c : ℕ) → c < tail → dy * c < dx * suc r
-  tail-after c l =
-      omega (arith, le-div-iff-mul-le {k = dy} {x = suc c} {y = dx * r + dx + (dy - 1)} 0<dy .0 (omega arith))
+  past-to : (c : ℕ) → c < past → dy * c < dx * suc r
+  past-to c l =
+      omega (arith, b .needed, mul-le-mul {n₁ = dy} {m₁ = suc c} {n₂ = dy} {m₂ = past} (omega arith) l)
 
-  touches-run : (c : ℕ) → touches dx dy c r ≡ (leb head c && ltb c tail)
+  touches-run : (c : ℕ) → touches dx dy c r ≡ (leb first c && ltb c past)
   unfolding touches
   touches-run c =
       let low = ltb (dy * c) (dx * suc r) in
       let high = ltb (dx * r) (dy * suc c) in
-      iff-eq (low && high) (leb head c && ltb c tail)
-      (λ e. and-intro (leb head c) (ltb c tail)
-      (le-leb head c (from-head c (ltb-true (dx * r) (dy * suc c) (and-right low high e))))
-      (lt-ltb c tail (to-tail c (ltb-true (dy * c) (dx * suc r) (and-left low high e)))))
+      iff-eq (low && high) (leb first c && ltb c past)
+      (λ e. and-intro (leb first c) (ltb c past)
+      (le-leb first c (from-first c (ltb-true (dx * r) (dy * suc c) (and-right low high e))))
+      (lt-ltb c past (to-past c (ltb-true (dy * c) (dx * suc r) (and-left low high e)))))
       (λ e. and-intro low high
-      (lt-ltb (dy * c) (dx * suc r) (tail-after c (ltb-true c tail (and-right (leb head c) (ltb c tail) e))))
-      (lt-ltb (dx * r) (dy * suc c) (head-before c (leb-true head c (and-left (leb head c) (ltb c tail) e)))))
+      (lt-ltb (dy * c) (dx * suc r) (past-to c (ltb-true c past (and-right (leb first c) (ltb c past) e))))
+      (lt-ltb (dx * r) (dy * suc c) (first-from c (leb-true first c (and-left (leb first c) (ltb c past) e)))))
 
   -- Column dx lies past the run of every row of the box.
-  tail-le : r < dy → tail ≤ dx
-  tail-le l =
+  past-le : r < dy → past ≤ dx
+  past-le l =
       let m = mul-le-mul {n₁ = dx} {m₁ = suc r} {n₂ = dx} {m₂ = dy} (omega arith) l in
-      ⊎-elim (λ h. h) (λ h. absurd (omega (arith, tail-after dx h))) (le-or-lt tail dx)
+      let k : past < suc dx = lt-of-mul-lt-mul-left dy {m = past} {n = suc dx} (omega (arith, b .needed)) in
+      omega arith
 
   -- No run ends before it begins.
-  head-le : head ≤ tail
-  head-le =
-      le-div-iff-mul-le {k = dy} {x = head} {y = dx * r + dx + (dy - 1)} 0<dy .1
-      (omega (arith, div-mul-le-self (dx * r) dy))
+  first-le : r < dy → first ≤ past
+  first-le l =
+      le-of-mul-le-mul-left {m = first} {n = past} {k = dy} (omega (arith, b .reached, b .ended)) (omega arith)
 
--- ---- the run of a segment's row
+-- ---- the run between two crossings
 
-module _ (x0 y0 x1 y1 r : ℕ) (lr : r < span y0 y1) where
-  abbrev s : Segment
-  s = segmentOf x0 y0 x1 y1
+pub crosses-first : (dx dy : ℕ) → 1 ≤ dy → Crosses dx dy 0 0 0
+crosses-first dx dy h = record { at = omega arith; below = h }
 
-  abbrev dx : ℕ
-  dx = span x0 x1
+pub crosses-next : {u v dx dy r c rest c′ rest′ : ℕ} → u ≡ dx → v ≡ dy → Crosses dx dy r c rest
+    → Carried c rest (u / v) (u % v) v c′ rest′ → Crosses dx dy (r + 1) c′ rest′
+crosses-next {u} {v} {dx} {dy} {r} {c} {rest} {c′} {rest′} p q C k =
+    let d : Carried c rest (dx / dy) (dx % dy) dy c′ rest′ = rw (p, q) at k in
+    record { at = omega (arith, C .at, d .same, div-add-mod' dx dy); below = d .below }
 
-  abbrev dy : ℕ
-  dy = span y0 y1
+pub crosses-inside : {dx dy r c rest : ℕ} → Crosses dx dy r c rest → r ≤ dy → c ≤ dx
+crosses-inside {dx} {dy} {r} {c} C l =
+    le-of-mul-le-mul-left {m = c} {n = dx} {k = dy}
+    (omega (arith, C .at, mul-le-mul {n₁ = dx} {m₁ = r} {n₂ = dx} {m₂ = dy} (omega arith) l)) (omega (arith, C .below))
 
-  pub row-run : RowRun s r (dx * r / dy) ((dx * r + dx + (dy - 1)) / dy)
-  row-run = record {
-    ordered = head-le dx dy r (omega arith);
-    inside = tail-le dx dy r (omega arith) lr;
-    exact = λ c lc. enters-on x0 y0 x1 y1 c r lc lr ∙ touches-run dx dy r (omega arith) c;
-  }
+module _ {c rest c′ rest′ : ℕ} where
+  bounded : {past : ℕ}
+      → ((dx dy r : ℕ) → Crosses dx dy r c rest → Crosses dx dy (r + 1) c′ rest′ → Bounds dx dy r c past)
+      → RunBetween c rest c′ rest′ past
+  bounded {past} B x0 y0 x1 y1 r lr C D =
+      let b = B (span x0 x1) (span y0 y1) r C D in
+      record {
+        ordered = first-le b lr;
+        inside = past-le b lr;
+        exact = λ k l. enters-on x0 y0 x1 y1 k r l lr ∙ touches-run b k;
+      }
+
+  pub run-corner : rest′ ≡ 0 → RunBetween c rest c′ rest′ c′
+  run-corner z = bounded (λ dx dy r C D. record {
+    reached = omega (arith, C .at);
+    begun = omega (arith, C .at, C .below);
+    ended = omega (arith, D .at);
+    needed = omega (arith, D .at, D .below);
+  })
+
+  pub run-across : rest′ ≢ 0 → RunBetween c rest c′ rest′ (c′ + 1)
+  run-across z = bounded (λ dx dy r C D. record {
+    reached = omega (arith, C .at);
+    begun = omega (arith, C .at, C .below);
+    ended = omega (arith, D .at, D .below);
+    needed = omega (arith, D .at, D .below);
+  })
 
 -- ---- a look along a run
 
@@ -131,24 +169,63 @@ module _ (f : Floor) (x0 y0 x1 y1 r : ℕ) (lr : r < span y0 y1) {first past : �
       untouched k l (rw (le-ltb k past (omega arith)) (and-false (leb first k))))
 
   -- At a column of the run a reading decides.
-  module _ {c : ℕ} (a : Along f t r first c) (l : c < past) {b : Bool}
-      (e : b ≡ blocked f (suc (cellOn x0 x1 c)) (suc (cellOn y0 y1 r))) where
+  module _ {c : ℕ} (a : Along f t r first c) (l : c < past) where
     column-lt : c < n
     column-lt = omega (arith, run .inside)
 
-    read : cellFree f t r c ≡ not b
-    read =
-        free-touched f t r c
+    there : rowCell f t r c ≡ cellThere f t r c
+    unfolding cellThere rowCell
+    there =
+        let i = cellOn x0 x1 c in
+        let j = cellOn y0 y1 r in
+        ap (λ b. pick b Clear (cellAt f i j))
+        (free-touched f t r c
         (sym (enters-on x0 y0 x1 y1 c r column-lt lr) ∙ run .exact c column-lt
-        ∙ and-intro (leb first c) (ltb c past) (le-leb first c (a .begun)) (lt-ltb c past l))
-        ∙ ap not (sym e)
+        ∙ and-intro (leb first c) (ltb c past) (le-leb first c (a .begun)) (lt-ltb c past l)))
+        ∙ sym (pick-not (blocked f (suc i) (suc j)) (cellAt f i j) Clear)
 
-    pub along-more : b ≡ false → Along f t r first (c + 1)
-    along-more o = record {
+    pub along-more : {o : Obstacle} → o ≡ cellThere f t r c → isClear o ≡ true → Along f t r first (c + 1)
+    along-more {o} e d = record {
       begun = omega (arith, a .begun);
-      looked = looked-more (a .looked) column-lt (cell-past f t r c (read ∙ ap not o));
+      looked = looked-more (a .looked) column-lt (there ∙ sym e ∙ clear-is o d);
     }
 
-    pub along-stop : b ≡ true → cellAt f (cellOn x0 x1 c) (cellOn y0 y1 r) ≡ rowObstacle f t r
+    pub along-stop : {o : Obstacle} → o ≡ cellThere f t r c → isClear o ≡ false → o ≡ rowObstacle f t r
     unfolding rowObstacle
-    along-stop o = looked-stop (a .looked) column-lt (cell-met f t r c (read ∙ ap not o)) refl
+    along-stop {o} e d = looked-stop (a .looked) column-lt (there ∙ sym e) d
+
+-- ---- one cell in a row or two
+
+-- Of a segment with more rows than columns: the crossing of the next row line, in the same column or in the next.
+module _ {dx dy r c rest u v : ℕ} (C : Crosses dx dy r c rest) (p : u ≡ dx) (q : v ≡ dy) where
+  pub steep-same : rest + u < v → Crosses dx dy (r + 1) c (rest + u)
+  steep-same l = record { at = omega (arith, C .at); below = omega arith }
+
+  pub steep-next : dx < dy → v ≤ rest + u → Crosses dx dy (r + 1) (c + 1) (rest + u - v)
+  steep-next s l = record { at = omega (arith, C .at); below = omega (arith, C .below) }
+
+-- The run of such a row, from its first column: one cell or two.
+pub record Begun (s : Segment) (r first : ℕ) : Type 0 where
+  pub past : ℕ
+  pub some : first < past
+  pub few : past ≤ first + 1 + 1
+  pub run : RowRun s r first past
+
+one-cell : {s : Segment} {r c : ℕ} → RowRun s r c (c + 1) → Begun s r c
+one-cell {s} {r} {c} R = record { past = c + 1; some = omega arith; few = omega arith; run = R }
+
+two-cells : {s : Segment} {r c : ℕ} → RowRun s r c (c + 1 + 1) → Begun s r c
+two-cells {s} {r} {c} R = record { past = c + 1 + 1; some = omega arith; few = omega arith; run = R }
+
+pub steep-begun : (x0 y0 x1 y1 r : ℕ) {c rest : ℕ} → 1 ≤ span x0 x1 → span x0 x1 < span y0 y1 → r < span y0 y1
+    → Crosses (span x0 x1) (span y0 y1) r c rest → Begun (segmentOf x0 y0 x1 y1) r c
+steep-begun x0 y0 x1 y1 r {c} {rest} p q lr C =
+    let dx = span x0 x1 in
+    let dy = span y0 y1 in
+    ⊎-elim
+    (λ h.
+    let D = steep-next C refl refl q h in
+    ⊎-elim (λ z. one-cell (run-corner z x0 y0 x1 y1 r lr C D))
+    (λ z. two-cells (run-across z x0 y0 x1 y1 r lr C D)) (eq-or-ne (rest + dx - dy) 0))
+    (λ h. one-cell (run-across (λ z. omega arith) x0 y0 x1 y1 r lr C (steep-same C refl refl h)))
+    (le-or-lt dy (rest + dx))

@@ -1,5 +1,5 @@
--- What `sees` reads, in travel order from the first end: the steps along a column line, the steps along a row line, and
--- for a slanted segment the rows of its box.
+-- What `unblocked` reads, in travel order from the first end: the steps along a column line, the steps along a row
+-- line, and for a slanted segment the rows of its box.
 --
 --   upright-sees, level-sees == along a grid line no cell is entered, and a step is free or shut
 --   slanted-sees             == a slanted segment has no steps, and enters cells of its box alone
@@ -24,7 +24,7 @@ use Rattle.sight.specs.Sight.{
   uprightOpen,
   levelOpen,
   noStepShut,
-  sees,
+  unblocked,
 }
 use Rattle.sight.specs.Obstacle.{span, cellOn}
 use Rattle.sight.specs.Travel.{Ends, uprightFree, levelFree, touches, cellFree, rowFree}
@@ -52,8 +52,8 @@ unfolding enters
 level-enters x0 x1 y i j = rw (between-none y j, and-false (between x0 x1 i))
 
 upright-same : (f : Floor) (x y0 y1 : ℕ) → y0 ≤ f .high → y1 ≤ f .high
-    → sees f (segmentOf x y0 x y1) ≡ every (span y0 y1) (uprightFree f x y0 y1)
-unfolding sees noStepShut uprightFree
+    → unblocked f (segmentOf x y0 x y1) ≡ every (span y0 y1) (uprightFree f x y0 y1)
+unfolding unblocked noStepShut uprightFree
 upright-same f x y0 y1 p q =
     let m : min x x ≡ x = omega arith in
     rw (
@@ -67,8 +67,8 @@ upright-same f x y0 y1 p q =
     ∙ every-on (f .high) y0 y1 (uprightOpen f x) p q)
 
 level-same : (f : Floor) (y x0 x1 : ℕ) → x0 ≤ f .wide → x1 ≤ f .wide
-    → sees f (segmentOf x0 y x1 y) ≡ every (span x0 x1) (levelFree f y x0 x1)
-unfolding sees noStepShut levelFree
+    → unblocked f (segmentOf x0 y x1 y) ≡ every (span x0 x1) (levelFree f y x0 x1)
+unfolding unblocked noStepShut levelFree
 level-same f y x0 x1 p q =
     let m : min y y ≡ y = omega arith in
     rw (
@@ -83,10 +83,10 @@ level-same f y x0 x1 p q =
 -- ---- the three kinds of segment
 
 module _ (f : Floor) (x0 y0 x1 y1 : ℕ) (e : Ends (f .wide) (f .high) x0 y0 x1 y1) where
-  pub upright-sees : x0 ≡ x1 → sees f (segmentOf x0 y0 x1 y1) ≡ every (span y0 y1) (uprightFree f x0 y0 y1)
+  pub upright-sees : x0 ≡ x1 → unblocked f (segmentOf x0 y0 x1 y1) ≡ every (span y0 y1) (uprightFree f x0 y0 y1)
   upright-sees p = rw (← p) (upright-same f x0 y0 y1 (e .y-first) (e .y-last))
 
-  pub level-sees : y0 ≡ y1 → sees f (segmentOf x0 y0 x1 y1) ≡ every (span x0 x1) (levelFree f y0 x0 x1)
+  pub level-sees : y0 ≡ y1 → unblocked f (segmentOf x0 y0 x1 y1) ≡ every (span x0 x1) (levelFree f y0 x0 x1)
   level-sees p = rw (← p) (level-same f y0 x0 x1 (e .x-first) (e .x-last))
 
   abbrev s : Segment
@@ -132,8 +132,8 @@ module _ (f : Floor) (x0 y0 x1 y1 : ℕ) (e : Ends (f .wide) (f .high) x0 y0 x1 
       every-all (f .wide) (λ i. every (f .high) (free i)) (λ i li. every-all (f .high) (free i) (λ j lj.
       not-and (blocked f (suc i) (suc j)) (enters s i j) (free-entered rows i j)))
 
-  pub slanted-sees : x0 ≢ x1 → y0 ≢ y1 → sees f s ≡ every (span y0 y1) (rowFree f s)
-  unfolding sees noStepShut
+  pub slanted-sees : x0 ≢ x1 → y0 ≢ y1 → unblocked f s ≡ every (span y0 y1) (rowFree f s)
+  unfolding unblocked noStepShut
   slanted-sees n m =
       rw (ne-eqb x0 x1 n, ne-eqb y0 y1 m)
       (and-true (noCellEntered f s) ∙ iff-eq (noCellEntered f s) (every (span y0 y1) (rowFree f s)) to-rows from-rows)

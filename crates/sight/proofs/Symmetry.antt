@@ -1,12 +1,13 @@
--- Sight is the same both ways, a vertex sees itself, and two floors with the same cells see the same.
+-- Sight is the same both ways, a vertex sees itself, a pinch too, and two floors with the same cells see the same.
 --
 --   back s     == the segment from the last end to the first
 --   sees-back  == the law for a segment; sees-segment-back for two vertices by their numbers
 --   sees-self  == the law for a point; sees-segment-self for a vertex by its number
 --   sees-same  == the law for two floors
-use Prim.Native.Nat.{ℕ, suc, _<_, min}
+--   unblocked-back, -self, -same == the same of cells and steps alone; passes-back of the vertices passed
+use Prim.Native.Nat.{ℕ, suc, _<_, min, max}
 use mathlib.Core.Path.{_≡_, refl, ap₂, _∙_}
-use mathlib.Core.Bool.{Bool, true, _&&_, _||_}
+use mathlib.Core.Bool.{Bool, true, _&&_, _||_, not}
 use native.Mathlib.Omega.{arith}
 use borrow.Author.Tests.{eq-eqb}
 use lib.Dec.{ltb}
@@ -25,6 +26,11 @@ use Rattle.sight.specs.Sight.{
   uprightOpen,
   levelOpen,
   noStepShut,
+  unblocked,
+  pinch,
+  spans,
+  passes,
+  noPinchPassed,
   sees,
 }
 use Rattle.sight.proofs.Travel.{between-back}
@@ -42,11 +48,11 @@ module _ (s : Segment) (p q : ℕ) where
   more-back : more (s .x1) (s .y1) (s .x0) (s .y0) p q ≡ less (s .x0) (s .y0) (s .x1) (s .y1) p q
   more-back = omega arith
 
-  positive-back : positive (back s) p q ≡ negative s p q
+  pub positive-back : positive (back s) p q ≡ negative s p q
   unfolding positive negative
   positive-back = ap₂ ltb less-back more-back
 
-  negative-back : negative (back s) p q ≡ positive s p q
+  pub negative-back : negative (back s) p q ≡ positive s p q
   unfolding positive negative
   negative-back = ap₂ ltb more-back less-back
 
@@ -62,9 +68,9 @@ enters-back s i j =
     (corner-same (negative (back s)) (positive s) i j (negative-back s))
     ∙ and-comm (corner (negative s) i j) (corner (positive s) i j))
 
-pub sees-back : (f : Floor) (s : Segment) → sees f (back s) ≡ sees f s
-unfolding sees noCellEntered noStepShut
-sees-back f s =
+pub unblocked-back : (f : Floor) (s : Segment) → unblocked f (back s) ≡ unblocked f s
+unfolding unblocked noCellEntered noStepShut
+unblocked-back f s =
     let px : min (s .x1) (s .x0) ≡ min (s .x0) (s .x1) = omega arith in
     let py : min (s .y1) (s .y0) ≡ min (s .y0) (s .y1) = omega arith in
     simp (
@@ -77,13 +83,9 @@ sees-back f s =
       eqb-sym (s .y1) (s .y0),
     )
 
-pub sees-segment-back : (f : Floor) (w a b : ℕ) → sees f (segment w b a) ≡ sees f (segment w a b)
-unfolding segment
-sees-segment-back f w a b = sees-back f (segmentOf (column w a) (row w a) (column w b) (row w b))
-
-pub sees-self : (f : Floor) (x y : ℕ) → sees f (segmentOf x y x y) ≡ true
-unfolding sees noStepShut
-sees-self f x y =
+pub unblocked-self : (f : Floor) (x y : ℕ) → unblocked f (segmentOf x y x y) ≡ true
+unfolding unblocked noStepShut
+unblocked-self f x y =
     let mx : min x x ≡ x = omega arith in
     let my : min y y ≡ y = omega arith in
     rw (
@@ -96,11 +98,46 @@ sees-self f x y =
       none-between (f .wide) x (λ i. levelOpen f i y),
     )
 
+pub unblocked-same : (f h : Floor) → f .wide ≡ h .wide → f .high ≡ h .high
+    → ((i j : ℕ) → i < f .wide → j < f .high → f .cell i j ≡ h .cell i j) → (s : Segment)
+    → unblocked f s ≡ unblocked h s
+unfolding unblocked noCellEntered noStepShut uprightOpen levelOpen
+unblocked-same f h p q e s = simp (p, q, blocked-same f h p q e)
+
+-- ---- the laws of sight, pinches counted
+
+spans-back : (a b p : ℕ) → spans a b p ≡ spans b a p
+unfolding spans
+spans-back a b p =
+    let low : min a b ≡ min b a = omega arith in
+    let high : max a b ≡ max b a = omega arith in
+    rw (low, high)
+
+passes-back : (s : Segment) (p q : ℕ) → passes (back s) p q ≡ passes s p q
+unfolding passes
+passes-back s p q =
+    ap₂ _&&_ (ap₂ _&&_ (spans-back (s .x1) (s .x0) p) (spans-back (s .y1) (s .y0) q))
+    (ap₂ (λ a b. not a && not b) (positive-back s p q) (negative-back s p q)
+    ∙ and-comm (not (negative s p q)) (not (positive s p q)))
+
+pub sees-back : (f : Floor) (s : Segment) → sees f (back s) ≡ sees f s
+unfolding sees noPinchPassed
+sees-back f s =
+    simp (unblocked-back f s, passes-back s, eqb-sym (s .x1) (s .x0), eqb-sym (s .y1) (s .y0))
+
+pub sees-segment-back : (f : Floor) (w a b : ℕ) → sees f (segment w b a) ≡ sees f (segment w a b)
+unfolding segment
+sees-segment-back f w a b = sees-back f (segmentOf (column w a) (row w a) (column w b) (row w b))
+
+pub sees-self : (f : Floor) (x y : ℕ) → sees f (segmentOf x y x y) ≡ true
+unfolding sees
+sees-self f x y = rw (unblocked-self f x y, eq-eqb x x refl, eq-eqb y y refl)
+
 pub sees-segment-self : (f : Floor) (w a : ℕ) → sees f (segment w a a) ≡ true
 unfolding segment
 sees-segment-self f w a = sees-self f (column w a) (row w a)
 
 pub sees-same : (f h : Floor) → f .wide ≡ h .wide → f .high ≡ h .high
     → ((i j : ℕ) → i < f .wide → j < f .high → f .cell i j ≡ h .cell i j) → (s : Segment) → sees f s ≡ sees h s
-unfolding sees noCellEntered noStepShut uprightOpen levelOpen
-sees-same f h p q e s = simp (p, q, blocked-same f h p q e)
+unfolding sees noPinchPassed pinch
+sees-same f h p q e s = simp (unblocked-same f h p q e s, p, q, blocked-same f h p q e)

@@ -9,7 +9,7 @@
 use Prim.Native.Nat.{ℕ, suc, _+_, _-_, _≤_, _<_, min, max}
 use mathlib.Core.Path.{_≡_, refl, sym}
 use mathlib.Core.Bool.{Bool, true, false, _||_, not}
-use mathlib.Core.Logic.{⊎-elim}
+use mathlib.Core.Logic.{_≢_, ⊎-elim}
 use native.Mathlib.Omega.{arith}
 use borrow.Author.Tests.{ltb-true, lt-ltb, le-ltb, leb-true, le-leb, lt-leb}
 use lib.Dec.{leb, ltb}
@@ -31,6 +31,10 @@ span-down a b h = omega arith
 pub span-le : (a b n : ℕ) → a ≤ n → b ≤ n → span a b ≤ n
 unfolding span
 span-le a b n p q = omega arith
+
+pub span-apart : (a b : ℕ) → a ≢ b → 1 ≤ span a b
+unfolding span
+span-apart a b n = omega (arith, n)
 
 pub cellOn-up : (a b k : ℕ) → a ≤ b → cellOn a b k ≡ a + k
 unfolding cellOn

@@ -1,8 +1,9 @@
 -- A unit segment reads the two cells beside it along a grid line, and one cell across a diagonal.
 --
---   unit-still, -upright, -level, -slanted == whether two ends at most one column and one row apart see each other
---   unit-clear                             == nothing is in the way where they do
---   upright-step, level-step, slanted-cell == what is in the way where they do not
+--   unit-still, -upright, -level, -slanted == whether no cell and no step is in the way, of two ends at most one column
+--                                             and one row apart
+--   unit-clear                             == none is named where none is
+--   upright-step, level-step, slanted-cell == the one that is named
 use Prim.Native.Nat.{ℕ, suc, _-_, _≤_, max}
 use mathlib.Core.Path.{_≡_, sym, ap, ap₂, _∙_}
 use mathlib.Core.Bool.{Bool, true, false, not, and-true}
@@ -11,8 +12,8 @@ use native.Mathlib.Omega.{arith}
 use Rattle.basics.specs.Bounded.{every}
 use Rattle.basics.proofs.Order.{le-or-lt}
 use Rattle.floor.specs.Floor.{Floor, blocked}
-use Rattle.sight.specs.Sight.{Segment, segmentOf, uprightOpen, levelOpen, sees}
-use Rattle.sight.specs.Obstacle.{cellAt, stepAt, span, cellOn, first, uprightStep, levelStep, obstacle}
+use Rattle.sight.specs.Sight.{Segment, segmentOf, uprightOpen, levelOpen, unblocked}
+use Rattle.sight.specs.Obstacle.{cellAt, stepAt, span, cellOn, first, uprightStep, levelStep, blockage}
 use Rattle.sight.specs.Travel.{
   Ends,
   uprightTo,
@@ -29,14 +30,14 @@ use Rattle.sight.specs.declared.Obstacle.{Obstacle}
 use Rattle.sight.specs.declared.Obstacle.the-variants.{Clear}
 use Rattle.sight.proofs.Travel.{cellOn-up, cellOn-down, start-first}
 use Rattle.sight.proofs.Sees.{upright-sees, level-sees, slanted-sees}
-use Rattle.sight.proofs.Symmetry.{sees-self}
+use Rattle.sight.proofs.Symmetry.{unblocked-self}
 use Rattle.sight.proofs.First.{clear-is}
 use Rattle.sight.proofs.Obstacles.{
   upright-obstacle,
   level-obstacle,
   slanted-obstacle,
   cell-met,
-  obstacle-sees,
+  blockage-clear,
 }
 
 span-none : (a b : ℕ) → span a b ≡ 0 → a ≡ b
@@ -66,16 +67,16 @@ module _ (f : Floor) (x0 y0 x1 y1 : ℕ) (e : Ends (f .wide) (f .high) x0 y0 x1 
   abbrev s : Segment
   s = segmentOf x0 y0 x1 y1
 
-  pub unit-still : span x0 x1 ≡ 0 → span y0 y1 ≡ 0 → sees f s ≡ true
-  unit-still p q = rw (← span-none x0 x1 p, ← span-none y0 y1 q) (sees-self f x0 y0)
+  pub unit-still : span x0 x1 ≡ 0 → span y0 y1 ≡ 0 → unblocked f s ≡ true
+  unit-still p q = rw (← span-none x0 x1 p, ← span-none y0 y1 q) (unblocked-self f x0 y0)
 
-  pub unit-upright : span x0 x1 ≡ 0 → span y0 y1 ≡ 1 → sees f s ≡ uprightTo f x0 (max y0 y1)
+  pub unit-upright : span x0 x1 ≡ 0 → span y0 y1 ≡ 1 → unblocked f s ≡ uprightTo f x0 (max y0 y1)
   unfolding uprightFree uprightOpen
   unit-upright p q =
       upright-sees f x0 y0 x1 y1 e (span-none x0 x1 p) ∙ every-one (span y0 y1) (uprightFree f x0 y0 y1) q
       ∙ rw (cell-one y0 y1 q)
 
-  pub unit-level : span x0 x1 ≡ 1 → span y0 y1 ≡ 0 → sees f s ≡ levelTo f (max x0 x1) y0
+  pub unit-level : span x0 x1 ≡ 1 → span y0 y1 ≡ 0 → unblocked f s ≡ levelTo f (max x0 x1) y0
   unfolding levelFree levelOpen
   unit-level p q =
       level-sees f x0 y0 x1 y1 e (span-none y0 y1 q) ∙ every-one (span x0 x1) (levelFree f y0 x0 x1) p
@@ -87,7 +88,7 @@ module _ (f : Floor) (x0 y0 x1 y1 : ℕ) (e : Ends (f .wide) (f .high) x0 y0 x1 
   free-one p q =
       rw (cell-one x0 x1 p, cell-one y0 y1 q, p, q) (ap not (and-true (blocked f (max x0 x1) (max y0 y1))))
 
-  pub unit-slanted : span x0 x1 ≡ 1 → span y0 y1 ≡ 1 → sees f s ≡ not (blocked f (max x0 x1) (max y0 y1))
+  pub unit-slanted : span x0 x1 ≡ 1 → span y0 y1 ≡ 1 → unblocked f s ≡ not (blocked f (max x0 x1) (max y0 y1))
   unfolding rowFree
   unit-slanted p q =
       slanted-sees f x0 y0 x1 y1 e (apart x0 x1 p) (apart y0 y1 q) ∙ every-one (span y0 y1) (rowFree f s) q
@@ -95,18 +96,18 @@ module _ (f : Floor) (x0 y0 x1 y1 : ℕ) (e : Ends (f .wide) (f .high) x0 y0 x1 
 
   -- ---- what is in the way
 
-  pub unit-clear : sees f s ≡ true → Clear ≡ obstacle f s
-  unit-clear t = sym (clear-is (obstacle f s) (obstacle-sees f x0 y0 x1 y1 e ∙ t))
+  pub unit-clear : unblocked f s ≡ true → Clear ≡ blockage f s
+  unit-clear t = sym (clear-is (blockage f s) (blockage-clear f x0 y0 x1 y1 e ∙ t))
 
-  module _ (shut : sees f s ≡ false) where
-    -- The ends do not see each other, so they are two.
+  module _ (shut : unblocked f s ≡ false) where
+    -- Something is in the way, so the ends are two.
     two : span x0 x1 ≡ 0 → span y0 y1 ≢ 0
     two p q =
         let t : true ≡ false = sym (unit-still p q) ∙ shut in
         let z : _≡_ {A = ℕ} 0 1 = cc in
         omega arith
 
-    pub upright-step : span x0 x1 ≡ 0 → span y0 y1 ≤ 1 → stepAt f x0 y0 ≡ obstacle f s
+    pub upright-step : span x0 x1 ≡ 0 → span y0 y1 ≤ 1 → stepAt f x0 y0 ≡ blockage f s
     unfolding uprightStep uprightOpen
     upright-step p n =
         let q : span y0 y1 ≡ 1 = omega (arith, two p) in
@@ -115,7 +116,7 @@ module _ (f : Floor) (x0 y0 x1 y1 : ℕ) (e : Ends (f .wide) (f .high) x0 y0 x1 
         (upright-obstacle f x0 y0 x1 y1 (span-none x0 x1 p) ∙ first-one (span y0 y1) (uprightStep f x0 y0 y1) q
         ∙ rw (cell-one y0 y1 q, start-first y0 y1, free))
 
-    pub level-step : span x0 x1 ≡ 1 → span y0 y1 ≡ 0 → stepAt f x0 y0 ≡ obstacle f s
+    pub level-step : span x0 x1 ≡ 1 → span y0 y1 ≡ 0 → stepAt f x0 y0 ≡ blockage f s
     unfolding levelStep levelOpen
     level-step p q =
         let free : levelTo f (max x0 x1) y0 ≡ false = sym (unit-level p q) ∙ shut in
@@ -125,7 +126,7 @@ module _ (f : Floor) (x0 y0 x1 y1 : ℕ) (e : Ends (f .wide) (f .high) x0 y0 x1 
         ∙ rw (cell-one x0 x1 p, start-first x0 x1, free))
 
     pub slanted-cell : span x0 x1 ≡ 1 → span y0 y1 ≡ 1
-        → cellAt f (max x0 x1 - 1) (max y0 y1 - 1) ≡ obstacle f s
+        → cellAt f (max x0 x1 - 1) (max y0 y1 - 1) ≡ blockage f s
     unfolding rowObstacle
     slanted-cell p q =
         let i : max x0 x1 - 1 ≡ cellOn x0 x1 0 = omega (arith, cell-one x0 x1 p) in

@@ -1,4 +1,5 @@
--- Request 2, "Sight must say what was in the way": what a segment meets first, going from its first end.
+-- Request 2, "Sight must say what was in the way", and request 5, "the sight answer names the pinch nearest the first
+-- end when no cell or step is in the way": what a segment meets first, going from its first end.
 --
 --   span a b              == how many cells lie between the grid lines a and b
 --   cellOn a b k          == the k-th of them from a towards b, from 0
@@ -8,30 +9,38 @@
 --   uprightStep f x a b k == the vertex where the k-th step along column line x begins, from row a towards row b, where
 --                            the step is shut
 --   levelStep f y a b k   == the same along row line y, from column a towards column b
---   obstacle f s          == the first shut step of a segment along a grid line; of the blocked cells that a slanted
+--   blockage f s          == the first shut step of a segment along a grid line; of the blocked cells that a slanted
 --                            segment enters, the one least far in columns from the first end, of equals least far in
 --                            rows; Clear where there is none
+--   passedPinch f s c r   == the vertex c columns and r rows from the first end, where it is a pinch and passed
+--   nearestPinch f s      == of the pinches that s passes, the one least far in columns from the first end, of equals
+--                            least far in rows: on one line, the nearest
+--   obstacle f s          == the blockage; where there is none, and s has a length, the nearest pinch
 --   isClear o             == nothing is in the way
 use Prim.Native.Nat.{ℕ, zero, suc, _+_, _-_, min, max}
 use mathlib.Core.Bool.{Bool, true, false, _&&_}
 use lib.Dec.{leb, eqb}
 use Rattle.basics.specs.Bounded.{pick}
 use Rattle.floor.specs.Floor.{Floor, cellNumber, blocked, number}
-use Rattle.sight.specs.Sight.{Segment, enters, uprightOpen, levelOpen}
+use Rattle.sight.specs.Sight.{Segment, enters, uprightOpen, levelOpen, pinch, passes, still}
 use Rattle.sight.specs.declared.Obstacle.{Obstacle}
-use Rattle.sight.specs.declared.Obstacle.the-variants.{Clear, Cell, Step}
+use Rattle.sight.specs.declared.Obstacle.the-variants.{Clear, Cell, Step, Pinch}
 
 abbrev pub isClear : Obstacle → Bool
 isClear Clear = true
 isClear (Cell c) = false
 isClear (Step v) = false
+isClear (Pinch v) = false
 
--- The cell in column i and row j, and the step that begins in the vertex (x, y), as an answer.
+-- The cell in column i and row j, the step that begins in the vertex (x, y), and that vertex as a pinch, as an answer.
 abbrev pub cellAt : Floor → ℕ → ℕ → Obstacle
 cellAt f i j = Cell (record { 0 = cellNumber (f .wide) i j })
 
 abbrev pub stepAt : Floor → ℕ → ℕ → Obstacle
 stepAt f x y = Step (record { 0 = number (f .wide) x y })
+
+abbrev pub pinchAt : Floor → ℕ → ℕ → Obstacle
+pinchAt f x y = Pinch (record { 0 = number (f .wide) x y })
 
 -- ---- counted from the first end
 
@@ -50,6 +59,7 @@ abbrev pub orElse : Obstacle → Obstacle → Obstacle
 orElse Clear o = o
 orElse (Cell c) o = Cell c
 orElse (Step v) o = Step v
+orElse (Pinch v) o = Pinch v
 
 unfoldable pub first : ℕ → (ℕ → Obstacle) → Obstacle
 first zero F = Clear
@@ -67,13 +77,28 @@ uprightStep f x a b k = pick (uprightOpen f x (cellOn a b k)) Clear (stepAt f x 
 unfoldable pub levelStep : Floor → ℕ → ℕ → ℕ → ℕ → Obstacle
 levelStep f y a b k = pick (levelOpen f (cellOn a b k) y) Clear (stepAt f (startOn a b k) y)
 
-unfoldable pub obstacle : Floor → Segment → Obstacle
-obstacle f s =
+unfoldable pub blockage : Floor → Segment → Obstacle
+blockage f s =
     pick (eqb (s .x0) (s .x1)) (first (span (s .y0) (s .y1)) (uprightStep f (s .x0) (s .y0) (s .y1)))
     (pick (eqb (s .y0) (s .y1)) (first (span (s .x0) (s .x1)) (levelStep f (s .y0) (s .x0) (s .x1)))
     (first (span (s .x0) (s .x1)) (λ c. first (span (s .y0) (s .y1)) (blockedCell f s c))))
 
+-- ---- pinches
+
+unfoldable pub passedPinch : Floor → Segment → ℕ → ℕ → Obstacle
+passedPinch f s c r =
+    let x = startOn (s .x0) (s .x1) c in
+    let y = startOn (s .y0) (s .y1) r in
+    pick (pinch f x y && passes s x y) (pinchAt f x y) Clear
+
+unfoldable pub nearestPinch : Floor → Segment → Obstacle
+nearestPinch f s = first (suc (span (s .x0) (s .x1))) (λ c. first (suc (span (s .y0) (s .y1))) (passedPinch f s c))
+
+-- A blocked cell or a shut step, wherever it is, is named before a pinch.
+unfoldable pub obstacle : Floor → Segment → Obstacle
+obstacle f s = orElse (blockage f s) (pick (still s) Clear (nearestPinch f s))
+
 -- Named on an `unfolding` line, this opens all of the above, for a theorem that is computed.
 unfoldable pub obstacle-opened : ℕ
-unfolding span cellOn startOn first blockedCell uprightStep levelStep obstacle
+unfolding span cellOn startOn first blockedCell uprightStep levelStep blockage passedPinch nearestPinch obstacle
 obstacle-opened = 0

@@ -1,11 +1,19 @@
--- Document 01, "Sight": the two faults of a segment between vertices, in whole numbers.
+-- Document 01, "Sight": the two faults of a segment between vertices, in whole numbers; and request 5, "Carts have
+-- corners": no segment longer than zero may start, end at or pass through a pinch.
 --
 --   Segment           == from the vertex (x0, y0) to the vertex (x1, y1)
 --   enters s i j      == the segment enters cell (i, j)
 --   noCellEntered f s == no blocked cell is entered
 --   noStepShut f s    == along a grid line, no unit step has a blocked cell on both sides, outside counted
+--   unblocked f s     == s has neither fault
+--   pinch f x y       == exactly two of the four cells at the vertex (x, y) are blocked, and they are diagonal to each
+--                        other
+--   passes s p q      == s starts in, ends at or passes through the vertex (p, q)
+--   noPinchPassed f s == no vertex that s passes is a pinch
+--   still s           == s has no length
 --   sees f s          == the ends of s see each other
 --   between a b k     == min a b ≤ k and k + 1 ≤ max a b
+--   spans a b p       == min a b ≤ p and p ≤ max a b
 --   segment w a b     == the segment between two vertices by their numbers
 use Prim.Native.Nat.{ℕ, suc, _+_, _*_, min, max}
 use mathlib.Core.Bool.{Bool, _&&_, _||_, not}
@@ -63,10 +71,36 @@ noStepShut f s =
     && (not (eqb (s .y0) (s .y1))
     || every (f .wide) (λ i. not (between (s .x0) (s .x1) i) || levelOpen f i (min (s .y0) (s .y1))))
 
+unfoldable pub unblocked : Floor → Segment → Bool
+unblocked f s = noCellEntered f s && noStepShut f s
+
+-- ---- pinches
+
+-- The cells at the vertex (x, y) on one diagonal are blocked and those on the other are open.
+unfoldable pub pinch : Floor → ℕ → ℕ → Bool
+pinch f x y =
+    (blocked f x y && blocked f (suc x) (suc y) && (not (blocked f (suc x) y) && not (blocked f x (suc y))))
+    || (not (blocked f x y) && not (blocked f (suc x) (suc y)) && (blocked f (suc x) y && blocked f x (suc y)))
+
+unfoldable pub spans : ℕ → ℕ → ℕ → Bool
+spans a b p = leb (min a b) p && leb p (max a b)
+
+-- The vertex lies in the segment's box, its edges counted, and on its line.
+unfoldable pub passes : Segment → ℕ → ℕ → Bool
+passes s p q = spans (s .x0) (s .x1) p && spans (s .y0) (s .y1) q && (not (positive s p q) && not (negative s p q))
+
+unfoldable pub noPinchPassed : Floor → Segment → Bool
+noPinchPassed f s = every (suc (f .wide)) (λ p. every (suc (f .high)) (λ q. not (pinch f p q && passes s p q)))
+
+-- The segment has no length.
+abbrev pub still : Segment → Bool
+still s = eqb (s .x0) (s .x1) && eqb (s .y0) (s .y1)
+
 unfoldable pub sees : Floor → Segment → Bool
-sees f s = noCellEntered f s && noStepShut f s
+sees f s = unblocked f s && (still s || noPinchPassed f s)
 
 -- Named on an `unfolding` line, this opens all of the above, for a theorem that is computed.
 unfoldable pub sight-opened : ℕ
-unfolding segment positive negative between corner enters noCellEntered uprightOpen levelOpen noStepShut sees
+unfolding segment positive negative between corner enters noCellEntered uprightOpen levelOpen noStepShut unblocked pinch
+    spans passes noPinchPassed sees
 sight-opened = 0

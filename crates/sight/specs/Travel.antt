@@ -1,5 +1,5 @@
 -- Columns and rows counted from a segment's first end towards the other, whichever way it goes. Nobody has to believe
--- these: contracts of the scans cite them, and the laws in proofs/ tie them to `sees` and `obstacle`.
+-- these: contracts of the scans cite them, and the laws in proofs/ tie them to `unblocked` and `obstacle`.
 --
 --   Ends w h x0 y0 x1 y1  == both ends of a segment lie on the floor
 --   Apart x0 y0 x1 y1 c r == they are c columns and r rows apart
@@ -8,15 +8,23 @@
 --   touches dx dy c r     == a segment dx wide and dy high enters the cell c columns and r rows from its first end
 --   cellFree, rowFree     == that cell is open or not entered, and each cell of that row
 --   rowCell, rowObstacle  == that cell, where it is in the way, and the first such cell of that row
+--   cellThere f s r c     == that cell, where it is blocked
 --   RowRun s r first past == the cells that s enters in that row are those from column first to before column past
-use Prim.Native.Nat.{ℕ, suc, _*_, _≤_, _<_}
+--   Crosses dx dy r c rest == where a segment crosses the row line r rows from its first end
+--   Carried ..            == the crossing one row on
+--   RunBetween ..         == the cells entered between two crossings one row apart
+--   pinchHere f x y       == the vertex (x, y), where it is a pinch
+--   pinchThere f s c r    == the vertex c columns and r rows from the first end, where it is a pinch
+--   Divides a b           == b is a multiple of a
+--   Common a b n          == n is the greatest number that divides a and b
+use Prim.Native.Nat.{ℕ, suc, _+_, _*_, _≤_, _<_}
 use mathlib.Core.Path.{_≡_}
 use mathlib.Core.Bool.{Bool, _&&_, not}
 use lib.Dec.{leb, ltb}
 use Rattle.basics.specs.Bounded.{pick, every}
 use Rattle.floor.specs.Floor.{Floor, blocked}
-use Rattle.sight.specs.Sight.{Segment, enters, uprightOpen, levelOpen}
-use Rattle.sight.specs.Obstacle.{cellAt, span, cellOn, first}
+use Rattle.sight.specs.Sight.{Segment, segmentOf, enters, uprightOpen, levelOpen, pinch}
+use Rattle.sight.specs.Obstacle.{cellAt, span, cellOn, startOn, first, pinchAt}
 use Rattle.sight.specs.declared.Obstacle.{Obstacle}
 use Rattle.sight.specs.declared.Obstacle.the-variants.{Clear}
 
@@ -63,7 +71,14 @@ rowFree f s r = every (span (s .x0) (s .x1)) (cellFree f s r)
 unfoldable pub rowCell : Floor → Segment → ℕ → ℕ → Obstacle
 rowCell f s r c = pick (cellFree f s r c) Clear (cellAt f (cellOn (s .x0) (s .x1) c) (cellOn (s .y0) (s .y1) r))
 
--- The first such cell in the row r rows from the first end.
+-- That cell, where it is blocked, entered or not.
+unfoldable pub cellThere : Floor → Segment → ℕ → ℕ → Obstacle
+cellThere f s r c =
+    let i = cellOn (s .x0) (s .x1) c in
+    let j = cellOn (s .y0) (s .y1) r in
+    pick (blocked f (suc i) (suc j)) (cellAt f i j) Clear
+
+-- The first cell that is blocked and entered in the row r rows from the first end.
 unfoldable pub rowObstacle : Floor → Segment → ℕ → Obstacle
 rowObstacle f s r = first (span (s .x0) (s .x1)) (rowCell f s r)
 
@@ -74,3 +89,43 @@ pub record RowRun (s : Segment) (r first past : ℕ) : Type 0 where
   pub inside : past ≤ span (s .x0) (s .x1)
   pub exact : (c : ℕ) → c < span (s .x0) (s .x1)
       → enters s (cellOn (s .x0) (s .x1) c) (cellOn (s .y0) (s .y1) r) ≡ (leb first c && ltb c past)
+
+-- ---- crossings
+
+-- A segment dx columns wide and dy rows high crosses the row line r rows from its first end c columns from there, and
+-- rest of dy parts of a column on.
+pub record Crosses (dx dy r c rest : ℕ) : Type 0 where
+  pub at : dx * r ≡ dy * c + rest
+  pub below : rest < dy
+
+-- From the crossing at c and rest, one row on, where a row is worth `step` columns and `part` of dy parts.
+pub record Carried (c rest step part dy c′ rest′ : ℕ) : Type 0 where
+  pub same : dy * c′ + rest′ ≡ dy * c + rest + (dy * step + part)
+  pub below : rest′ < dy
+
+-- Whichever segment crosses the two lines of a row there, it enters the cells from column c to before column `past`.
+abbrev pub RunBetween : ℕ → ℕ → ℕ → ℕ → ℕ → Type 0
+RunBetween c rest c′ rest′ past =
+    (x0 y0 x1 y1 r : ℕ) → r < span y0 y1 → Crosses (span x0 x1) (span y0 y1) r c rest
+    → Crosses (span x0 x1) (span y0 y1) (r + 1) c′ rest′ → RowRun (segmentOf x0 y0 x1 y1) r c past
+
+-- ---- pinches
+
+-- The vertex (x, y) as an answer, where it is a pinch.
+unfoldable pub pinchHere : Floor → ℕ → ℕ → Obstacle
+pinchHere f x y = pick (pinch f x y) (pinchAt f x y) Clear
+
+-- The vertex c columns and r rows from the first end, where it is a pinch, passed or not.
+unfoldable pub pinchThere : Floor → Segment → ℕ → ℕ → Obstacle
+pinchThere f s c r = pinchHere f (startOn (s .x0) (s .x1) c) (startOn (s .y0) (s .y1) r)
+
+-- A multiple of a.
+pub record Divides (a b : ℕ) : Type 0 where
+  pub times : ℕ
+  pub is : b ≡ a * times
+
+-- The greatest number that divides a and b: it divides both, and whatever divides r times both divides r times it.
+pub record Common (a b n : ℕ) : Type 0 where
+  pub first : Divides n a
+  pub second : Divides n b
+  pub greatest : (m r : ℕ) → Divides m (a * r) → Divides m (b * r) → Divides m (n * r)

@@ -3,8 +3,8 @@ ghost use mathlib.Core.Path.{_≡_};
 ghost use Prim.Native.Nat.{_<_, _≤_, max};
 ghost use Rattle.floor.specs.Floor.{Sized, floorOf, vertices};
 ghost use Rattle.floor.specs.Refusals.{floorShape, endShape, andThen};
-ghost use Rattle.sight.specs.Sight.{segmentOf, segment, sees};
-ghost use Rattle.sight.specs.Obstacle.{isClear, obstacle};
+ghost use Rattle.sight.specs.Sight.{segmentOf, segment, unblocked, pinch, sees};
+ghost use Rattle.sight.specs.Obstacle.{isClear, blockage, obstacle};
 ghost use Rattle.sight.specs.Question.{sightAnswer, sightNumber};
 ghost use Rattle.sight.specs.Travel.{Ends, Apart};
 use floor::Cell;
@@ -12,14 +12,16 @@ use floor::Refusal;
 use floor::Shape;
 use floor::Vertex;
 
+mod pinches; // pinches.rt: the pinches that a segment passes, looked at in turn
 mod scan; // scan.rt: the steps and cells of a segment, looked at in turn
 
-// What is in the way from one vertex to another: nothing, a blocked cell that is entered, or a shut step, by the vertex
-// where it begins.
+// What is in the way from one vertex to another: nothing, a blocked cell that is entered, a shut step, by the vertex
+// where it begins, or a pinch.
 pub enum Obstacle {
     Clear,
     Cell(Cell),
     Step(Vertex),
+    Pinch(Vertex),
 }
 
 // The answer to the sight question.
@@ -36,6 +38,7 @@ pub fn is_clear(o: Obstacle) -> bool
         Obstacle::Clear => true,
         Obstacle::Cell(_) => false,
         Obstacle::Step(_) => false,
+        Obstacle::Pinch(_) => false,
     }
 }
 
@@ -64,9 +67,9 @@ fn higher(a: usize, b: usize) -> usize
     a
 }
 
-// Whether two vertices at most one column and one row apart see each other. It reads at most two cells, and one across a
-// diagonal.
-fn unit_in_sight(
+// Whether no blocked cell and no shut step is in the way between two vertices at most one column and one row apart. It
+// reads at most two cells, and one across a diagonal.
+fn unit_unblocked(
     w: usize,
     h: usize,
     map: &[u8],
@@ -79,7 +82,7 @@ fn unit_in_sight(
 ) -> bool
     requires { ⌜ Sized w h (now map) × Ends w h x0 y0 x1 y1 × Apart x0 y0 x1 y1 columns rows
         × (columns ≤ 1) × (rows ≤ 1) ⌝ }
-    ensures { λ r. ⌜ r ≡ sees (floorOf w h (now (map .entry))) (segmentOf x0 y0 x1 y1) ⌝ }
+    ensures { λ r. ⌜ r ≡ unblocked (floorOf w h (now (map .entry))) (segmentOf x0 y0 x1 y1) ⌝ }
 {
     let x = higher(x0, x1);
     let y = higher(y0, y1);
@@ -95,8 +98,8 @@ fn unit_in_sight(
     !floor::blocked_at(w, h, map, x, y)
 }
 
-// What is in the way between two such vertices.
-fn unit_obstacle(
+// The blocked cell or the shut step between two such vertices.
+fn unit_blockage(
     w: usize,
     h: usize,
     map: &[u8],
@@ -109,9 +112,9 @@ fn unit_obstacle(
 ) -> Obstacle
     requires { ⌜ Sized w h (now map) × Ends w h x0 y0 x1 y1 × Apart x0 y0 x1 y1 columns rows
         × (columns ≤ 1) × (rows ≤ 1) ⌝ }
-    ensures { λ r. ⌜ r ≡ obstacle (floorOf w h (now (map .entry))) (segmentOf x0 y0 x1 y1) ⌝ }
+    ensures { λ r. ⌜ r ≡ blockage (floorOf w h (now (map .entry))) (segmentOf x0 y0 x1 y1) ⌝ }
 {
-    if unit_in_sight(w, h, map, x0, y0, x1, y1, columns, rows) {
+    if unit_unblocked(w, h, map, x0, y0, x1, y1, columns, rows) {
         return Obstacle::Clear;
     }
     if columns == 0 {
@@ -123,8 +126,32 @@ fn unit_obstacle(
     Obstacle::Cell(floor::cell_before(w, h, map, higher(x0, x1), higher(y0, y1)))
 }
 
-// What is in the way from the vertex (x0, y0) to the vertex (x1, y1), `columns` and `rows` apart: of a unit segment by
-// its cells alone, of others by a scan.
+// The blocked cell or the shut step in the way from the vertex (x0, y0) to the vertex (x1, y1), `columns` and `rows`
+// apart: of a unit segment by its cells alone, of others by a scan.
+fn blockage_along(
+    w: usize,
+    h: usize,
+    map: &[u8],
+    x0: usize,
+    y0: usize,
+    x1: usize,
+    y1: usize,
+    columns: usize,
+    rows: usize,
+) -> Obstacle
+    requires { ⌜ Sized w h (now map) × Ends w h x0 y0 x1 y1 × Apart x0 y0 x1 y1 columns rows ⌝ }
+    ensures { λ r. ⌜ r ≡ blockage (floorOf w h (now (map .entry))) (segmentOf x0 y0 x1 y1) ⌝ }
+{
+    if columns <= 1 {
+        if rows <= 1 {
+            return unit_blockage(w, h, map, x0, y0, x1, y1, columns, rows);
+        }
+    }
+    scan::far_blockage(w, h, map, x0, y0, x1, y1)
+}
+
+// What is in the way: a blocked cell or a shut step, wherever it is, else the pinch nearest the first end. A segment
+// of no length passes no pinch.
 fn look_along(
     w: usize,
     h: usize,
@@ -139,17 +166,26 @@ fn look_along(
     requires { ⌜ Sized w h (now map) × Ends w h x0 y0 x1 y1 × Apart x0 y0 x1 y1 columns rows ⌝ }
     ensures { λ r. ⌜ r ≡ obstacle (floorOf w h (now (map .entry))) (segmentOf x0 y0 x1 y1) ⌝ }
 {
-    if columns <= 1 {
-        if rows <= 1 {
-            return unit_obstacle(w, h, map, x0, y0, x1, y1, columns, rows);
+    let found = blockage_along(w, h, map, x0, y0, x1, y1, columns, rows);
+    if !is_clear(found) {
+        return found;
+    }
+    let apart = columns + rows;
+    if apart == 0 {
+        return Obstacle::Clear;
+    }
+    if rows <= 1 {
+        if columns <= 1 {
+            return pinches::ends_pinch(w, h, map, x0, y0, x1, y1);
         }
     }
-    scan::far_obstacle(w, h, map, x0, y0, x1, y1)
+    pinches::nearest_pinch(w, h, map, x0, y0, x1, y1, columns, rows)
 }
 
-// Whether two vertices see each other, where it is known how many columns and rows apart they are: a caller with constant
-// lengths, as for the moves of a table, spares the tests of them.
-pub fn in_sight_along(
+// Whether no blocked cell and no shut step is in the way between two vertices, `columns` and `rows` apart: what a move
+// has to ask beside the pinches at its ends. A caller with constant lengths, as for the moves of a table, spares the
+// tests of them.
+pub fn is_unblocked(
     w: usize,
     h: usize,
     map: &[u8],
@@ -161,9 +197,17 @@ pub fn in_sight_along(
     rows: usize,
 ) -> bool
     requires { ⌜ Sized w h (now map) × Ends w h x0 y0 x1 y1 × Apart x0 y0 x1 y1 columns rows ⌝ }
-    ensures { λ r. ⌜ r ≡ sees (floorOf w h (now (map .entry))) (segmentOf x0 y0 x1 y1) ⌝ }
+    ensures { λ r. ⌜ r ≡ unblocked (floorOf w h (now (map .entry))) (segmentOf x0 y0 x1 y1) ⌝ }
 {
-    is_clear(look_along(w, h, map, x0, y0, x1, y1, columns, rows))
+    is_clear(blockage_along(w, h, map, x0, y0, x1, y1, columns, rows))
+}
+
+// Whether the vertex (x, y) is a pinch.
+pub fn is_pinch(w: usize, h: usize, map: &[u8], x: usize, y: usize) -> bool
+    requires { ⌜ Sized w h (now map) × (x ≤ w) × (y ≤ h) ⌝ }
+    ensures { λ r. ⌜ r ≡ pinch (floorOf w h (now (map .entry))) x y ⌝ }
+{
+    pinches::pinch_at(w, h, map, x, y)
 }
 
 // What is in the way from one vertex to another.

@@ -1,11 +1,12 @@
-// What is in the way along a grid line and across cells, by a look at each step or each cell entered, from the first end
-// towards the other.
+// The blocked cell or the shut step in the way, by a look at each step along a grid line or at each cell entered, from
+// the first end towards the other.
 ghost use mathlib.Core.Path.{_≡_};
 ghost use Prim.Native.Nat.{suc, _*_, _<_, _≤_};
 ghost use Rattle.floor.specs.Floor.{Sized, floorOf};
 ghost use Rattle.sight.specs.Sight.{segmentOf};
-ghost use Rattle.sight.specs.Obstacle.{span, cellOn, startOn, first, uprightStep, levelStep, obstacle};
-ghost use Rattle.sight.specs.Travel.{Ends, uprightTo, levelTo, rowObstacle, RowRun};
+ghost use Rattle.sight.specs.Obstacle.{span, cellOn, startOn, first, uprightStep, levelStep, blockage};
+ghost use Rattle.sight.specs.Travel.{Ends, uprightTo, levelTo, rowObstacle, cellThere, RowRun};
+ghost use Rattle.sight.specs.Travel.{Carried, RunBetween};
 use crate::Obstacle;
 
 // How far it is from a to b.
@@ -40,8 +41,8 @@ fn start_at(a: usize, b: usize, k: usize) -> usize
     a - k
 }
 
-// The step along column line x that ends on row line y is not shut: one of the cells beside it is open. Both are read in
-// any case, so that no branch hangs on a cell.
+// The step along column line x that ends on row line y is not shut: one of the cells beside it is open. Both are read
+// in any case, so that no branch hangs on a cell.
 pub fn upright_open(w: usize, h: usize, map: &[u8], x: usize, y: usize) -> bool
     requires { ⌜ Sized w h (now map) × (x ≤ w) ⌝ }
     ensures { λ r. ⌜ r ≡ uprightTo (floorOf w h (now (map .entry))) x y ⌝ }
@@ -101,33 +102,62 @@ fn level_obstacle(w: usize, h: usize, map: &[u8], y: usize, x0: usize, x1: usize
     Obstacle::Clear
 }
 
-// The product of two numbers of at most 128.
-fn times(a: usize, b: usize) -> usize
-    requires { ⌜ (a ≤ 128) × (b ≤ 128) ⌝ }
-    ensures { λ r. ⌜ (r ≡ a * b) × (r ≤ 16384) ⌝ }
-{
-    a * b
+// Where a segment crosses a row line: so many whole columns from the first end, and a rest, of which `dy` make a
+// column.
+struct Crossing {
+    column: usize,
+    rest: usize,
 }
 
-// The columns of the cells entered in one row, counted from the first end: from `first` to before `past`.
-struct Run {
-    first: usize,
-    past: usize,
+// The crossing one row on: `step` columns and a rest of `part` more, with no division.
+fn next_crossing(at: Crossing, step: usize, part: usize, dy: usize) -> Crossing
+    requires { ⌜ (at .column ≤ 127) × (step ≤ 127) × (at .rest < dy) × (part < dy) × (dy ≤ 127) ⌝ }
+    ensures { λ to. ⌜ Carried (at .column) (at .rest) step part dy (to .column) (to .rest) ⌝ }
+{
+    let column = at.column + step;
+    let rest = at.rest + part;
+    if rest < dy {
+        return Crossing { column, rest };
+    }
+    Crossing {
+        column: column + 1,
+        rest: rest - dy,
+    }
 }
 
-// The cells entered in the row r rows from the first end, by a division for the first and one for the last.
-fn row_run(x0: usize, y0: usize, x1: usize, y1: usize, r: usize) -> Run
-    requires { ⌜ (x0 ≤ 127) × (y0 ≤ 127) × (x1 ≤ 127) × (y1 ≤ 127) × (r < span y0 y1) ⌝ }
-    ensures { λ run. ⌜ RowRun (segmentOf x0 y0 x1 y1) r (run .first) (run .past) ⌝ }
+// The cells entered between two crossings one row apart are those from the column of the first to before the column
+// that this returns: the cell where the second falls is entered, unless the segment leaves the row at a corner.
+fn row_past(at: Crossing, to: Crossing) -> usize
+    requires { ⌜ to .column ≤ 127 ⌝ }
+    ensures { λ past. ⌜ RunBetween (at .column) (at .rest) (to .column) (to .rest) past ⌝ }
 {
-    let dx = span_of(x0, x1);
-    let dy = span_of(y0, y1);
-    // dy times the column where the segment comes into the row, and where it leaves it
-    let near = times(dx, r);
-    let far = near + dx;
-    let first = near / dy;
-    let past = (far + (dy - 1)) / dy;
-    Run { first, past }
+    if to.rest == 0 {
+        return to.column;
+    }
+    to.column + 1
+}
+
+// The cell c columns and r rows from the first end, where it is blocked.
+fn cell_there(
+    w: usize,
+    h: usize,
+    map: &[u8],
+    x0: usize,
+    y0: usize,
+    x1: usize,
+    y1: usize,
+    c: usize,
+    r: usize,
+) -> Obstacle
+    requires { ⌜ Sized w h (now map) × Ends w h x0 y0 x1 y1 × (c < span x0 x1) × (r < span y0 y1) ⌝ }
+    ensures { λ b. ⌜ b ≡ cellThere (floorOf w h (now (map .entry))) (segmentOf x0 y0 x1 y1) r c ⌝ }
+{
+    let x = line_at(x0, x1, c);
+    let y = line_at(y0, y1, r);
+    if floor::blocked_at(w, h, map, x, y) {
+        return Obstacle::Cell(floor::cell_before(w, h, map, x, y));
+    }
+    Obstacle::Clear
 }
 
 // The first blocked cell entered in the row r rows from the first end, by a look at each cell entered there.
@@ -140,18 +170,18 @@ fn row_obstacle(
     x1: usize,
     y1: usize,
     r: usize,
+    first: usize,
+    past: usize,
 ) -> Obstacle
-    requires { ⌜ Sized w h (now map) × Ends w h x0 y0 x1 y1 × (r < span y0 y1) ⌝ }
+    requires { ⌜ Sized w h (now map) × Ends w h x0 y0 x1 y1 × (r < span y0 y1)
+        × RowRun (segmentOf x0 y0 x1 y1) r first past ⌝ }
     ensures { λ b. ⌜ b ≡ rowObstacle (floorOf w h (now (map .entry))) (segmentOf x0 y0 x1 y1) r ⌝ }
 {
-    let y = line_at(y0, y1, r);
-    let run = row_run(x0, y0, x1, y1, r);
-    let past = run.past;
-    let mut c = run.first;
+    let mut c = first;
     while c < past {
-        let x = line_at(x0, x1, c);
-        if floor::blocked_at(w, h, map, x, y) {
-            return Obstacle::Cell(floor::cell_before(w, h, map, x, y));
+        let found = cell_there(w, h, map, x0, y0, x1, y1, c, r);
+        if !crate::is_clear(found) {
+            return found;
         }
         c += 1;
     }
@@ -159,7 +189,8 @@ fn row_obstacle(
 }
 
 // The first blocked cell entered, row by row from the first end. The cells entered rise like stairs, so it is also the
-// first by columns.
+// first by columns. Where the segment crosses a row line is carried from row to row: the first row alone has a
+// division.
 fn slanted_obstacle(
     w: usize,
     h: usize,
@@ -169,23 +200,79 @@ fn slanted_obstacle(
     x1: usize,
     y1: usize,
 ) -> Obstacle
-    requires { ⌜ Sized w h (now map) × Ends w h x0 y0 x1 y1 ⌝ }
+    requires { ⌜ Sized w h (now map) × Ends w h x0 y0 x1 y1 × (1 ≤ span y0 y1) ⌝ }
     ensures { λ b. ⌜ b ≡ first (span y0 y1) (rowObstacle (floorOf w h (now (map .entry))) (segmentOf x0 y0 x1 y1)) ⌝ }
 {
-    let n = span_of(y0, y1);
+    let dx = span_of(x0, x1);
+    let dy = span_of(y0, y1);
+    let step = dx / dy;
+    let part = dx % dy;
+    let mut at = Crossing { column: 0, rest: 0 };
     let mut r: usize = 0;
-    while r < n {
-        let found = row_obstacle(w, h, map, x0, y0, x1, y1, r);
+    while r < dy {
+        let next = next_crossing(at, step, part, dy);
+        let found = row_obstacle(w, h, map, x0, y0, x1, y1, r, at.column, row_past(at, next));
         if !crate::is_clear(found) {
             return found;
         }
+        at = next;
         r += 1;
     }
     Obstacle::Clear
 }
 
-// What is in the way between two vertices, at any distance: along a column line, along a row line, or slanted.
-pub fn far_obstacle(
+// The same for a segment with more rows than columns. It enters one cell of a row or two: the one in the column of the
+// first crossing, and the next one, if it is entered before the row ends.
+fn steep_obstacle(
+    w: usize,
+    h: usize,
+    map: &[u8],
+    x0: usize,
+    y0: usize,
+    x1: usize,
+    y1: usize,
+) -> Obstacle
+    requires { ⌜ Sized w h (now map) × Ends w h x0 y0 x1 y1 × (1 ≤ span x0 x1) × (span x0 x1 < span y0 y1) ⌝ }
+    ensures { λ b. ⌜ b ≡ first (span y0 y1) (rowObstacle (floorOf w h (now (map .entry))) (segmentOf x0 y0 x1 y1)) ⌝ }
+{
+    let dx = span_of(x0, x1);
+    let dy = span_of(y0, y1);
+    let mut at = Crossing { column: 0, rest: 0 };
+    let mut r: usize = 0;
+    while r < dy {
+        let row = r;
+        let column = at.column;
+        let found = cell_there(w, h, map, x0, y0, x1, y1, column, row);
+        if !crate::is_clear(found) {
+            return found;
+        }
+        let reach = at.rest + dx;
+        r += 1;
+        if reach < dy {
+            at = Crossing {
+                column,
+                rest: reach,
+            };
+        } else {
+            let next = Crossing {
+                column: column + 1,
+                rest: reach - dy,
+            };
+            if next.column < row_past(at, next) {
+                let last = cell_there(w, h, map, x0, y0, x1, y1, next.column, row);
+                if !crate::is_clear(last) {
+                    return last;
+                }
+            }
+            at = next;
+        }
+    }
+    Obstacle::Clear
+}
+
+// The cell or the step in the way between two vertices, at any distance: along a column line, along a row line, or
+// slanted.
+pub fn far_blockage(
     w: usize,
     h: usize,
     map: &[u8],
@@ -195,13 +282,16 @@ pub fn far_obstacle(
     y1: usize,
 ) -> Obstacle
     requires { ⌜ Sized w h (now map) × Ends w h x0 y0 x1 y1 ⌝ }
-    ensures { λ r. ⌜ r ≡ obstacle (floorOf w h (now (map .entry))) (segmentOf x0 y0 x1 y1) ⌝ }
+    ensures { λ r. ⌜ r ≡ blockage (floorOf w h (now (map .entry))) (segmentOf x0 y0 x1 y1) ⌝ }
 {
     if x0 == x1 {
         return upright_obstacle(w, h, map, x0, y0, y1);
     }
     if y0 == y1 {
         return level_obstacle(w, h, map, y0, x0, x1);
+    }
+    if span_of(x0, x1) < span_of(y0, y1) {
+        return steep_obstacle(w, h, map, x0, y0, x1, y1);
     }
     slanted_obstacle(w, h, map, x0, y0, x1, y1)
 }

@@ -10,5 +10,10 @@ use Rattle.worked.specs.Sights.{SightsHold}
 
 pub sights-hold : SightsHold
 unfolding sightAnswer sidesShape floorShape endShape bounded-opened floor-opened sight-opened obstacle-opened
-sights-hold =
-    (refl, (refl, (refl, (refl, (refl, (refl, (refl, (refl, (refl, (refl, (refl, (refl, (refl, (refl, tt))))))))))))))
+sights-hold = (
+  refl,
+  (
+    refl,
+    (refl, (refl, (refl, (refl, (refl, (refl, (refl, (refl, (refl, (refl, (refl, (refl, (refl, (refl, tt)))))))))))))),
+  ),
+)

@@ -1,19 +1,20 @@
 -- The worked floors: each sheet passes the local test, which antt computes; the laws of paths make of that the true sheet.
 use Prim.Native.Nat.{ℕ, zero, suc, _+_, _*_, _<_, _^_}
 use mathlib.Core.Path.{_≡_, refl, sym, ap, ap₂, _∙_}
-use mathlib.Core.Bool.{Bool, true, false, _&&_}
+use mathlib.Core.Bool.{Bool, true, false, _&&_, not}
 use mathlib.Core.List.{List, [], _∷_}
 use native.Mathlib.Omega.{arith}
 use borrow.Author.Tests.{ltb-true, eqb-true}
 use lib.Dec.{ltb, eqb}
 use lib.ListN.{length, getD}
-use Rattle.basics.specs.Bounded.{bounded-opened}
+use Rattle.basics.specs.Bounded.{pick, bounded-opened}
 use Rattle.basics.specs.Lists.{same, lists-opened}
 use Rattle.basics.proofs.Bools.{and-left, and-right}
+use Rattle.basics.proofs.Bounded.{every-at}
 use Rattle.basics.proofs.Lists.{same-eq}
-use Rattle.floor.specs.Floor.{floor-opened}
+use Rattle.floor.specs.Floor.{column, row, floor-opened}
 use Rattle.floor.specs.Refusals.{sidesShape, floorShape, endShape}
-use Rattle.sight.specs.Sight.{segmentOf, enters, sight-opened}
+use Rattle.sight.specs.Sight.{segmentOf, enters, pinch, sight-opened}
 use Rattle.moves.specs.Moves.{neighbourhoodOf}
 use Rattle.moves.specs.Steps.{steps-opened}
 use Rattle.moves.specs.Table.{lawfulRows}
@@ -24,7 +25,7 @@ use Rattle.paths.specs.Sheet.{Sheet, TrueRoute, TrueNoRoute}
 use Rattle.paths.specs.Local.{Shaped, entry, localRoute, localNoRoute, local-opened}
 use Rattle.paths.proofs.SheetTest.{numbers-true, numbers-total, local-true, local-noRoute}
 use Rattle.paths.proofs.Sheets.{route-entries}
-use Rattle.grid.specs.Grid.{jobOf}
+use Rattle.grid.specs.Grid.{pinchShape, endsShape, jobOf}
 use Rattle.grid.specs.declared.Job.the-variants.{Fit}
 use Rattle.grid.proofs.Lawful.{floor-lawful}
 use Rattle.grid.proofs.Jobs.{FitJob, job-fit}
@@ -139,29 +140,43 @@ module _ (c : Case) (fit : Fits c) where
 -- ---- the floors
 
 routes-true : Each RouteHolds routes
-unfolding jobOf sidesShape floorShape endShape neighbourhoodOf shaped routeTest bounded-opened lists-opened floor-opened
-    sight-opened steps-opened route-opened local-opened thinning-opened
+unfolding jobOf sidesShape floorShape endShape pinchShape endsShape neighbourhoodOf shaped routeTest bounded-opened
+    lists-opened floor-opened sight-opened steps-opened route-opened local-opened thinning-opened
 routes-true = (
   route-holds floorA refl refl,
   (
     route-holds floorB refl refl,
-    (
-      route-holds floorD refl refl,
-      (route-holds floorE refl refl, (route-holds floorG refl refl, (route-holds floorH refl refl, tt))),
-    ),
+    (route-holds floorD refl refl, (route-holds floorE refl refl, (route-holds floorH refl refl, tt))),
   ),
 )
 
 noRoutes-true : Each NoRouteHolds noRoutes
-unfolding jobOf sidesShape floorShape endShape neighbourhoodOf shaped noRouteTest bounded-opened lists-opened floor-opened
-    sight-opened steps-opened route-opened local-opened
-noRoutes-true = (noRoute-holds floorC refl refl, (noRoute-holds floorF refl refl, tt))
+unfolding jobOf sidesShape floorShape endShape pinchShape endsShape neighbourhoodOf shaped noRouteTest bounded-opened
+    lists-opened floor-opened sight-opened steps-opened route-opened local-opened
+noRoutes-true =
+    (noRoute-holds floorC refl refl, (noRoute-holds floorF refl refl, (noRoute-holds floorG refl refl, tt)))
+
+-- Two tests with the same answer, as a test.
+unfoldable alike : Bool → Bool → Bool
+alike a b = pick a b (not b)
+
+alike-true : (a b : Bool) → alike a b ≡ true → a ≡ b
+unfolding alike
+alike-true true b e = sym e
+alike-true false true e = e
+alike-true false false e = refl
+
+pinches-true : (v : ℕ) → v < 9 → pinch (planOf floorG) (column 2 v) (row 2 v) ≡ eqb v 4
+unfolding alike bounded-opened floor-opened sight-opened
+pinches-true v l =
+    alike-true (pinch (planOf floorG) (column 2 v) (row 2 v)) (eqb v 4)
+    (every-at 9 (λ k. alike (pinch (planOf floorG) (column 2 k) (row 2 k)) (eqb k 4)) refl v l)
 
 -- h's vertex 4 has 2 walks from the start and 2 to the end.
 traversals-four : traversals (graphOf floorH) 0 8 4 ≡ 4
 unfolding traversals
 traversals-four =
-    let h = routes-true .1 .1 .1 .1 .1 .0 in
+    let h = routes-true .1 .1 .1 .1 .0 in
     let E = route-entries (graphOf floorH) (lawful floorH (h .shape)) 0 8 (known floorH (h .shape) .start)
     (known floorH (h .shape) .end) (floorH .sheet) (h .sheet) in
     ap₂ _*_ (sym (E .f-at 4 (omega arith))) (sym (E .b-at 4 (omega arith)))
@@ -183,6 +198,7 @@ pub worked : Worked
 worked = record {
   routes-hold = routes-true;
   noRoutes-hold = noRoutes-true;
+  pinches-g = pinches-true;
   traversals-h = traversals-four;
   cells-i = cells-true;
 }

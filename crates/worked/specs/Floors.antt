@@ -1,20 +1,22 @@
--- Document 01, "Floors worked by hand": the starred floors a to i, with the numbers that it gives.
+-- Document 01, "Floors worked by hand": the starred floors a to i, with the numbers that it gives; those of floor g by
+-- request 5 of document 02.
 --
 --   Case             == a job, and a sheet for it
---   routes           == floors a, b, d, e, g and h: the job, its true route sheet, the kept positions
---   noRoutes         == floors c and f: the job and its true no-route sheet
+--   routes           == floors a, b, d, e and h: the job, its true route sheet, the kept positions
+--   noRoutes         == floors c, f and g: the job and its true no-route sheet
 --   entered          == floor i: the cells of a 3 by 2 floor, row by row, that the segment from (0, 0) to (3, 2) enters
 --   RouteHolds c     == the job has a good shape, the sheet is its true route sheet, its cost and total are those of the
 --                       case, and thinning keeps the positions of the case
 --   NoRouteHolds c   == the job has a good shape and the sheet is its true no-route sheet
---   Worked           == the statement: all of this holds
+--   Worked           == the statement: all of this holds; of the nine vertices of floor g the only pinch is 4
 use Prim.Native.Nat.{ℕ, _+_, _*_, _<_}
 use mathlib.Core.Path.{_≡_}
 use mathlib.Core.Bool.{Bool, true, false}
 use mathlib.Core.List.{List, [], _∷_}
+use lib.Dec.{eqb}
 use lib.ListN.{length, getD}
-use Rattle.floor.specs.Floor.{Floor, floorOf}
-use Rattle.sight.specs.Sight.{segmentOf, enters}
+use Rattle.floor.specs.Floor.{Floor, floorOf, column, row}
+use Rattle.sight.specs.Sight.{segmentOf, enters, pinch}
 use Rattle.moves.specs.declared.Rows.{Rows}
 use Rattle.moves.specs.Moves.{rowsOf}
 use Rattle.paths.specs.Graph.{Graph}
@@ -110,9 +112,10 @@ floorF =
 abbrev pub floorG : Case
 floorG =
     job 2 2 (1 ∷ 0 ∷ 0 ∷ 1 ∷ []) 8 eight 2 6
-    (sheetOf (M ∷ 408 ∷ 0 ∷ 985 ∷ 577 ∷ 408 ∷ 1154 ∷ 985 ∷ M ∷ []) (M ∷ 985 ∷ 1154 ∷ 408 ∷ 577 ∷ 985 ∷ 0 ∷ 408 ∷ M ∷ [])
-    (0 ∷ 0 ∷ 1 ∷ 0 ∷ 1 ∷ 0 ∷ 1 ∷ 0 ∷ 0 ∷ []) (0 ∷ 0 ∷ 1 ∷ 0 ∷ 1 ∷ 0 ∷ 1 ∷ 0 ∷ 0 ∷ []) (2 ∷ 4 ∷ 6 ∷ 0 ∷ 0 ∷ 0 ∷ 0 ∷ 0 ∷ 0 ∷ []) 3)
-    1154 1 (0 ∷ 2 ∷ [])
+    (sheetOf (M ∷ 408 ∷ 0 ∷ M ∷ M ∷ 408 ∷ M ∷ M ∷ M ∷ []) (0 ∷ 0 ∷ 0 ∷ 0 ∷ 0 ∷ 0 ∷ 0 ∷ 0 ∷ 0 ∷ [])
+    (0 ∷ 0 ∷ 0 ∷ 0 ∷ 0 ∷ 0 ∷ 0 ∷ 0 ∷ 0 ∷ []) (0 ∷ 0 ∷ 0 ∷ 0 ∷ 0 ∷ 0 ∷ 0 ∷ 0 ∷ 0 ∷ [])
+    (0 ∷ 0 ∷ 0 ∷ 0 ∷ 0 ∷ 0 ∷ 0 ∷ 0 ∷ 0 ∷ []) 0)
+    0 0 []
 
 abbrev pub floorH : Case
 floorH =
@@ -122,10 +125,10 @@ floorH =
     1632 6 (0 ∷ 4 ∷ [])
 
 abbrev pub routes : List Case
-routes = floorA ∷ floorB ∷ floorD ∷ floorE ∷ floorG ∷ floorH ∷ []
+routes = floorA ∷ floorB ∷ floorD ∷ floorE ∷ floorH ∷ []
 
 abbrev pub noRoutes : List Case
-noRoutes = floorC ∷ floorF ∷ []
+noRoutes = floorC ∷ floorF ∷ floorG ∷ []
 
 abbrev pub entered : List Bool
 entered = true ∷ true ∷ false ∷ false ∷ true ∷ true ∷ []
@@ -149,5 +152,6 @@ Each P (c ∷ l) = P c × Each P l
 pub record Worked : Type 0 where
   pub routes-hold : Each RouteHolds routes
   pub noRoutes-hold : Each NoRouteHolds noRoutes
+  pub pinches-g : (v : ℕ) → v < 9 → pinch (planOf floorG) (column 2 v) (row 2 v) ≡ eqb v 4
   pub traversals-h : traversals (graphOf floorH) 0 8 4 ≡ 4
   pub cells-i : (i j : ℕ) → i < 3 → j < 2 → enters (segmentOf 0 0 3 2) i j ≡ getD entered (j * 3 + i) false

@@ -15,6 +15,7 @@ use lib.Seq.{getD-append-add, length-take-le}
 use Rattle.floor.specs.Floor.{Floor, vertices}
 use Rattle.moves.specs.declared.Rows.{Rows}
 use Rattle.moves.specs.Table.{lawfulRows}
+use Rattle.sight.specs.Sight.{sees}
 use Rattle.masks.specs.Masks.{OpenAt, OpenMasks}
 use Rattle.offsets.specs.Offsets.{Shifts}
 use Rattle.paths.specs.Graph.{Graph}
@@ -57,7 +58,7 @@ masks-kept {f} rest M = record {
 pub floor-masked : (f : Floor) (r : Rows) {s work : List ℕ} → f .wide ≤ 127 → f .high ≤ 127 → lawfulRows r ≡ true
     → Shifts (f .wide) s → MasksIn f work → Masked (floorGraph f r) r s work
 floor-masked f r {work = work} p q lawful S M = record {
-  shows = λ u i. mask-shows f r lawful S p q (maskOn f work u) u i (M .at u i);
+  shows = λ u i. mask-shows sees f r lawful S p q (maskOn f work u) u i (M .at u i);
 }
 
 pub masked-kept : {g : Graph} {r : Rows} {s work work′ : List ℕ} → Masked g r s work

@@ -1,9 +1,10 @@
 -- `checker::is_route` meets its contract, test by test; once costs and counts are right the products of counts fit 64
 -- bits. Assumes nothing.
 use Prim.Native.Nat.{_<_}
-use mathlib.Core.Path.{_≡_, _∙_}
+use mathlib.Core.Path.{_≡_, sym, _∙_}
 use mathlib.Core.Bool.{true}
 use native.Mathlib.Omega.{arith}
+use borrow.Author.Tests.{not-false}
 use Rattle.floor.specs.Floor.{floorOf}
 use Rattle.moves.proofs.Table.{listed-lawful}
 use Rattle.paths.specs.Graph.{Graph}
@@ -15,6 +16,7 @@ use Rattle.grid.proofs.Lawful.{floor-lawful}
 use Rattle.checker.specs.Tests.{verticesTest}
 use Rattle.checker.proofs.Exact.{route-unreached, route-start, route-end}
 use Rattle.checker.proofs.Exact.{route-vertices, route-points, counts-fit, vertices-uncounted}
+use Rattle.checker.proofs.Leaving.{pinches-far}
 use Rattle.checker.proofs.Posed.{posed-uncounted}
 use borrow.Author.Needs.{needs}
 use Rattle.checker.proofs.is_route.Statement.{statement}
@@ -103,6 +105,8 @@ route-right-requires c κs =
           (listed-lawful (s .pre .job .listed)))
           (s .pre .job .start-in) (s .pre .job .goal-in) (s .pre .shape)
           (omega (arith, first v .before .before .before .before .shared-slice-known4 .given (s .args .b .0))),
+      pinches-far (s .pre .job) (sheet s) (sym (vertices v) ∙ not-false _ (c .if4 .left)),
+      near (first v),
     )
 
 returns-5 : tie.Need-returns-5

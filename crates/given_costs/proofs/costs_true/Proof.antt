@@ -5,7 +5,7 @@ use native.Mathlib.Omega.{arith}
 use Rattle.basics.proofs.Scan.{Passed, passed-none, passed-stop, passed-more, passed-all}
 use Rattle.floor.specs.Floor.{floorOf}
 use Rattle.floor.proofs.Numbers.{vertices-le}
-use Rattle.grid.specs.Grid.{floorGraph}
+use Rattle.grid.specs.Leaving.{leavingGraph}
 use Rattle.given_costs.specs.Tests.{rowTest}
 use Rattle.given_costs.proofs.Tested.{start-false, rows-true}
 use borrow.Author.Needs.{needs}
@@ -13,7 +13,7 @@ use Rattle.given_costs.proofs.costs_true.Statement.{statement}
 use Rattle.given_costs.proofs.costs_true.Tie as tie
 
 abbrev Inv-loop : tie.InvT-loop
-Inv-loop w h map rows d a y₀ y-end y = Passed (suc h) y (rowTest (floorGraph (floorOf w h map) rows) a d w)
+Inv-loop w h map rows d a y₀ y-end y = Passed (suc h) y (rowTest (leavingGraph (floorOf w h map) rows) a d w)
 
 abbrev μ-loop : tie.MeasureT-loop
 μ-loop w h map rows d a y₀ y-end y = y-end - y

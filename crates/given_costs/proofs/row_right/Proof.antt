@@ -10,8 +10,8 @@ use Rattle.basics.specs.Bounded.{every}
 use Rattle.floor.specs.Floor.{floorOf, number}
 use Rattle.floor.proofs.Numbers.{mul-fits, vertices-le, number-lt}
 use Rattle.moves.specs.Table.{OnFloor}
-use Rattle.masks.specs.Masks.{OpenMask}
-use Rattle.grid.specs.Grid.{floorGraph}
+use Rattle.masks.specs.Masks.{leavingMask}
+use Rattle.grid.specs.Leaving.{leavingGraph}
 use Rattle.neighbours.proofs.Columns.{flag-stops, flag-keeps}
 use Rattle.given_costs.specs.Tests.{columnTest}
 use Rattle.given_costs.proofs.Tested.{column-readable, column-right}
@@ -20,11 +20,11 @@ use Rattle.given_costs.proofs.row_right.Statement.{statement}
 use Rattle.given_costs.proofs.row_right.Tie as tie
 
 abbrev Inv-loop : tie.InvT-loop
-Inv-loop w h map rows a d y shifts classes row first right₀ x₀ x-end right x =
-    (right ≡ every x (columnTest (floorGraph (floorOf w h map) rows) a d w y)) × (x ≤ w + 1)
+Inv-loop w h map rows a d y shifts classes leaving first right₀ x₀ x-end right x =
+    (right ≡ every x (columnTest (leavingGraph (floorOf w h map) rows) a d w y)) × (x ≤ w + 1)
 
 abbrev μ-loop : tie.MeasureT-loop
-μ-loop w h map rows a d y shifts classes row first right₀ x₀ x-end right x = x-end - x
+μ-loop w h map rows a d y shifts classes leaving first right₀ x₀ x-end right x = x-end - x
 
 abbrev entered : tie.After-classes-of Inv-loop μ-loop → tie.Start Inv-loop μ-loop
 entered c = c .before .before .before .before
@@ -48,8 +48,8 @@ at-number c = let a = start c .args in ap (λ z. a .y * z + c .before .loop .x) 
 mask-of : (c : tie.In-loop Inv-loop μ-loop)
     → let a = start c .args in
     let x = c .before .loop .x in
-    OpenMask (floorOf (a .w) (a .h) (a .map .now)) x (a .y) (getD (c .before .before .row-masks .result) x 0)
-mask-of c = c .before .before .row-masks .ensures .at _ (omega (arith, on-row c .column))
+    getD (c .before .before .leaving-row .result) x 0 ≡ leavingMask (floorOf (a .w) (a .h) (a .map .now)) x (a .y)
+mask-of c = c .before .before .leaving-row .ensures .at _ (omega (arith, on-row c .column))
 
 shifts-of-requires : tie.Need-shifts-of-requires Inv-loop μ-loop
 shifts-of-requires c κs = search needs
@@ -57,8 +57,8 @@ shifts-of-requires c κs = search needs
 classes-of-requires : tie.Need-classes-of-requires Inv-loop μ-loop
 classes-of-requires c κs = search needs
 
-row-masks-requires : tie.Need-row-masks-requires Inv-loop μ-loop
-row-masks-requires c κs = let p = entered c .pre in (p .0 .sized, p .2)
+leaving-row-requires : tie.Need-leaving-row-requires Inv-loop μ-loop
+leaving-row-requires c κs = let p = entered c .pre in (p .0 .sized, p .2)
 
 add-first : tie.Need-add-first Inv-loop μ-loop
 add-first c = search needs
@@ -134,7 +134,7 @@ row-right-spec =
     μ-loop
     shifts-of-requires
     classes-of-requires
-    row-masks-requires
+    leaving-row-requires
     add-first
     mul-first
     add-x-end

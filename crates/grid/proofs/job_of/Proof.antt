@@ -1,12 +1,12 @@
 -- `grid::job_of` meets its contract: each return is one case of `jobOf`. Assumes nothing.
 use mathlib.Core.Path.{_≡_, sym, _∙_}
 use Rattle.floor.specs.Floor.{Sized}
-use Rattle.floor.specs.Refusals.{floorShape, endShape}
+use Rattle.floor.specs.Refusals.{floorShape}
 use Rattle.floor.specs.declared.Shape.the-variants.{Good}
 use Rattle.floor.proofs.Shapes.{good-floor}
 use Rattle.moves.specs.declared.Neighbourhood.the-variants.{Known}
 use Rattle.moves.specs.Moves.{neighbourhoodOf}
-use Rattle.grid.proofs.Jobs.{unfit-floor, unfit-neighbourhood, unfit-start, unfit-end, fit}
+use Rattle.grid.proofs.Jobs.{unfit-floor, unfit-neighbourhood, unfit-ends, fit}
 use borrow.Author.Needs.{needs}
 use Rattle.grid.proofs.job_of.Statement.{statement}
 use Rattle.grid.proofs.job_of.Tie as tie
@@ -26,13 +26,6 @@ rows-floor c = c .before .before .before
 
 rows-are : (c : tie.After-rows) → neighbourhoodOf (from-floor (rows-floor c) .args .nb) ≡ Known (c .rows .given .0 .0)
 rows-are c = sym (c .before .before .rows-of .ensures) ∙ c .rows .given .1
-
-abbrev start-rows : tie.After-enum-told3 → tie.After-rows
-start-rows c = c .before .before .before .before
-
-start-is : (c : tie.After-enum-told3)
-    → let a = from-floor (rows-floor (start-rows c)) .args in endShape (a .w) (a .h) (a .a) ≡ Good
-start-is c = sym (c .before .before .end-shape .ensures) ∙ c .enum-told3 .given .1
 
 floor-shape-requires : tie.Need-floor-shape-requires
 floor-shape-requires c κs = search needs
@@ -67,13 +60,11 @@ returns-2 c =
     unfit-neighbourhood (a .w) (a .h) (a .map .now) (a .nb) (a .a) (a .b) (floor-is g)
     (sym (u .rows-of .ensures) ∙ c .enum-told2 .given .1)
 
-end-shape-requires : tie.Need-end-shape-requires
-end-shape-requires c κs =
-    let g = rows-floor (c .before) in
-    (sized g .wide, sized g .high)
+ends-shape-requires : tie.Need-ends-shape-requires
+ends-shape-requires c κs = sized (rows-floor (c .before))
 
-enum-known-first : tie.Need-enum-known-first
-enum-known-first c = search needs
+enum-known-ends : tie.Need-enum-known-ends
+enum-known-ends c = search needs
 
 returns-3 : tie.Need-returns-3
 returns-3 c =
@@ -81,42 +72,20 @@ returns-3 c =
     let k = u .before .before in
     let g = rows-floor k in
     let a = from-floor g .args in
-    unfit-start (a .w) (a .h) (a .map .now) (a .nb) (a .a) (a .b) (floor-is g) (k .rows .given .0 .0) (rows-are k)
-    (c .before .first .given .0 .0) (sym (u .end-shape .ensures) ∙ c .before .first .given .1)
+    unfit-ends (a .w) (a .h) (a .map .now) (a .nb) (a .a) (a .b) (floor-is g) (k .rows .given .0 .0) (rows-are k)
+    (c .before .ends .given .0 .0) (sym (u .ends-shape .ensures) ∙ c .before .ends .given .1)
 
 enum-told-3 : tie.Need-enum-told-3
 enum-told-3 c = search needs
 
-end-shape-requires-2 : tie.Need-end-shape-requires-2
-end-shape-requires-2 c κs =
-    let g = rows-floor (start-rows c) in
-    (sized g .wide, sized g .high)
-
-enum-known-last : tie.Need-enum-known-last
-enum-known-last c = search needs
-
 returns-4 : tie.Need-returns-4
 returns-4 c =
-    let u = c .before .before .before in
-    let s = u .before in
-    let k = start-rows s in
-    let g = rows-floor k in
-    let a = from-floor g .args in
-    unfit-end (a .w) (a .h) (a .map .now) (a .nb) (a .a) (a .b) (floor-is g) (k .rows .given .0 .0) (rows-are k)
-    (c .before .last .given .0 .0) (start-is s) (sym (u .end-shape2 .ensures) ∙ c .before .last .given .1)
-
-enum-told-4 : tie.Need-enum-told-4
-enum-told-4 c = search needs
-
-returns-5 : tie.Need-returns-5
-returns-5 c =
     let u = c .before .before in
-    let s = u .before in
-    let k = start-rows s in
+    let k = u .before .before in
     let g = rows-floor k in
     let a = from-floor g .args in
-    fit (a .w) (a .h) (a .map .now) (a .nb) (a .a) (a .b) (floor-is g) (k .rows .given .0 .0) (rows-are k) (start-is s)
-    (sym (u .end-shape2 .ensures) ∙ c .enum-told4 .given .1)
+    fit (a .w) (a .h) (a .map .now) (a .nb) (a .a) (a .b) (floor-is g) (k .rows .given .0 .0) (rows-are k)
+    (sym (u .ends-shape .ensures) ∙ c .enum-told3 .given .1)
 
 pub job-of-spec : {M : Type 1} → statement M
 job-of-spec =
@@ -130,12 +99,8 @@ job-of-spec =
     enum-known-rows
     enum-told-2
     returns-2
-    end-shape-requires
-    enum-known-first
+    ends-shape-requires
+    enum-known-ends
     returns-3
     enum-told-3
-    end-shape-requires-2
-    enum-known-last
-    returns-4
-    enum-told-4
-    returns-5)
+    returns-4)

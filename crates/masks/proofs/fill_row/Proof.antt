@@ -1,67 +1,100 @@
 -- `masks::fill_row` meets its contract: the masks of the vertices before column x of the row are stored. Assumes nothing.
-use Prim.Native.Nat.{ℕ, suc, _+_, _-_, _*_, _≤_}
+use Prim.Native.Nat.{suc, _+_, _-_, _*_, _≤_, _<_}
 use mathlib.Core.Path.{_≡_, sym, ap, _∙_}
 use native.Mathlib.Omega.{arith}
+use native.Mathlib.Nat.{mul-le-mul}
 use native.Mathlib.Numerals.{add-one}
-use Rattle.floor.specs.Floor.{floorOf, number}
-use Rattle.moves.specs.Table.{OnFloor}
-use Rattle.masks.specs.Masks.{MasksTo}
-use Rattle.masks.proofs.Masks.{masks-fewer}
+use Rattle.floor.specs.Floor.{floorOf, vertices, number}
+use Rattle.floor.proofs.Numbers.{number-lt, vertices-le}
+use Rattle.masks.specs.Masks.{LeavingTo}
+use Rattle.masks.proofs.Masks.{leaving-more, leaving-fewer}
 use Rattle.masks.proofs.fill_row.Statement.{statement}
 use Rattle.masks.proofs.fill_row.Tie as tie
 
 abbrev Inv-loop : tie.InvT-loop
-Inv-loop w h map y masks₀ x₀ masks x = MasksTo (floorOf w h map) (number w x y) masks
+Inv-loop w h map y masks₀ leaving first x₀ x-end masks x =
+    LeavingTo (floorOf w h map) (number w x y) masks × (x ≤ w + 1)
 
 abbrev μ-loop : tie.MeasureT-loop
-μ-loop w h map y masks₀ x₀ masks x = w - x
+μ-loop w h map y masks₀ leaving first x₀ x-end masks x = x-end - x
 
 abbrev start : tie.At-loop Inv-loop μ-loop → tie.Start Inv-loop μ-loop
-start l = l .before .before .before .before .before .before .before
+start l = l .before .before .before .before
 
--- A vertex of the row.
-on-row : (s : tie.Start Inv-loop μ-loop) (x : ℕ) → x ≤ s .args .w → OnFloor (s .args .w) (s .args .h) x (s .args .y)
-on-row s x l = record { wide = s .pre .0 .wide; high = s .pre .0 .high; column = l; row = s .pre .1 }
+leaving-row-requires : tie.Need-leaving-row-requires Inv-loop μ-loop
+leaving-row-requires c κs = let p = c .before .before .pre in (p .0, p .1)
 
-fill-at-requires : tie.Need-fill-at-requires Inv-loop μ-loop
-fill-at-requires c κs = let s = c .before .before .before in (s .pre .0, on-row s 0 (omega arith), s .pre .2)
+-- The row's first vertex has a small number.
+small : (s : tie.Start Inv-loop μ-loop) → s .args .y * (s .args .w + 1) ≤ 127 * 128
+small s =
+    mul-le-mul {n₁ = s .args .y} {m₁ = s .args .w + 1} {n₂ = 127} {m₂ = 128} (omega (arith, s .pre .1, s .pre .0 .high))
+    (omega (arith, s .pre .0 .wide))
+
+add-first : tie.Need-add-first Inv-loop μ-loop
+add-first c = omega (arith, c .before .before .before .pre .0 .wide)
+
+mul-first : tie.Need-mul-first Inv-loop μ-loop
+mul-first c = omega (arith, small (c .before .before .before))
+
+add-x-end : tie.Need-add-x-end Inv-loop μ-loop
+add-x-end c = omega (arith, c .before .before .before .pre .0 .wide)
 
 loop-holds : tie.Need-loop-holds Inv-loop μ-loop
-loop-holds c = c .before .before .fill-at .ensures
+loop-holds c = (c .before .before .before .pre .2, omega arith)
 
-fill-at-requires-2 : tie.Need-fill-at-requires-2 Inv-loop μ-loop
-fill-at-requires-2 c κs =
-    let l = c .before .before in
+mul-masks : tie.Need-mul-masks Inv-loop μ-loop
+mul-masks c = omega (arith, start (c .before) .pre .0 .wide)
+
+array-read-masks : tie.Need-array-read-masks Inv-loop μ-loop
+array-read-masks c = omega (arith, start (c .before) .pre .0 .wide)
+
+add-masks : tie.Need-add-masks Inv-loop μ-loop
+add-masks c = let s = start (c .before) in omega (arith, s .pre .0 .wide, small s)
+
+-- The place of the vertex in column x.
+place : (l : tie.At-loop Inv-loop μ-loop)
+    → let a = start l .args in
+    a .y * (a .w + 1) + l .loop .x ≡ number (a .w) (l .loop .x) (a .y)
+place l = let a = start l .args in rw (add-one (a .w))
+
+inside : (l : tie.At-loop Inv-loop μ-loop) → l .loop .x < start l .args .w + 1
+    → let a = start l .args in
+    a .y * (a .w + 1) + l .loop .x < vertices (a .w) (a .h)
+inside l h =
     let s = start l in
-    (s .pre .0, on-row s (l .loop .x) (omega arith), l .loop .inv)
+    rw (place l) (number-lt (s .args .w) (s .args .h) (l .loop .x) (s .args .y) (omega arith) (s .pre .1))
+
+mul-masks-2 : tie.Need-mul-masks-2 Inv-loop μ-loop
+mul-masks-2 c = let s = start (c .before) in omega (arith, s .pre .0 .wide, small s)
+
+slice-write-masks : tie.Need-slice-write-masks Inv-loop μ-loop
+slice-write-masks c = let l = c .before in rw (l .loop .inv .0 .len) (inside l (omega arith))
 
 add-x : tie.Need-add-x Inv-loop μ-loop
-add-x c = let l = c .before .before .before .before .before in omega (arith, start l .pre .0 .wide)
+add-x c = omega (arith, start (c .before) .pre .0 .wide)
 
 loop-less : tie.Need-loop-less Inv-loop μ-loop
 loop-less c = omega arith
 
 loop-again : tie.Need-loop-again Inv-loop μ-loop
-loop-again c = c .before .before .fill-at2 .ensures
-
-fill-at-requires-3 : tie.Need-fill-at-requires-3 Inv-loop μ-loop
-fill-at-requires-3 c κs =
-    let l = c .before .before in
-    let s = start l in
-    (s .pre .0, on-row s (s .args .w) (omega arith), masks-fewer (l .loop .inv) (omega arith))
+loop-again c =
+    let l = c .before in
+    let s = start l in (
+      rw add-one (leaving-more (l .loop .x) (s .args .y) (l .loop .inv .0) (omega arith) (place l) (inside l (omega arith))
+          (l .before .leaving-row .ensures .at (l .loop .x) (omega arith))),
+      omega arith,
+    )
 
 same-length : tie.Need-same-length Inv-loop μ-loop
-same-length c =
-    let b = c .before .before in
-    b .fill-at3 .ensures .len ∙ sym (start (b .before .before .before) .pre .2 .len)
+same-length c = let l = c .before in l .loop .inv .0 .len ∙ sym (start l .pre .2 .len)
 
 returns : tie.Need-returns Inv-loop μ-loop
 returns c =
-    let b = c .before .before in
-    let a = start (b .before .before .before) .args in
+    let l = c .before in
+    let a = start l .args in
     let next : number (a .w) (a .w + 1) (a .y) ≡ number (a .w) 0 (a .y + 1) =
     sym (ap (λ z. z * suc (a .w) + 0) (add-one (a .y)) ∙ omega arith) in
-    rw next at (b .fill-at3 .ensures)
+    leaving-fewer (l .loop .inv .0) (omega (arith, next))
 
 pub fill-row-spec : {M : Type 1} → statement M
 fill-row-spec =
@@ -69,12 +102,18 @@ fill-row-spec =
     (tie.spec
     Inv-loop
     μ-loop
-    fill-at-requires
+    leaving-row-requires
+    add-first
+    mul-first
+    add-x-end
     loop-holds
-    fill-at-requires-2
+    mul-masks
+    array-read-masks
+    add-masks
+    mul-masks-2
+    slice-write-masks
     add-x
     loop-less
     loop-again
-    fill-at-requires-3
     same-length
     returns)

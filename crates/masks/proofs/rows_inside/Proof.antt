@@ -56,43 +56,43 @@ array-copy-out-r6 c = search needs
 array-copy-out-r7 : tie.Need-array-copy-out-r7
 array-copy-out-r7 c = search needs
 
-open-bit-requires : tie.Need-open-bit-requires
-open-bit-requires c κs =
+unblocked-bit-requires : tie.Need-unblocked-bit-requires
+unblocked-bit-requires c κs =
     let p = start c .pre in
     (p .0, p .1, record { columns = omega arith; rows = omega arith })
 
-open-bit-requires-2 : tie.Need-open-bit-requires-2
-open-bit-requires-2 c κs =
+unblocked-bit-requires-2 : tie.Need-unblocked-bit-requires-2
+unblocked-bit-requires-2 c κs =
     let p = told-2 c .pre in
     (p .0, p .1, record { columns = omega arith; rows = omega arith })
 
-open-bit-requires-3 : tie.Need-open-bit-requires-3
-open-bit-requires-3 c κs =
+unblocked-bit-requires-3 : tie.Need-unblocked-bit-requires-3
+unblocked-bit-requires-3 c κs =
     let p = told-3 c .pre in
     (p .0, p .1, record { columns = omega arith; rows = omega arith })
 
-open-bit-requires-4 : tie.Need-open-bit-requires-4
-open-bit-requires-4 c κs =
+unblocked-bit-requires-4 : tie.Need-unblocked-bit-requires-4
+unblocked-bit-requires-4 c κs =
     let p = told-4 c .pre in
     (p .0, p .1, record { columns = omega arith; rows = omega arith })
 
-open-bit-requires-5 : tie.Need-open-bit-requires-5
-open-bit-requires-5 c κs =
+unblocked-bit-requires-5 : tie.Need-unblocked-bit-requires-5
+unblocked-bit-requires-5 c κs =
     let p = told-5 c .pre in
     (p .0, p .1, record { columns = omega arith; rows = omega arith })
 
-open-bit-requires-6 : tie.Need-open-bit-requires-6
-open-bit-requires-6 c κs =
+unblocked-bit-requires-6 : tie.Need-unblocked-bit-requires-6
+unblocked-bit-requires-6 c κs =
     let p = told-6 c .pre in
     (p .0, p .1, record { columns = omega arith; rows = omega arith })
 
-open-bit-requires-7 : tie.Need-open-bit-requires-7
-open-bit-requires-7 c κs =
+unblocked-bit-requires-7 : tie.Need-unblocked-bit-requires-7
+unblocked-bit-requires-7 c κs =
     let p = told-7 c .pre in
     (p .0, p .1, record { columns = omega arith; rows = omega arith })
 
-open-bit-requires-8 : tie.Need-open-bit-requires-8
-open-bit-requires-8 c κs =
+unblocked-bit-requires-8 : tie.Need-unblocked-bit-requires-8
+unblocked-bit-requires-8 c κs =
     let p = told-8 c .pre in
     (p .0, p .1, record { columns = omega arith; rows = omega arith })
 
@@ -109,11 +109,11 @@ returns c =
     let a = start (b0 .before) .args in
     let f = floorOf (a .w) (a .h) (a .map .now) in
     let row = row-tested f (a .x) (a .y) in
-    rows-tested f (a .x) (a .y) (row 0 1 _ _ _ refl refl refl (b0 .open-bit .ensures))
-    (row 1 2 _ _ _ refl refl refl (b1 .open-bit2 .ensures)) (row 2 4 _ _ _ refl refl refl (b2 .open-bit3 .ensures))
-    (row 3 8 _ _ _ refl refl refl (b3 .open-bit4 .ensures)) (row 4 16 _ _ _ refl refl refl (b4 .open-bit5 .ensures))
-    (row 5 32 _ _ _ refl refl refl (b5 .open-bit6 .ensures)) (row 6 64 _ _ _ refl refl refl (b6 .open-bit7 .ensures))
-    (row 7 128 _ _ _ refl refl refl (b7 .open-bit8 .ensures))
+    rows-tested f (a .x) (a .y) (row 0 1 _ _ _ refl refl refl (b0 .unblocked-bit .ensures))
+    (row 1 2 _ _ _ refl refl refl (b1 .unblocked-bit2 .ensures)) (row 2 4 _ _ _ refl refl refl (b2 .unblocked-bit3 .ensures))
+    (row 3 8 _ _ _ refl refl refl (b3 .unblocked-bit4 .ensures)) (row 4 16 _ _ _ refl refl refl (b4 .unblocked-bit5 .ensures))
+    (row 5 32 _ _ _ refl refl refl (b5 .unblocked-bit6 .ensures)) (row 6 64 _ _ _ refl refl refl (b6 .unblocked-bit7 .ensures))
+    (row 7 128 _ _ _ refl refl refl (b7 .unblocked-bit8 .ensures))
 
 pub rows-inside-spec : {M : Type 1} → statement M
 rows-inside-spec =
@@ -127,12 +127,12 @@ rows-inside-spec =
     array-copy-out-r5
     array-copy-out-r6
     array-copy-out-r7
-    open-bit-requires
-    open-bit-requires-2
-    open-bit-requires-3
-    open-bit-requires-4
-    open-bit-requires-5
-    open-bit-requires-6
-    open-bit-requires-7
-    open-bit-requires-8
+    unblocked-bit-requires
+    unblocked-bit-requires-2
+    unblocked-bit-requires-3
+    unblocked-bit-requires-4
+    unblocked-bit-requires-5
+    unblocked-bit-requires-6
+    unblocked-bit-requires-7
+    unblocked-bit-requires-8
     returns)

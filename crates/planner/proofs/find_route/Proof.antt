@@ -70,8 +70,7 @@ goal-small c = omega (arith, goal-read c, found-few (start (shifted (counted c))
 costs-over-masks-requires : tie.Need-costs-over-masks-requires
 costs-over-masks-requires c κs =
     let F = c .before .before .before .before .before .before .before .before .before .pre in
-    let J = F .finishable .job in
-    (found-costing F (omega (arith, J .start-in, J .goal-in)), F .masks)
+    (found-costing F, F .masks)
 
 shifts-of-requires : tie.Need-shifts-of-requires
 shifts-of-requires c κs = search needs

@@ -4,7 +4,8 @@ use mathlib.Core.Path.{refl}
 use borrow.Author.Tests.{not-false}
 use Rattle.floor.specs.Floor.{vertices}
 use Rattle.planner.specs.Parts.{FullSlices}
-use Rattle.planner.proofs.Shaped.{lent-of, lengths-bad, start-alone}
+use Rattle.grid.proofs.Jobs.{start-alone}
+use Rattle.planner.proofs.Shaped.{lent-of, lengths-bad}
 use Rattle.planner.proofs.Shaped.{job-unsized, job-false, job-true, job-finishable}
 use borrow.Author.Needs.{needs}
 use Rattle.planner.proofs.finish_given.Statement.{statement}

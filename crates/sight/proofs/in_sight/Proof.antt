@@ -2,7 +2,7 @@
 use mathlib.Core.Path.{ap, _∙_}
 use Rattle.floor.specs.Floor.{floorOf}
 use Rattle.sight.specs.Obstacle.{isClear}
-use Rattle.sight.proofs.Obstacles.{obstacle-sees-segment}
+use Rattle.sight.proofs.Passed.{obstacle-sees-segment}
 use borrow.Author.Needs.{needs}
 use Rattle.sight.proofs.in_sight.Statement.{statement}
 use Rattle.sight.proofs.in_sight.Tie as tie

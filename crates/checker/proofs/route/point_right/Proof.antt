@@ -1,18 +1,22 @@
 -- `checker::route::point_right` meets its contract, test by test. Assumes nothing.
-use Prim.Native.Nat.{_<_}
+use Prim.Native.Nat.{_≤_, _<_}
 use mathlib.Core.Path.{_≡_, sym, ap, _∙_}
 use native.Mathlib.Omega.{arith}
-use Rattle.floor.specs.Floor.{floorOf, vertices}
-use Rattle.floor.proofs.Numbers.{vertices-le}
+use Rattle.floor.specs.Floor.{floorOf, vertices, column, row}
+use Rattle.floor.proofs.Numbers.{vertices-le, column-le}
+use Rattle.moves.specs.Leaving.{leaves}
+use Rattle.masks.specs.Masks.{MaskAt}
+use Rattle.masks.proofs.Masks.{leaving-is}
 use Rattle.paths.specs.Graph.{Graph}
 use Rattle.paths.specs.Sheet.{Sheet, sheetOf}
-use Rattle.paths.specs.Local.{localNext}
+use Rattle.paths.specs.Distance.{unreachable}
+use Rattle.paths.specs.Local.{entry, localNext}
 use Rattle.grid.specs.Grid.{floorGraph}
 use Rattle.neighbours.specs.Choice.{nextFrom}
 use Rattle.neighbours.proofs.Steps.{next-stuck, next-to}
 use Rattle.checker.proofs.Posed.{posed-readable, posed-agrees}
 use Rattle.checker.proofs.Points.{point-past, point-outside, point-end, point-short, point-stuck, point-next}
-use Rattle.checker.proofs.Points.{next-local}
+use Rattle.checker.proofs.Leaving.{next-leaving}
 use borrow.Author.Needs.{needs}
 use Rattle.checker.proofs.route.point_right.Statement.{statement}
 use Rattle.checker.proofs.route.point_right.Tie as tie
@@ -39,8 +43,22 @@ abbrev inside : tie.Else3 → tie.Else2
 inside c = c .before .before .before
 
 -- the point, where its next vertex is asked for
-abbrev asked : tie.After-open-moves → tie.After-point
+abbrev asked : tie.After-leaving-moves → tie.After-point
 asked c = placed (inside (c .before .before)) .before
+
+-- the mask of the moves that leave it
+leaving : (c : tie.After-leaving-moves)
+    → let s = start (asked c) in
+    MaskAt leaves (floorOf (s .args .w) (s .args .h) (s .args .map .now)) (asked c .point .result .0) (c .leaving-moves .result)
+leaving c =
+    let a = start (asked c) .args in
+    let v = asked c .point .result .0 in
+    leaving-is (floorOf (a .w) (a .h) (a .map .now)) (column (a .w) v) (row (a .w) v) (column-le (a .w) v)
+    (c .leaving-moves .ensures)
+
+-- a cost is at most M, as its width says
+small : (c : tie.After-point) → entry (start c .args .d .now) (c .point .result .0) ≤ unreachable
+small c = omega (arith, c .before .before .before .before .before .before .shared-slice-known3 .given (c .point .result .0))
 
 -- the next vertex, as the test asks for it
 next : (c : tie.After-next-at)
@@ -50,11 +68,11 @@ next : (c : tie.After-next-at)
 next c =
     let o = c .before in
     let s = start (asked o) in
+    let i = on-floor (inside (o .before .before)) in
     c .next-at .ensures
     ∙ ap nextFrom
-    (next-local
-    (posed-agrees (s .pre .0) (s .pre .1) (on-floor (inside (o .before .before))) (o .open-moves .ensures))
-    (s .args .b .0) (sheet s))
+    (next-leaving (s .pre .0 .job) (sheet s) (s .pre .3) (s .pre .4) i (small (asked o))
+    (posed-agrees (s .pre .0) (s .pre .1) i (leaving o)))
 
 mul-point : tie.Need-mul-point
 mul-point c = search needs
@@ -101,15 +119,15 @@ returns-4 c =
     point-short (graph s) (s .args .b .0) (sheet s) (s .args .i) (k .point .result .0) (k .point .ensures)
     (placed o .if1 .left) (on-floor o) (c .before .if3 .left) (c .if4 .taken)
 
-open-moves-requires : tie.Need-open-moves-requires
-open-moves-requires c κs = search needs
+leaving-moves-requires : tie.Need-leaving-moves-requires
+leaving-moves-requires c κs = search needs
 
 next-at-requires : tie.Need-next-at-requires
 next-at-requires c κs =
     let p = start (asked c) .pre in
     let q = p .0 in (
       record {
-        readable = posed-readable q (p .1) (on-floor (inside (c .before .before))) (c .open-moves .ensures);
+        readable = posed-readable q (p .1) (on-floor (inside (c .before .before))) (leaving c);
         goal-in = omega (arith, q .job .goal-in, q .shape .d);
         e-len = q .shape .e ∙ sym (q .shape .d);
       },
@@ -139,7 +157,7 @@ add-point c = search needs
 mul-point-2 : tie.Need-mul-point-2
 mul-point-2 c =
     let p = start (asked (c .before .before .before .before)) .pre in
-    omega (arith, p .3, p .0 .shape .route, vertices-le (p .0 .job .sized .wide) (p .0 .job .sized .high))
+    omega (arith, p .5, p .0 .shape .route, vertices-le (p .0 .job .sized .wide) (p .0 .job .sized .high))
 
 shared-slice-read-point-2 : tie.Need-shared-slice-read-point-2
 shared-slice-read-point-2 c = search needs
@@ -172,7 +190,7 @@ point-right-spec =
     returns-3
     add-if4
     returns-4
-    open-moves-requires
+    leaving-moves-requires
     next-at-requires
     enum-known-u
     enum-told

@@ -85,7 +85,7 @@ point-right-requires : tie.Need-point-right-requires Inv-loop μ-loop
 point-right-requires c κs =
     let r = c .before .before .before in
     let s = start (begun (pointed r)) in
-    (posed-goal (s .pre .0), r .shifts-of .ensures, s .pre .1, omega arith, omega arith)
+    (posed-goal (s .pre .0), r .shifts-of .ensures, s .pre .1, s .pre .2, s .pre .3, omega arith, omega arith)
 
 returns-4 : tie.Need-returns-4 Inv-loop μ-loop
 returns-4 c =

@@ -5,12 +5,14 @@ use mathlib.Core.Path.{_≡_, refl, ap, _∙_}
 use mathlib.Core.Logic.{⊎-elim}
 use native.Mathlib.Omega.{arith}
 use native.Mathlib.Numerals.{add-one}
+use lib.ListN.{getD}
 use Rattle.basics.specs.Bounded.{every}
 use Rattle.floor.specs.Floor.{floorOf, number}
 use Rattle.floor.proofs.Numbers.{mul-fits, vertices-le, number-lt}
 use Rattle.moves.specs.Table.{OnFloor}
+use Rattle.masks.specs.Masks.{leavingMask}
 use Rattle.paths.specs.Sheet.{sheetOf}
-use Rattle.grid.specs.Grid.{floorGraph}
+use Rattle.grid.specs.Leaving.{leavingGraph}
 use Rattle.checker.specs.Tests.{columnTest}
 use Rattle.checker.proofs.Posed.{posed-shaped}
 use Rattle.checker.proofs.Passes.{column-readable, column-stops, column-keeps}
@@ -19,15 +21,15 @@ use Rattle.checker.proofs.vertices.row_right.Statement.{statement}
 use Rattle.checker.proofs.vertices.row_right.Tie as tie
 
 abbrev Inv-loop : tie.InvT-loop
-Inv-loop w h map rows joined a b d e f back route y shifts classes first right₀ x₀ x-end right x =
-    (right ≡ every x (columnTest joined (floorGraph (floorOf w h map) rows) a b (sheetOf d e f back route 0) w y))
+Inv-loop w h map rows joined a b d e f back route y shifts classes leaving first right₀ x₀ x-end right x =
+    (right ≡ every x (columnTest joined (leavingGraph (floorOf w h map) rows) a b (sheetOf d e f back route 0) w y))
     × (x ≤ w + 1)
 
 abbrev μ-loop : tie.MeasureT-loop
-μ-loop w h map rows joined a b d e f back route y shifts classes first right₀ x₀ x-end right x = x-end - x
+μ-loop w h map rows joined a b d e f back route y shifts classes leaving first right₀ x₀ x-end right x = x-end - x
 
-abbrev entered : tie.After-classes-of Inv-loop μ-loop → tie.Start Inv-loop μ-loop
-entered c = c .before .before .before .before .before .before .before .before
+abbrev entered : tie.After-leaving-row Inv-loop μ-loop → tie.Start Inv-loop μ-loop
+entered c = c .before .before .before .before .before .before .before .before .before
 
 abbrev start : tie.In-loop Inv-loop μ-loop → tie.Start Inv-loop μ-loop
 start c = entered (c .before .before)
@@ -50,6 +52,11 @@ shifts-of-requires c κs = search needs
 classes-of-requires : tie.Need-classes-of-requires Inv-loop μ-loop
 classes-of-requires c κs = search needs
 
+leaving-row-requires : tie.Need-leaving-row-requires Inv-loop μ-loop
+leaving-row-requires c κs =
+    let s = c .before .before .before .before .before .before .before .before in
+    (s .pre .0 .job .sized, s .pre .1)
+
 add-first : tie.Need-add-first Inv-loop μ-loop
 add-first c = search needs
 
@@ -67,32 +74,42 @@ loop-holds : tie.Need-loop-holds Inv-loop μ-loop
 unfolding every
 loop-holds c = (refl, omega arith)
 
-open-from-requires : tie.Need-open-from-requires Inv-loop μ-loop
-open-from-requires c κs = (start c .pre .0 .job .sized, on-row c)
-
 slice-aggregate-vertex-right : tie.Need-slice-aggregate-vertex-right Inv-loop μ-loop
 slice-aggregate-vertex-right c = search needs
 
+mul-vertex-right : tie.Need-mul-vertex-right Inv-loop μ-loop
+mul-vertex-right c = let o = on-row (c .before) in omega (arith, o .wide, o .column)
+
+array-read-vertex-right : tie.Need-array-read-vertex-right Inv-loop μ-loop
+array-read-vertex-right c = let o = on-row (c .before) in omega (arith, o .wide, o .column)
+
+-- The mask that the code reads.
+mask-is : (c : tie.In-loop Inv-loop μ-loop)
+    → let a = start c .args in
+    getD (c .before .before .leaving-row .result) (c .before .loop .x) 0
+    ≡ leavingMask (floorOf (a .w) (a .h) (a .map .now)) (c .before .loop .x) (a .y)
+mask-is c = c .before .before .leaving-row .ensures .at (c .before .loop .x) (omega arith)
+
 add-vertex-right : tie.Need-add-vertex-right Inv-loop μ-loop
 add-vertex-right c =
-    let t = c .before .before in
+    let t = c .before in
     let o = on-row t in
     omega (arith, at-number t, number-lt _ _ _ _ (o .column) (o .row), vertices-le (o .wide) (o .high))
 
 vertex-right-requires : tie.Need-vertex-right-requires Inv-loop μ-loop
 vertex-right-requires c κs =
-    let t = c .before .before in
-    let k = t .before .before in
+    let t = c .before in
+    let k = t .before .before .before in
     let p = start t .pre .0 in
     let S = k .before .shifts-of in (
-      column-readable p (S .ensures) (on-row t) (c .before .open-from .ensures) (at-number t),
+      column-readable p (S .ensures) (on-row t) (mask-is t) (at-number t),
       k .classes-of .ensures,
       omega (arith, p .job .goal-in, p .shape .d),
       posed-shaped p,
     )
 
 add-x : tie.Need-add-x Inv-loop μ-loop
-add-x c = let o = on-row (c .before .before .before .before) in omega (arith, o .wide, o .column)
+add-x c = let o = on-row (c .before .before .before) in omega (arith, o .wide, o .column)
 
 loop-less : tie.Need-loop-less Inv-loop μ-loop
 loop-less c = search needs
@@ -100,14 +117,13 @@ loop-less c = search needs
 loop-again : tie.Need-loop-again Inv-loop μ-loop
 loop-again c =
     let r = c .before in
-    let k = r .before .before in
-    let t = k .before in
+    let t = r .before .before in
     let s = start t in
-    let S = t .before .before .before .shifts-of .ensures in
+    let S = t .before .before .before .before .shifts-of .ensures in
     let i = t .before .loop .inv .0 in (
-      ⊎-elim (λ w. w .1 ∙ column-stops (s .pre .0) S (on-row t) (k .open-from .ensures) (at-number t) (s .args .joined)
+      ⊎-elim (λ w. w .1 ∙ column-stops (s .pre .0) S (on-row t) (mask-is t) (at-number t) (s .args .joined)
           i (r .vertex-right .ensures) (w .0 .taken))
-          (λ w. w .1 ∙ column-keeps (s .pre .0) S (on-row t) (k .open-from .ensures) (at-number t) (s .args .joined) i
+          (λ w. w .1 ∙ column-keeps (s .pre .0) S (on-row t) (mask-is t) (at-number t) (s .args .joined) i
           (r .vertex-right .ensures) (w .0 .left)) (c .if1 .came),
       omega arith,
     )
@@ -126,12 +142,14 @@ row-right-spec =
     μ-loop
     shifts-of-requires
     classes-of-requires
+    leaving-row-requires
     add-first
     mul-first
     add-x-end
     loop-holds
-    open-from-requires
     slice-aggregate-vertex-right
+    mul-vertex-right
+    array-read-vertex-right
     add-vertex-right
     vertex-right-requires
     add-x

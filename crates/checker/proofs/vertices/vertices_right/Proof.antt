@@ -5,16 +5,17 @@ use native.Mathlib.Omega.{arith}
 use Rattle.basics.proofs.Scan.{Passed, passed-none, passed-stop, passed-more, passed-all}
 use Rattle.floor.specs.Floor.{floorOf}
 use Rattle.paths.specs.Sheet.{Sheet, sheetOf}
-use Rattle.grid.specs.Grid.{floorGraph}
+use Rattle.grid.specs.Leaving.{leavingGraph}
 use Rattle.checker.specs.Tests.{rowTest}
 use Rattle.checker.proofs.Passes.{vertices-rows}
+use Rattle.checker.proofs.Leaving.{vertices-leaving}
 use borrow.Author.Needs.{needs}
 use Rattle.checker.proofs.vertices.vertices_right.Statement.{statement}
 use Rattle.checker.proofs.vertices.vertices_right.Tie as tie
 
 abbrev Inv-loop : tie.InvT-loop
 Inv-loop w h map rows joined d e f back route a b y₀ y-end y =
-    Passed (suc h) y (rowTest joined (floorGraph (floorOf w h map) rows) a b (sheetOf d e f back route 0) w)
+    Passed (suc h) y (rowTest joined (leavingGraph (floorOf w h map) rows) a b (sheetOf d e f back route 0) w)
 
 abbrev μ-loop : tie.MeasureT-loop
 μ-loop w h map rows joined d e f back route a b y₀ y-end y = y-end - y
@@ -45,6 +46,7 @@ returns c =
     let a = s .args in
     passed-stop (r .row-right .result) (l .loop .inv) (row-in (r .before)) (r .row-right .ensures) (c .if1 .taken)
     ∙ vertices-rows (a .w) (a .h) (a .map .now) (a .rows) (a .joined) (a .a .0) (a .b .0) (sheet s)
+    ∙ vertices-leaving (s .pre .job) (sheet s) (a .joined)
 
 add-y : tie.Need-add-y Inv-loop μ-loop
 add-y c =
@@ -66,6 +68,7 @@ returns-2 c =
     let a = s .args in
     passed-all (l .loop .inv) (omega arith)
     ∙ vertices-rows (a .w) (a .h) (a .map .now) (a .rows) (a .joined) (a .a .0) (a .b .0) (sheet s)
+    ∙ vertices-leaving (s .pre .job) (sheet s) (a .joined)
 
 pub vertices-right-spec : {M : Type 1} → statement M
 vertices-right-spec =

@@ -1,0 +1,349 @@
+-- The masks of the moves that leave each vertex become those of the open moves: at each pinch in turn, the bits of the moves
+-- that lead to it are cleared.
+--
+--   row-off, row-cleared    == one row from a vertex: off the floor, or to a vertex whose opposite bit is cleared
+--   clears-none, clears-more == the rows one after the other
+--   far-back                == the opposite row leads back
+--   leads-all               == the rows that lead from v to u, turned, are those that lead from u to v
+--   cleared-none            == before the first vertex no bit is cleared
+--   cleared-skip, cleared-hit == past a vertex that is no pinch, and past one that is
+--   past-skip, past-hit     == the same of the vertex (x, y), by its mask
+--   cleared-all             == past the last vertex the masks are those of the open moves
+use Prim.Native.Nat.{ℕ, zero, suc, _+_, _*_, _≤_, _<_}
+use mathlib.Core.Path.{_≡_, refl, sym, ap, ap₂, _∙_}
+use mathlib.Core.Logic.{⊎-elim, _⊎_, inl, inr}
+use mathlib.Core.Bool.{Bool, true, false, _&&_, _||_, not, and-true, and-false, true≢false}
+use mathlib.Core.List.{List}
+use mathlib.Core.Option.{Option, none, some}
+use native.Mathlib.Omega.{arith}
+use native.Mathlib.Nat.{mod-lt}
+use borrow.Author.Tests.{lt-ltb, le-ltb, eq-eqb, ne-eqb, eqb-true, ltb-true}
+use lib.Dec.{ltb, eqb}
+use lib.ListN.{length, set, length-set, getD}
+use lib.Seq.{getD-set-same, getD-set-other}
+use Rattle.basics.specs.Bounded.{pick, every, any, bounded-opened}
+use Rattle.basics.specs.Bits.{bit}
+use Rattle.basics.proofs.Bools.{iff-eq, and-intro, and-left, and-right}
+use Rattle.basics.proofs.Bounded.{every-at, any-cases, any-one}
+use Rattle.basics.proofs.Options.{none-some}
+use Rattle.basics.proofs.Order.{le-or-lt, eq-or-ne}
+use Rattle.floor.specs.declared.Vertex.{Vertex}
+use Rattle.floor.specs.Floor.{Floor, vertices, number, column, row}
+use Rattle.floor.proofs.Numbers.{number-lt, number-of, column-le, column-number, row-number}
+use Rattle.sight.specs.Sight.{Segment, segment, pinch, sees}
+use Rattle.moves.specs.declared.Move.{Move}
+use Rattle.moves.specs.declared.Step.the-variants.{To, Off}
+use Rattle.moves.specs.Moves.{moves, moveOf, rowMove, rowsOf, rowAt, moveAt}
+use Rattle.moves.specs.Steps.{shifted, thenAt, farEndAt, endIf, isSome, stepOf}
+use Rattle.moves.proofs.Steps.{shifted-is}
+use Rattle.moves.specs.AnyTable.{Turned}
+use Rattle.moves.specs.Leaving.{leaves}
+use Rattle.moves.proofs.Table.{whole-lawful, lawful-move, table-short}
+use Rattle.moves.proofs.Steps.{goes-end}
+use Rattle.moves.proofs.Opposites.{goes, goes-back}
+use Rattle.moves.proofs.Leaving.{seen-far}
+use Rattle.masks.specs.Masks.{rowIf, OpenMasks, pinchBit, leavingMask, LeavingTo, clearedTo, Cleared}
+use Rattle.masks.specs.Masks.{WithoutBit, rowEndAt, leadsTo, turnedRow, leadsBack, ClearsRow, ClearsTo}
+use Rattle.masks.proofs.Masks.{leaving-bits, leaving-mark}
+
+-- ---- where a row leads
+
+-- A row of the neighbourhood that has the whole table.
+pub whole-row : (k : ℕ) → moveAt (rowsOf 0 1 (length moves)) k ≡ rowMove k
+whole-row k = let z : rowAt (rowsOf 0 1 (length moves)) k ≡ k = omega arith in ap rowMove z
+
+pub end-off : (o : Option ℕ) → stepOf o ≡ Off → o ≡ none
+unfolding stepOf
+end-off none e = refl
+end-off (some w) e = let z : _≡_ {A = ℕ} 0 1 = cc in absurd (omega arith)
+
+pub end-to : (o : Option ℕ) (v : Vertex) → stepOf o ≡ To v → o ≡ some (v .0)
+unfolding stepOf
+end-to none v e = let z : _≡_ {A = ℕ} 0 1 = cc in absurd (omega arith)
+end-to (some u) v e = let q : _≡_ {A = Vertex} (record { 0 = u }) v = cc in ap (λ (x : Vertex). some (x .0)) q
+
+-- Where a move leads is told by its offsets alone.
+pub offsets-end : (w h x y : ℕ) (m : Move) → farEndAt w h (moveOf (m .dx) (m .dy) 0) x y ≡ farEndAt w h m x y
+unfolding farEndAt
+offsets-end w h x y m = refl
+
+-- It is a vertex of the floor.
+pub end-inside : (w h x y k u : ℕ) → rowEndAt w h x y k ≡ some u → u < vertices w h
+unfolding farEndAt thenAt
+end-inside w h x y k u e = cases (shifted w x (m .dx)) (shifted h y (m .dy)) refl refl e
+  where
+    m : Move
+    m = rowMove k
+
+    cases : (a b : Option ℕ) → shifted w x (m .dx) ≡ a → shifted h y (m .dy) ≡ b
+        → thenAt a (λ i. thenAt b (λ j. some (number w i j))) ≡ some u → u < vertices w h
+    cases none b p q e = none-some e
+    cases (some i) none p q e = none-some e
+    cases (some i) (some j) p q e =
+        let same : number w i j ≡ u = cc in
+        rw (← same) (number-lt w h i j (shifted-is w x i (m .dx) p .inside) (shifted-is h y j (m .dy) q .inside))
+
+-- ---- one row, and all
+
+module _ {w h x y k : ℕ} {l : List ℕ} where
+  pub row-off : rowEndAt w h x y k ≡ none → ClearsRow w h x y k l l
+  unfolding leadsTo
+  row-off e = record { len = refl; at = λ u j i. sym (rw e (and-true (bit (getD l u 0) j))) }
+
+  pub row-cleared : {u m : ℕ} → rowEndAt w h x y k ≡ some u → u < length l → WithoutBit (turnedRow k) (getD l u 0) m
+      → ClearsRow w h x y k l (set l u m)
+  unfolding leadsTo
+  row-cleared {u} {m} e i W = record {
+    len = length-set l u m;
+    at = λ v j lv. ⊎-elim
+        (λ (s : u ≡ v). rw (e, ← s, getD-set-same l u m 0 i, eq-eqb u u refl) (W .at j))
+        (λ (n : u ≡ v → ⊥).
+        rw (e, getD-set-other l u v m 0 (λ q. n (sym q)), ne-eqb u v n) (sym (and-true (bit (getD l v 0) j)))) (eq-or-ne u v);
+  }
+
+pub clears-none : {w h x y : ℕ} {l : List ℕ} → ClearsTo w h x y 0 l l
+unfolding any
+clears-none {l = l} = record { len = refl; at = λ u j i. sym (and-true (bit (getD l u 0) j)) }
+
+pub clears-more : {w h x y n : ℕ} {l r t : List ℕ} → ClearsTo w h x y n l r → ClearsRow w h x y n r t
+    → ClearsTo w h x y (suc n) l t
+unfolding any
+clears-more {w} {h} {x} {y} {n} {l} {r} {t} A B = record {
+  len = B .len ∙ A .len;
+  at = λ u j i.
+      B .at u j (omega (arith, A .len)) ∙ ap (λ b. b && not (leadsBack w h x y u j n)) (A .at u j i)
+      ∙ both (bit (getD l u 0) j) (any n (leadsBack w h x y u j)) (leadsBack w h x y u j n);
+}
+  where
+    both : (a b c : Bool) → ((a && not b) && not c) ≡ (a && not (b || c))
+    both true true c = refl
+    both true false c = refl
+    both false b c = refl
+
+-- ---- back again
+
+-- Nothing is asked of the segment.
+abbrev anyway : Floor → Segment → Bool
+anyway f s = true
+
+end-anyway : (f : Floor) (m : Move) (x y : ℕ) → endIf anyway f m x y ≡ farEndAt (f .wide) (f .high) m x y
+unfolding endIf thenAt
+end-anyway f m x y = cases (farEndAt (f .wide) (f .high) m x y)
+  where
+    cases : (o : Option ℕ) → thenAt o (λ u. some u) ≡ o
+    cases none = refl
+    cases (some u) = refl
+
+turned-below : (k : ℕ) → k < length moves → turnedRow k < length moves
+turned-below k l = mod-lt _ (omega arith)
+
+turned-twice : (k : ℕ) → k < length moves → turnedRow (turnedRow k) ≡ k
+unfolding bounded-opened
+turned-twice k l = eqb-true _ _ (every-at (length moves) (λ k. eqb (turnedRow (turnedRow k)) k) refl k l)
+
+module _ (f : Floor) where
+  abbrev W : ℕ
+  W = f .wide
+
+  abbrev H : ℕ
+  H = f .high
+
+  abbrev X : ℕ → ℕ
+  X = column W
+
+  abbrev Y : ℕ → ℕ
+  Y = row W
+
+  abbrev end : ℕ → ℕ → Option ℕ
+  end v k = rowEndAt W H (X v) (Y v) k
+
+  far-back : (u v k : ℕ) → u < vertices W H → k < length moves → end u k ≡ some v → end v (turnedRow k) ≡ some u
+  far-back u v k i l e =
+      let law = lawful-move (rowsOf 0 1 (length moves)) k whole-lawful l in
+      let dx : Turned (rowMove (turnedRow k) .dx) (rowMove k .dx) =
+      rw (whole-row k, whole-row (turnedRow k)) at (law .opposite-dx) in
+      let dy : Turned (rowMove (turnedRow k) .dy) (rowMove k .dy) =
+      rw (whole-row k, whole-row (turnedRow k)) at (law .opposite-dy) in
+      let g = goes anyway f (rowMove k) u v (end-anyway f (rowMove k) (X u) (Y u) ∙ e) in
+      sym (end-anyway f (rowMove (turnedRow k)) (X v) (Y v))
+      ∙ goes-end anyway f (rowMove (turnedRow k)) (X v) (Y v) u (column-le W v)
+      (goes-back anyway f (λ s. refl) (rowMove k) (rowMove (turnedRow k)) u v i dx dy g)
+
+  leads-is : (o : Option ℕ) (v : ℕ) → leadsTo o v ≡ true → o ≡ some v
+  unfolding leadsTo
+  leads-is none v e = absurd (true≢false (sym e))
+  leads-is (some u) v e = ap some (eqb-true u v e)
+
+  is-leads : (o : Option ℕ) (v : ℕ) → o ≡ some v → leadsTo o v ≡ true
+  unfolding leadsTo
+  is-leads o v e = rw e (eq-eqb v v refl)
+
+  leads-all : (u v k : ℕ) → u < vertices W H → v < vertices W H → k < length moves
+      → any (length moves) (leadsBack W H (X v) (Y v) u k) ≡ leadsTo (end u k) v
+  leads-all u v k i j l = iff-eq _ _
+      (λ t.
+      let c = any-cases (length moves) (leadsBack W H (X v) (Y v) u k) t in
+      let there = leads-is (end v (c .0)) u (and-left (leadsTo (end v (c .0)) u) (eqb (turnedRow (c .0)) k) (c .2)) in
+      let turned : turnedRow (c .0) ≡ k =
+      eqb-true (turnedRow (c .0)) k (and-right (leadsTo (end v (c .0)) u) (eqb (turnedRow (c .0)) k) (c .2)) in
+      is-leads (end u k) v (rw turned at (far-back v u (c .0) j (c .1) there)))
+      (λ t.
+      any-one (length moves) (turnedRow k) (leadsBack W H (X v) (Y v) u k) (turned-below k l)
+      (and-intro _ _ (is-leads (end v (turnedRow k)) u (far-back u v k i l (leads-is (end u k) v t)))
+      (eq-eqb _ _ (turned-twice k l))))
+
+  -- No bit but those of the rows is cleared.
+  leads-none : (u v j : ℕ) → length moves ≤ j → any (length moves) (leadsBack W H (X v) (Y v) u j) ≡ false
+  leads-none u v j l = cases (any (length moves) (leadsBack W H (X v) (Y v) u j)) refl
+    where
+      cases : (t : Bool) → any (length moves) (leadsBack W H (X v) (Y v) u j) ≡ t → t ≡ false
+      cases false e = refl
+      cases true e =
+          let c = any-cases (length moves) (leadsBack W H (X v) (Y v) u j) e in
+          let turned : turnedRow (c .0) ≡ j =
+          eqb-true (turnedRow (c .0)) j (and-right (leadsTo (end v (c .0)) u) (eqb (turnedRow (c .0)) j) (c .2)) in
+          absurd (omega (arith, turned, turned-below (c .0) (c .1)))
+
+  -- ---- past one vertex after the other
+
+  abbrev holds : Bool → ℕ → Bool
+  holds b w = isSome (elim b [ true ↦ some w | false ↦ none ])
+
+  holds-is : (b : Bool) (w : ℕ) → holds b w ≡ b
+  unfolding isSome
+  holds-is true w = refl
+  holds-is false w = refl
+
+  -- A row from vertex v, by its far end.
+  row-at : (S : Floor → Segment → Bool) (v k : ℕ) (o : Option ℕ) → end v k ≡ o
+      → rowIf S f (X v) (Y v) k ≡ isSome (thenAt o (λ w. elim (S f (segment W v w)) [ true ↦ some w | false ↦ none ]))
+  unfolding endIf
+  row-at S v k o e = rw (e, number-of W v)
+
+  row-to : (S : Floor → Segment → Bool) (v k w : ℕ) → end v k ≡ some w → rowIf S f (X v) (Y v) k ≡ S f (segment W v w)
+  unfolding thenAt
+  row-to S v k w e = row-at S v k (some w) e ∙ holds-is (S f (segment W v w)) w
+
+  row-nowhere : (S : Floor → Segment → Bool) (v k : ℕ) → end v k ≡ none → rowIf S f (X v) (Y v) k ≡ false
+  unfolding thenAt isSome
+  row-nowhere S v k e = row-at S v k none e
+
+  cleared-to : (t v w : ℕ)
+      → clearedTo t f (segment W v w) ≡ (leaves f (segment W v w) && not (pinch f (X w) (Y w) && ltb w t))
+  unfolding clearedTo segment
+  cleared-to t v w = rw (number-of W w)
+
+  -- The masks of the moves that leave.
+  pub cleared-none : {l : List ℕ} → LeavingTo f (vertices W H) l → Cleared f 0 l
+  cleared-none {l} L = record {
+    len = L .len;
+    at = λ v i. record { at = λ k h. ap (λ n. bit n k) (L .at v i) ∙ leaving-bits f (X v) (Y v) (column-le W v) .at k h ∙ none-yet v k (end v k) refl };
+    mark = λ v i. ap (λ n. bit n pinchBit) (L .at v i) ∙ leaving-mark f (X v) (Y v);
+  }
+    where
+      none-yet : (v k : ℕ) (o : Option ℕ) → end v k ≡ o → rowIf leaves f (X v) (Y v) k ≡ rowIf (clearedTo 0) f (X v) (Y v) k
+      none-yet v k none e = row-nowhere leaves v k e ∙ sym (row-nowhere (clearedTo 0) v k e)
+      none-yet v k (some w) e =
+          row-to leaves v k w e
+          ∙ sym (row-to (clearedTo 0) v k w e ∙ cleared-to 0 v w
+          ∙ rw (le-ltb w 0 (omega arith), and-false (pinch f (X w) (Y w))) (and-true (leaves f (segment W v w))))
+
+  -- Past vertex v, where each move to it that is not cleared yet is cleared, if it is a pinch.
+  module _ (v : ℕ) where
+    past : (b : Bool) (w : ℕ) → (pinch f (X v) (Y v) ≡ true)
+        → ((b && not (pinch f (X w) (Y w) && ltb w v)) && not (eqb w v))
+        ≡ (b && not (pinch f (X w) (Y w) && ltb w (suc v)))
+    past b w p = ⊎-elim
+        (λ (e : w ≡ v). rw (e, p, eq-eqb v v refl, lt-ltb v (suc v) (omega arith), and-false b)
+        (and-false (b && not (true && ltb v v))))
+        (λ (n : w ≡ v → ⊥).
+        rw (ne-eqb w v n, next w n) (and-true (b && not (pinch f (X w) (Y w) && ltb w (suc v))))) (eq-or-ne w v)
+      where
+        next : (w : ℕ) → (w ≡ v → ⊥) → ltb w v ≡ ltb w (suc v)
+        next w n = ⊎-elim (λ (l : suc w ≤ v). lt-ltb w v l ∙ sym (lt-ltb w (suc v) (omega arith)))
+            (λ (l : v < suc w). le-ltb w v (omega arith) ∙ sym (le-ltb w (suc v) (omega (arith, n)))) (le-or-lt (suc w) v)
+
+    row-past : (u k : ℕ) → pinch f (X v) (Y v) ≡ true → (o : Option ℕ) → end u k ≡ o
+        → (rowIf (clearedTo v) f (X u) (Y u) k && not (leadsTo o v)) ≡ rowIf (clearedTo (suc v)) f (X u) (Y u) k
+    unfolding leadsTo
+    row-past u k p none e =
+        ap (λ b. b && true) (row-nowhere (clearedTo v) u k e) ∙ sym (row-nowhere (clearedTo (suc v)) u k e)
+    row-past u k p (some w) e =
+        ap (λ b. b && not (eqb w v)) (row-to (clearedTo v) u k w e ∙ cleared-to v u w)
+        ∙ past (leaves f (segment W u w)) w p ∙ sym (row-to (clearedTo (suc v)) u k w e ∙ cleared-to (suc v) u w)
+
+    pub cleared-hit : {l r : List ℕ} → v < vertices W H → pinch f (X v) (Y v) ≡ true → Cleared f v l
+        → ClearsTo W H (X v) (Y v) (length moves) l r → Cleared f (suc v) r
+    cleared-hit {l} {r} j p C R = record {
+      len = R .len ∙ C .len;
+      at = λ u i. record {
+        at = λ k h.
+            R .at u k (omega (arith, C .len)) ∙ ap₂ (λ a b. a && not b) (C .at u i .at k h) (leads-all u v k i j h)
+            ∙ row-past u k p (end u k) refl;
+      };
+      mark = λ u i.
+          R .at u pinchBit (omega (arith, C .len))
+          ∙ ap₂ (λ a b. a && not b) (C .mark u i) (leads-none u v pinchBit (omega arith))
+          ∙ and-true (pinch f (X u) (Y u));
+    }
+
+    row-same : (u k : ℕ) → pinch f (X v) (Y v) ≡ false → (o : Option ℕ) → end u k ≡ o
+        → rowIf (clearedTo v) f (X u) (Y u) k ≡ rowIf (clearedTo (suc v)) f (X u) (Y u) k
+    row-same u k p none e = row-nowhere (clearedTo v) u k e ∙ sym (row-nowhere (clearedTo (suc v)) u k e)
+    row-same u k p (some w) e =
+        row-to (clearedTo v) u k w e ∙ cleared-to v u w
+        ∙ ap (λ b. leaves f (segment W u w) && not b) (same w)
+        ∙ sym (row-to (clearedTo (suc v)) u k w e ∙ cleared-to (suc v) u w)
+      where
+        same : (w : ℕ) → (pinch f (X w) (Y w) && ltb w v) ≡ (pinch f (X w) (Y w) && ltb w (suc v))
+        same w = ⊎-elim (λ (l : suc w ≤ v). rw (lt-ltb w v l, lt-ltb w (suc v) (omega arith)))
+            (λ (l : v < suc w). ⊎-elim (λ (s : w ≡ v). rw (s, p))
+            (λ (n : w ≡ v → ⊥). rw (le-ltb w v (omega arith), le-ltb w (suc v) (omega (arith, n)))) (eq-or-ne w v))
+            (le-or-lt (suc w) v)
+
+    pub cleared-skip : {l : List ℕ} → pinch f (X v) (Y v) ≡ false → Cleared f v l → Cleared f (suc v) l
+    cleared-skip p C = record {
+      len = C .len;
+      at = λ u i. record { at = λ k h. C .at u i .at k h ∙ row-same u k p (end u k) refl };
+      mark = C .mark;
+    }
+
+  -- The same of the vertex (x, y), by the bit of its mask that says whether it is a pinch.
+  module _ (x y : ℕ) (on : x ≤ W) (in-y : y ≤ H) {l : List ℕ} (C : Cleared f (number W x y) l) where
+    abbrev v : ℕ
+    v = number W x y
+
+    inside : v < vertices W H
+    inside = number-lt W H x y on in-y
+
+    is-pinch : bit (getD l v 0) pinchBit ≡ pinch f (X v) (Y v)
+    is-pinch = C .mark v inside
+
+    next : suc v ≡ number W (suc x) y
+    next = omega arith
+
+    pub past-skip : bit (getD l v 0) pinchBit ≡ false → Cleared f (number W (suc x) y) l
+    past-skip e = rw next at (cleared-skip v (sym is-pinch ∙ e) C)
+
+    pub past-hit : {r : List ℕ} → bit (getD l v 0) pinchBit ≡ true → ClearsTo W H x y (length moves) l r
+        → Cleared f (number W (suc x) y) r
+    past-hit {r} e R =
+        rw next
+        at (cleared-hit v {r = r} inside (sym is-pinch ∙ e) C (rw (column-number W x y on, row-number W x y on) R))
+
+  pub cleared-all : {t : ℕ} {l : List ℕ} → vertices W H ≤ t → Cleared f t l → OpenMasks f l
+  cleared-all {t} {l} all C = record {
+    len = C .len;
+    at = λ v i. record { at = λ k h. C .at v i .at k h ∙ open-row v k i h (end v k) refl };
+  }
+    where
+      open-row : (v k : ℕ) → v < vertices W H → k < length moves → (o : Option ℕ) → end v k ≡ o
+          → rowIf (clearedTo t) f (X v) (Y v) k ≡ rowIf sees f (X v) (Y v) k
+      open-row v k i h none e = row-nowhere (clearedTo t) v k e ∙ sym (row-nowhere sees v k e)
+      open-row v k i h (some w) e =
+          let law = rw (whole-row k) at (lawful-move (rowsOf 0 1 (length moves)) k whole-lawful h .is-narrow) in
+          let g = goes anyway f (rowMove k) v w (end-anyway f (rowMove k) (X v) (Y v) ∙ e) in
+          let below = end-inside W H (X v) (Y v) k w e in
+          row-to (clearedTo t) v k w e ∙ cleared-to t v w
+          ∙ rw (lt-ltb w t (omega arith), and-true (pinch f (X w) (Y w)))
+          (sym (row-to sees v k w e ∙ seen-far f (rowMove k) (table-short k h) law v i anyway w g))
