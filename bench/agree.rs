@@ -115,15 +115,28 @@ fn all_agree_on(floor: Floor, job: Job, truth: &Truth, random: &mut Random) {
     }
 }
 
-/// Sight as its definition has it, cell by cell.
-fn sees_by_definition(floor: Floor, a: u32, b: u32) -> bool {
+fn is_blocked(floor: Floor, i: i32, j: i32) -> bool {
     let (width, height) = (floor.width as i32, floor.height as i32);
-    let point = |v: u32| (v as i32 % (width + 1), v as i32 / (width + 1));
-    let blocked = |i: i32, j: i32| {
-        let inside = 0 <= i && i < width && 0 <= j && j < height;
-        !inside || floor.map[(j * width + i) as usize] == 1
-    };
-    let ((x0, y0), (x1, y1)) = (point(a), point(b));
+    let inside = 0 <= i && i < width && 0 <= j && j < height;
+    !inside || floor.map[(j * width + i) as usize] == 1
+}
+
+fn point(floor: Floor, v: u32) -> (i32, i32) {
+    let columns = floor.width + 1;
+    ((v % columns) as i32, (v / columns) as i32)
+}
+
+/// Exactly two of the four cells at a vertex are blocked, and they are diagonal to each other.
+fn is_pinch(floor: Floor, v: u32) -> bool {
+    let (x, y) = point(floor, v);
+    let cells = [(x - 1, y - 1), (x, y - 1), (x, y), (x - 1, y)].map(|(i, j)| is_blocked(floor, i, j));
+    cells == [true, false, true, false] || cells == [false, true, false, true]
+}
+
+/// Sight as its definition has it, cell by cell and vertex by vertex.
+fn sees_by_definition(floor: Floor, a: u32, b: u32) -> bool {
+    let blocked = |i: i32, j: i32| is_blocked(floor, i, j);
+    let ((x0, y0), (x1, y1)) = (point(floor, a), point(floor, b));
     let (columns, rows) = (x0.min(x1)..x0.max(x1), y0.min(y1)..y0.max(y1));
     let side = |p: i32, q: i32| (x1 - x0) * (q - y0) - (y1 - y0) * (p - x0);
     let enters = |i: i32, j: i32| {
@@ -133,19 +146,75 @@ fn sees_by_definition(floor: Floor, a: u32, b: u32) -> bool {
     let entered = rows.clone().any(|j| columns.clone().any(|i| blocked(i, j) && enters(i, j)));
     let shut_row = y0 == y1 && columns.clone().any(|i| blocked(i, y0 - 1) && blocked(i, y0));
     let shut_column = x0 == x1 && rows.clone().any(|j| blocked(x0 - 1, j) && blocked(x0, j));
-    !entered && !shut_row && !shut_column
+    let passed = |v: u32| {
+        let (p, q) = point(floor, v);
+        let within = x0.min(x1) <= p && p <= x0.max(x1) && y0.min(y1) <= q && q <= y0.max(y1);
+        within && side(p, q) == 0
+    };
+    let pinched = a != b && (0..floor.vertices() as u32).any(|v| is_pinch(floor, v) && passed(v));
+    !entered && !shut_row && !shut_column && !pinched
 }
 
-/// One random floor of any sides, with any ends: answers 0, 7 and 8 all occur.
+/// Every program refuses a job with a pinch for an end, and leaves all slices as they were. A pinch sees itself alone.
+fn agree_on_pinched_end(floor: Floor, job: Job, random: &mut Random) {
+    let pinch = if is_pinch(floor, job.a) { job.a } else { job.b };
+    let refusal = Refusal::PinchedEnd;
+    for program in &PROGRAMS {
+        let name = program.name;
+        let before = Slices::new(floor.vertices(), random.below(256) as u8);
+        let mut slices = before.clone();
+        if is_pinch(floor, job.a) {
+            assert_eq!(slices.plan(program, floor, job), Err(refusal), "plan: a pinched end, {name}");
+            assert_eq!(slices.costs(program, floor, job), Err(refusal), "costs: a pinched end, {name}");
+        }
+        assert_eq!(slices.finish(program, floor, job), Err(refusal), "finish: a pinched end, {name}");
+        assert!(slices == before, "a pinched end: the slices of {name}");
+        assert_eq!((program.check)(floor, job, slices.sheet(1)), Err(refusal), "check: a pinched end, {name}");
+        let mut list = [pinch as u16; 4];
+        list[3] = 0;
+        let mut kept = [9; 4];
+        assert_eq!((program.thin)(floor, &list, &mut kept, 4), Err(Refusal::NotJoined), "thin: a pinch, {name}");
+        assert_eq!((program.thin)(floor, &list, &mut kept, 3), Ok(2), "thin: a pinch again, {name}");
+        assert_eq!(kept, [0, 2, 0, 0], "thin: a pinch again, {name}");
+        assert_eq!((program.sight)(floor, pinch, 0), Ok(false), "sight: a pinch, {name}");
+        assert_eq!((program.sight)(floor, pinch, pinch), Ok(true), "sight: a pinch, {name}");
+    }
+}
+
+/// Cells blocked at random; or, on an open floor, in pairs that touch at a corner.
+fn random_map(width: usize, height: usize, random: &mut Random) -> Vec<u8> {
+    let share = [0, 10, 30, 50][random.below(4)];
+    if random.below(3) > 0 || width == 1 || height == 1 {
+        return (0..width * height).map(|_| u8::from(random.below(100) < share)).collect();
+    }
+    let mut map = vec![0; width * height];
+    for _ in 0..width * height * share / 200 + 1 {
+        let (cell, falling) = (random.below(height - 1) * width + random.below(width - 1), random.below(2));
+        map[cell + 1 - falling] = 1;
+        map[cell + width + falling] = 1;
+    }
+    map
+}
+
+/// A vertex that is no pinch; the corners of a floor never are one.
+fn any_end(floor: Floor, random: &mut Random) -> u32 {
+    let v = random.below(floor.vertices()) as u32;
+    if is_pinch(floor, v) { any_end(floor, random) } else { v }
+}
+
+/// One random floor of any sides, with any ends: answers 0, 7, 8 and 11 all occur.
 fn agree_on_random_floor(random: &mut Random) {
     let limit = [3, 8, 40][random.below(3)];
     let (width, height) = (1 + random.below(limit), 1 + random.below(limit));
-    let share = [0, 10, 30, 50][random.below(4)];
-    let map: Vec<u8> = (0..width * height).map(|_| u8::from(random.below(100) < share)).collect();
+    let map = random_map(width, height, random);
     let floor = Floor { width: width as u32, height: height as u32, map: &map };
-    let vertices = floor.vertices();
-    let (a, b) = (random.below(vertices) as u32, random.below(vertices) as u32);
+    let (a, b) = (any_end(floor, random), any_end(floor, random));
     let job = Job { neighbourhood: [4, 8][random.below(2)], a, b };
+    if let Some(pinch) = (0..floor.vertices() as u32).find(|&v| is_pinch(floor, v)) {
+        for ends in [(a, pinch), (pinch, b), (pinch, pinch)] {
+            agree_on_pinched_end(floor, Job { a: ends.0, b: ends.1, ..job }, random);
+        }
+    }
     assert_eq!((TEXTBOOK.sight)(floor, a, b), Ok(sees_by_definition(floor, a, b)), "sight: textbook");
     let truth = truth_of(floor, job);
     all_agree_on(floor, job, &truth, random);

@@ -118,6 +118,16 @@ impl Case {
         Floor { width: self.side as u32, height: self.side as u32, map: &self.map }
     }
 
+    /// Pairs of vertices one column and a whole side apart, or one row and a whole side.
+    pub fn narrow_segments(&self, steep: bool) -> Vec<(u32, u32)> {
+        let (side, columns) = (self.side, self.side + 1);
+        let vertex = |along: usize, across: usize| {
+            let (x, y) = if steep { (across, along) } else { (along, across) };
+            (y * columns + x) as u32
+        };
+        (0..side).map(|k| (vertex(0, k), vertex(side, k + 1))).collect()
+    }
+
     /// Pairs of vertices: at most eight apart in column and row, or at least half the side apart in one of the two.
     pub fn segments(&self, long: bool) -> Vec<(u32, u32)> {
         let columns = self.side + 1;

@@ -1,5 +1,9 @@
-//! The open moves of a vertex as a mask, a bit for each move in move order, from the four cells at the vertex; and what the
-//! hand-written planners and the tuned checker do with it.
+//! The open moves of a vertex as a mask, a bit for each move in move order; and what the hand-written planners and the
+//! tuned checker do with it.
+//!
+//! The four cells at a vertex give its half mask, which has the moves that lead to a pinch too; that of a pinch is 0.
+//! The checker needs no more: the costs of a pinch are true only where they are M, and a move to such a vertex makes
+//! nothing cheaper and adds no count. A planner has whole masks.
 
 use crate::lurfanzi::Floor;
 
@@ -15,14 +19,15 @@ pub fn offsets(columns: usize) -> [isize; 8] {
 /// A row of cells with a blocked cell at either side.
 pub type Cells = [u8; 129];
 
-/// The masks of one row of vertices, from the rows of cells above and below it.
+/// The half masks of one row of vertices, from the rows of cells above and below it.
 pub fn row_masks(above: &Cells, below: &Cells, masks: &mut [u8]) {
     let columns = masks.len();
     let left = above[..columns].iter().zip(&below[..columns]);
     let right = above[1..=columns].iter().zip(&below[1..=columns]);
     for (mask, ((nw, sw), (ne, se))) in masks.iter_mut().zip(left.zip(right)) {
         let shut = (ne & se) | se << 1 | (sw & se) << 2 | sw << 3 | (nw & sw) << 4 | nw << 5 | (nw & ne) << 6 | ne << 7;
-        *mask = !shut;
+        let pinched = (shut == 1 << 1 | 1 << 5) | (shut == 1 << 3 | 1 << 7);
+        *mask = !shut & u8::from(pinched).wrapping_sub(1);
     }
 }
 
@@ -43,15 +48,43 @@ pub fn all_rows(floor: Floor, mut take: impl FnMut(usize, &Cells, &Cells) -> boo
     })
 }
 
+/// Whole masks: half masks, and then each pinch clears the bits of the moves that lead to it.
 pub fn fill_masks(floor: Floor, masks: &mut [u8]) {
     let columns = floor.width as usize + 1;
     all_rows(floor, |y, above, below| {
         row_masks(above, below, &mut masks[y * columns..][..columns]);
         true
     });
+    let offsets = offsets(columns);
+    for y in 1..floor.height as usize {
+        let row = y * columns;
+        for first in (row + 1..row + columns - 1).step_by(8) {
+            let last = (first + 8).min(row + columns - 1);
+            if has_zero(&masks[first..last]) {
+                (first..last).for_each(|v| clear_moves_to(v, masks, &offsets));
+            }
+        }
+    }
 }
 
-/// The mask of one vertex.
+/// Whether one of at most eight bytes is 0.
+fn has_zero(bytes: &[u8]) -> bool {
+    let Ok(eight) = bytes.try_into() else { return bytes.contains(&0) };
+    let word = u64::from_le_bytes(eight);
+    word.wrapping_sub(0x0101_0101_0101_0101) & !word & 0x8080_8080_8080_8080 != 0
+}
+
+/// Clears the bits of the moves that lead to a vertex inside the floor, where its mask is 0. Where it is no pinch, none
+/// is set.
+fn clear_moves_to(v: usize, masks: &mut [u8], offsets: &[isize; 8]) {
+    if masks[v] == 0 {
+        for (k, &offset) in offsets.iter().enumerate() {
+            masks[v.wrapping_add_signed(offset)] &= !(1u8 << 4).rotate_left(k as u32);
+        }
+    }
+}
+
+/// The half mask of one vertex.
 pub fn mask_at(floor: Floor, v: usize) -> u8 {
     let (width, height) = (floor.width as usize, floor.height as usize);
     let (x, y) = (v % (width + 1), v / (width + 1));
@@ -67,7 +100,8 @@ pub fn mask_at(floor: Floor, v: usize) -> u8 {
 }
 
 /// The sum of the counts of the neighbours that are one open move nearer, and whether it passed 64 bits. STEP is 1 for all
-/// moves, 2 for the cardinal ones. The mask is that of v, whose cost is not M, and both slices have a place for each vertex.
+/// moves, 2 for the cardinal ones. The mask is that of v, whose cost is not M, or its half mask; both slices have a
+/// place for each vertex. M, at a pinch, goes round to 407 or 576, which no cost is.
 #[inline(always)]
 pub fn sum<const STEP: usize>(v: usize, mask: u8, offsets: &[isize; 8], d: &[u32], count: &[u64]) -> (u64, bool) {
     let (mut sum, mut over) = (0u64, false);
@@ -75,7 +109,8 @@ pub fn sum<const STEP: usize>(v: usize, mask: u8, offsets: &[isize; 8], d: &[u32
         // SAFETY: an open move leads to a vertex; a shut one is taken to lead to v, which is not nearer.
         unsafe {
             let u = v.wrapping_add_signed(offsets[k] & -((mask >> k & 1) as isize));
-            let nearer = *d.get_unchecked(u) + if k % 2 == 0 { 408 } else { 577 } == *d.get_unchecked(v);
+            let through = d.get_unchecked(u).wrapping_add(if k % 2 == 0 { 408 } else { 577 });
+            let nearer = through == *d.get_unchecked(v);
             let (next, carry) = sum.overflowing_add(if nearer { *count.get_unchecked(u) } else { 0 });
             sum = next;
             over |= carry;
@@ -84,7 +119,7 @@ pub fn sum<const STEP: usize>(v: usize, mask: u8, offsets: &[isize; 8], d: &[u32
     (sum, over)
 }
 
-/// The next vertex of the central route after u, by the mask of u; the counts are 0 off the way.
+/// The next vertex of the central route after u, by the mask or half mask of u; the counts are 0 off the way.
 pub fn next(u: usize, mask: u8, offsets: &[isize; 8], d: &[u32], f: &[u64], back: &[u64]) -> Option<usize> {
     let (mut best, mut next) = (0, None);
     for k in (0..8).filter(|k| mask >> k & 1 != 0) {

@@ -1,6 +1,6 @@
 //! The programs, and one operation of one program on one job.
 
-use crate::floors::Case;
+use crate::floors::{Case, Kind};
 use crate::lurfanzi::{self, Floor, Job, Plan, Refusal, Sheet, SheetMut, Verdict};
 use crate::{buckets, textbook, tuned, tuned_check, tuned_sight};
 use std::hint::black_box;
@@ -71,9 +71,13 @@ pub enum Operation {
     Thin,
     ShortSight,
     LongSight,
+    /// One row and a whole side of columns.
+    FlatSight,
+    /// One column and a whole side of rows.
+    SteepSight,
 }
 
-pub const OPERATIONS: [Operation; 8] = [
+pub const OPERATIONS: [Operation; 10] = [
     Operation::Plan,
     Operation::Costs,
     Operation::Finish,
@@ -82,6 +86,8 @@ pub const OPERATIONS: [Operation; 8] = [
     Operation::Thin,
     Operation::ShortSight,
     Operation::LongSight,
+    Operation::FlatSight,
+    Operation::SteepSight,
 ];
 
 impl Operation {
@@ -95,6 +101,8 @@ impl Operation {
             Operation::Thin => "thin",
             Operation::ShortSight => "short-sight",
             Operation::LongSight => "long-sight",
+            Operation::FlatSight => "flat-sight",
+            Operation::SteepSight => "steep-sight",
         }
     }
 
@@ -106,9 +114,20 @@ impl Operation {
         }
     }
 
+    /// Which segments it asks about; none where it is no sight question.
+    fn segments(self) -> Option<usize> {
+        let sights = [Operation::ShortSight, Operation::LongSight, Operation::FlatSight, Operation::SteepSight];
+        sights.iter().position(|&sight| sight == self)
+    }
+
     /// Whether the neighbourhood matters to it.
     pub fn has_neighbourhood(self) -> bool {
-        !matches!(self, Operation::ShortSight | Operation::LongSight)
+        self.segments().is_none()
+    }
+
+    /// Whether it is measured on a kind of floor: narrow segments are clear on the open one.
+    pub fn is_on(self, kind: Kind) -> bool {
+        kind == Kind::Open || !matches!(self, Operation::FlatSight | Operation::SteepSight)
     }
 }
 
@@ -164,7 +183,7 @@ pub struct Bench<'a> {
     pub points: usize,
     ends: Vec<u32>,
     given: Slices,
-    segments: [Vec<(u32, u32)>; 2],
+    segments: [Vec<(u32, u32)>; 4],
     slices: Slices,
     out: Vec<u16>,
 }
@@ -175,18 +194,16 @@ impl<'a> Bench<'a> {
         let mut truth = Slices::new(vertices, 0);
         let points = truth.plan(&TEXTBOOK, case.floor(), case.job).map_or(0, |plan| plan.points);
         let given = Slices { d: truth.d.clone(), ..Slices::new(vertices, 0xFF) };
-        let (ends, segments) = (case.forty_ends(), [case.segments(false), case.segments(true)]);
+        let narrow = [false, true].map(|steep| case.narrow_segments(steep));
+        let [flat, steep] = narrow;
+        let (ends, segments) = (case.forty_ends(), [case.segments(false), case.segments(true), flat, steep]);
         let (slices, out) = (Slices::new(vertices, 0xFF), vec![0xFFFF; vertices]);
         Bench { case, truth, points, ends, given, segments, slices, out }
     }
 
     /// How many operations a run has.
     pub fn count(&self, operation: Operation) -> usize {
-        match operation {
-            Operation::ShortSight => self.segments[0].len(),
-            Operation::LongSight => self.segments[1].len(),
-            _ => 1,
-        }
+        operation.segments().map_or(1, |k| self.segments[k].len())
     }
 
     pub fn run(&mut self, program: &Program, operation: Operation) {
@@ -216,8 +233,8 @@ impl<'a> Bench<'a> {
                 _ = black_box((program.thin)(floor, &self.truth.route, &mut self.out, self.points));
                 black_box(&self.out);
             }
-            Operation::ShortSight | Operation::LongSight => {
-                for &(a, b) in &self.segments[usize::from(operation == Operation::LongSight)] {
+            Operation::ShortSight | Operation::LongSight | Operation::FlatSight | Operation::SteepSight => {
+                for &(a, b) in operation.segments().iter().flat_map(|&k| &self.segments[k]) {
                     _ = black_box((program.sight)(floor, a, b));
                 }
             }

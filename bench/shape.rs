@@ -1,4 +1,4 @@
-//! Refusals 1 to 6, for all baselines.
+//! Refusals 1 to 5, 11 and 6, in this order, for all baselines; and pinches.
 
 use crate::lurfanzi::{Floor, Job, Refusal, Sheet};
 
@@ -23,6 +23,26 @@ pub fn of_end(floor: Floor, end: u32) -> Result<(), Refusal> {
     }
 }
 
+/// Whether one diagonal pair of the four cells at a vertex is blocked and the other open. On the floor's edge the cells
+/// outside are side by side.
+pub fn is_pinch(floor: Floor, x: usize, y: usize) -> bool {
+    let (width, height) = (floor.width as usize, floor.height as usize);
+    if x == 0 || y == 0 || x >= width || y >= height {
+        return false;
+    }
+    let (above, below) = (&floor.map[(y - 1) * width + x - 1..][..2], &floor.map[y * width + x - 1..][..2]);
+    above[0] == below[1] && above[1] == below[0] && above[0] != above[1]
+}
+
+fn of_pinch(floor: Floor, end: u32) -> Result<(), Refusal> {
+    let columns = floor.width + 1;
+    if is_pinch(floor, (end % columns) as usize, (end / columns) as usize) {
+        Err(Refusal::PinchedEnd)
+    } else {
+        Ok(())
+    }
+}
+
 fn of_moves(floor: Floor, neighbourhood: u32) -> Result<(), Refusal> {
     of_floor(floor)?;
     if neighbourhood == 4 || neighbourhood == 8 {
@@ -32,10 +52,11 @@ fn of_moves(floor: Floor, neighbourhood: u32) -> Result<(), Refusal> {
     }
 }
 
-/// Refusals 1 to 6 of the costs from one end.
+/// Refusals of the costs from one end.
 pub fn of_costs(floor: Floor, neighbourhood: u32, a: u32, d: &[u32], work: &[u32]) -> Result<(), Refusal> {
     of_moves(floor, neighbourhood)?;
     of_end(floor, a)?;
+    of_pinch(floor, a)?;
     if d.len() != floor.vertices() {
         return Err(Refusal::BadSliceLength);
     }
@@ -50,11 +71,13 @@ pub fn of_work(floor: Floor, work: &[u32]) -> Result<(), Refusal> {
     }
 }
 
-/// Refusals 1 to 6 of a job, but for the working slice.
+/// Refusals of a job, but for the working slice.
 pub fn of_job(floor: Floor, job: Job, sheet: Sheet) -> Result<(), Refusal> {
     of_moves(floor, job.neighbourhood)?;
     of_end(floor, job.a)?;
     of_end(floor, job.b)?;
+    of_pinch(floor, job.a)?;
+    of_pinch(floor, job.b)?;
     let lengths = [sheet.d.len(), sheet.e.len(), sheet.f.len(), sheet.back.len(), sheet.route.len()];
     if lengths.iter().any(|&length| length != floor.vertices()) {
         return Err(Refusal::BadSliceLength);

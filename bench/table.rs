@@ -50,9 +50,9 @@ fn floors() -> impl Iterator<Item = (Kind, u32)> {
     KINDS.into_iter().flat_map(|kind| [(kind, 8), (kind, 4)])
 }
 
-/// Whether the operation is measured with the neighbourhood: with one of them where it does not matter.
-fn is_measured(operation: Operation, neighbourhood: u32) -> bool {
-    neighbourhood == 8 || operation.has_neighbourhood()
+/// Whether the operation is measured on the floor with the neighbourhood: with one of them where it does not matter.
+fn is_measured(operation: Operation, kind: Kind, neighbourhood: u32) -> bool {
+    operation.is_on(kind) && (neighbourhood == 8 || operation.has_neighbourhood())
 }
 
 fn rows(rounds: usize) -> Vec<Row> {
@@ -64,7 +64,7 @@ fn rows(rounds: usize) -> Vec<Row> {
             agree::agree_on_case(&case);
             let mut bench = Bench::new(&case);
             for (operation, by_side) in OPERATIONS.into_iter().zip(&mut by_operation) {
-                if is_measured(operation, neighbourhood) {
+                if is_measured(operation, kind, neighbourhood) {
                     // Forty jobs take as long as many rounds of the others.
                     let rounds = if operation == Operation::FortyJobs { rounds.div_ceil(10) } else { rounds };
                     by_side.push(measure(&mut bench, operation.programs(), operation, rounds));
@@ -88,6 +88,8 @@ fn title(operation: Operation) -> &'static str {
         Operation::Thin => "Thinning of the central route",
         Operation::ShortSight => "Sight question, at most 8 cells",
         Operation::LongSight => "Sight question, at least half the side",
+        Operation::FlatSight => "Sight question, one row and the whole side",
+        Operation::SteepSight => "Sight question, one column and the whole side",
     }
 }
 
@@ -142,7 +144,7 @@ pub fn print(rounds: usize) {
 /// Prints the name of every measurement of the table, in the order of its rows.
 pub fn list() {
     for operation in OPERATIONS {
-        for (kind, neighbourhood) in floors().filter(|&(_, neighbourhood)| is_measured(operation, neighbourhood)) {
+        for (kind, neighbourhood) in floors().filter(|&(kind, moves)| is_measured(operation, kind, moves)) {
             for side in SIDES {
                 println!("{} {} {side} {neighbourhood}", operation.name(), kind.name());
             }

@@ -38,6 +38,13 @@ impl<'a> Grid<'a> {
         !inside || self.map[(j * self.width + i) as usize] != 0
     }
 
+    /// Whether exactly two of the four cells at a vertex are blocked, and they are diagonal to each other.
+    fn is_pinch(&self, x: i32, y: i32) -> bool {
+        let (left, right) = (self.is_blocked(x - 1, y - 1), self.is_blocked(x, y - 1));
+        left != right && self.is_blocked(x - 1, y) == right && self.is_blocked(x, y) == left
+    }
+
+    /// Whether a move between vertices that are no pinches is open.
     fn is_open(&self, x: i32, y: i32, dx: i32, dy: i32) -> bool {
         let (i, j) = (x + dx.min(0), y + dy.min(0));
         if dy == 0 {
@@ -53,9 +60,10 @@ impl<'a> Grid<'a> {
     fn moves(&self, v: usize) -> impl Iterator<Item = (usize, u32)> + 'a {
         let grid = *self;
         let (x, y) = grid.point(v);
-        MOVES.iter().step_by(grid.step).filter_map(move |&(dx, dy, cost)| {
+        let moves = if grid.is_pinch(x, y) { &[] } else { &MOVES[..] };
+        moves.iter().step_by(grid.step).filter_map(move |&(dx, dy, cost)| {
             let on_floor = 0 <= x + dx && x + dx <= grid.width && 0 <= y + dy && y + dy <= grid.height;
-            let open = on_floor && grid.is_open(x, y, dx, dy);
+            let open = on_floor && grid.is_open(x, y, dx, dy) && !grid.is_pinch(x + dx, y + dy);
             open.then(|| (((y + dy) * (grid.width + 1) + x + dx) as usize, cost))
         })
     }
@@ -86,15 +94,21 @@ impl<'a> Grid<'a> {
     fn sees(&self, a: usize, b: usize) -> bool {
         let ((x0, y0), (x1, y1)) = (self.point(a), self.point(b));
         if (x1 - x0).abs() >= (y1 - y0).abs() {
-            sees_along((x0, y0), (x1, y1), |i, j| self.is_blocked(i, j))
+            sees_along((x0, y0), (x1, y1), |i, j| self.is_blocked(i, j), |x, y| self.is_pinch(x, y))
         } else {
-            sees_along((y0, x0), (y1, x1), |j, i| self.is_blocked(i, j))
+            sees_along((y0, x0), (y1, x1), |j, i| self.is_blocked(i, j), |y, x| self.is_pinch(x, y))
         }
     }
 }
 
-/// Theta*'s line of sight, with x as the longer side.
-fn sees_along((mut x, mut y): (i32, i32), (x1, y1): (i32, i32), is_blocked: impl Fn(i32, i32) -> bool) -> bool {
+/// Theta*'s line of sight, with x as the longer side; where f is 0 the segment is at a vertex.
+fn sees_along(
+    (mut x, mut y): (i32, i32), (x1, y1): (i32, i32),
+    is_blocked: impl Fn(i32, i32) -> bool, is_pinch: impl Fn(i32, i32) -> bool,
+) -> bool {
+    if x != x1 && is_pinch(x, y) {
+        return false;
+    }
     let (dx, dy) = ((x1 - x).abs(), (y1 - y).abs());
     let (step_x, step_y) = (if x1 < x { -1 } else { 1 }, if y1 < y { -1 } else { 1 });
     let (cell_x, cell_y) = ((step_x - 1) / 2, (step_y - 1) / 2);
@@ -115,6 +129,9 @@ fn sees_along((mut x, mut y): (i32, i32), (x1, y1): (i32, i32), is_blocked: impl
             return false;
         }
         x += step_x;
+        if f == 0 && is_pinch(x, y) {
+            return false;
+        }
     }
     true
 }

@@ -8,8 +8,9 @@ use crate::tuned_check::costs_are_true;
 /// The moves worth trying at a vertex that was reached by move `via` (8: the start), by the mask of its open moves.
 ///
 /// A move is left out when the vertex before reaches its far end no dearer without this vertex: after a diagonal move all
-/// but the three ahead; after a cardinal move all but the one ahead, and, on a side where the cell behind is blocked, the
-/// two on that side. Of equals the diagonal move goes first: the canonical ordering of grid paths.
+/// but the three ahead; after a cardinal move all but the one ahead, and, on a side where the move back across the cell
+/// behind is shut, the two on that side. Of equals the diagonal move goes first: the canonical ordering of grid paths.
+/// The other way turns at a vertex with two open cells side by side, which is no pinch.
 const fn worth_trying() -> [[u8; 256]; 9] {
     let mut table = [[0; 256]; 9];
     let mut mask = 0;

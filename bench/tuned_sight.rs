@@ -1,7 +1,7 @@
-//! The hand-tuned line of sight and thinning: a segment's cells as one run in each row.
+//! The hand-tuned line of sight and thinning: a segment's cells as one run in each row, and the vertices on it.
 
 use crate::lurfanzi::{Floor, Refusal};
-use crate::shape;
+use crate::shape::{self, is_pinch};
 
 fn is_clear(run: &[u8]) -> bool {
     if run.len() < 8 {
@@ -11,10 +11,14 @@ fn is_clear(run: &[u8]) -> bool {
     eights.all(|eight| eight == [0; 8]) && eights.remainder().iter().all(|&cell| cell == 0)
 }
 
-/// Whether no step along a grid line is between two blocked cells; a missing side is outside, and blocked.
+/// Whether no step along a grid line is between two blocked cells, and no vertex between two steps is a pinch: there a
+/// blocked cell of one side is followed by one of the other. A missing side is outside, and blocked.
 fn is_passable(one: Option<&[u8]>, other: Option<&[u8]>) -> bool {
     match (one, other) {
-        (Some(one), Some(other)) => one.iter().zip(other).fold(0, |shut, (one, other)| shut | (one & other)) == 0,
+        (Some(one), Some(other)) => {
+            let meet = |a: &[u8], b: &[u8]| a.iter().zip(b).fold(0, |any, (a, b)| any | (a & b));
+            meet(one, other) | meet(&one[1..], other) | meet(one, &other[1..]) == 0
+        }
         (Some(one), None) | (None, Some(one)) => is_clear(one),
         (None, None) => false,
     }
@@ -28,10 +32,13 @@ fn sees_along_row(floor: Floor, y: usize, left: usize, right: usize) -> bool {
 
 fn sees_along_column(floor: Floor, x: usize, top: usize, bottom: usize) -> bool {
     let width = floor.width as usize;
+    // The cells left and right of the step before: at most one of them is blocked.
+    let mut before = (0, 0);
     floor.map[top * width..bottom * width].chunks_exact(width).all(|row| {
-        let left_is_open = x > 0 && row[x - 1] == 0;
-        let right_is_open = x < width && row[x] == 0;
-        left_is_open || right_is_open
+        let here = (if x > 0 { row[x - 1] } else { 1 }, if x < width { row[x] } else { 1 });
+        let shut = here.0 & here.1 | before.0 & here.1 | here.0 & before.1;
+        before = here;
+        shut == 0
     })
 }
 
@@ -47,8 +54,47 @@ fn point(v: usize, columns: usize) -> (usize, usize) {
     (x, y)
 }
 
+/// Whether the cells along a diagonal are open, and no vertex between two of them is a pinch. At such a vertex the two
+/// other cells are `beside` and `below` the cell before.
+fn sees_along_diagonal(map: &[u8], first: usize, step: usize, beside: usize, below: usize, count: usize) -> bool {
+    let mut k = 0;
+    for _ in 1..count {
+        if map[first + k] | (map[beside + k] & map[below + k]) != 0 {
+            return false;
+        }
+        k += step;
+    }
+    map[first + k] == 0
+}
+
+fn common_divisor(mut a: u32, mut b: u32) -> usize {
+    while b != 0 {
+        (a, b) = (b, a % b);
+    }
+    a as usize
+}
+
+/// Whether a vertex strictly inside a segment that goes down is a pinch.
+fn passes_pinch(floor: Floor, (x0, y0): (usize, usize), (x1, y1): (usize, usize)) -> bool {
+    let (dx, dy) = (x0.abs_diff(x1), y1 - y0);
+    let parts = common_divisor(dy as u32, dx as u32);
+    let (part_x, part_y) = (dx / parts, dy / parts);
+    (1..parts).any(|k| is_pinch(floor, if x0 < x1 { x0 + k * part_x } else { x0 - k * part_x }, y0 + k * part_y))
+}
+
+fn is_pinch_at(floor: Floor, v: usize) -> bool {
+    let (x, y) = point(v, floor.width as usize + 1);
+    is_pinch(floor, x, y)
+}
+
 #[inline]
 fn sees(floor: Floor, a: usize, b: usize) -> bool {
+    a == b || !is_pinch_at(floor, a) && !is_pinch_at(floor, b) && is_clear_between(floor, a, b)
+}
+
+/// Whether two vertices that are no pinches see each other.
+#[inline]
+fn is_clear_between(floor: Floor, a: usize, b: usize) -> bool {
     let (width, columns) = (floor.width as usize, floor.width as usize + 1);
     let ((x0, y0), (x1, y1)) = (point(a.min(b), columns), point(a.max(b), columns));
     if y0 == y1 {
@@ -60,13 +106,16 @@ fn sees(floor: Floor, a: usize, b: usize) -> bool {
     let (dx, dy) = (x0.abs_diff(x1), y1 - y0);
     let cell = y0 * width + x0;
     if dx == dy {
-        let (first, step) = if x0 < x1 { (cell, width + 1) } else { (cell - 1, (width - 1).max(1)) };
-        return floor.map[first..].iter().step_by(step).take(dx).all(|&cell| cell == 0);
+        return if x0 < x1 {
+            sees_along_diagonal(floor.map, cell, width + 1, cell + 1, cell + width, dx)
+        } else {
+            sees_along_diagonal(floor.map, cell - 1, width - 1, (cell - 1).wrapping_sub(1), cell - 1 + width, dx)
+        };
     }
     // In each row the segment starts `from + rest / dy` columns beside x0.
     let (mut from, mut rest) = (0, 0);
     let (whole, part) = if dx < dy { (0, dx) } else { quotient(dx, dy) };
-    floor.map[y0 * width..y1 * width].chunks_exact(width).all(|row| {
+    let open = floor.map[y0 * width..y1 * width].chunks_exact(width).all(|row| {
         let first = from;
         from += whole;
         rest += part;
@@ -77,7 +126,8 @@ fn sees(floor: Floor, a: usize, b: usize) -> bool {
         let last = from + usize::from(rest > 0);
         let run = if x0 < x1 { &row[x0 + first..x0 + last] } else { &row[x0 - last..x0 - first] };
         is_clear(run)
-    })
+    });
+    open && !passes_pinch(floor, (x0, y0), (x1, y1))
 }
 
 pub fn sight(floor: Floor, a: u32, b: u32) -> Result<bool, Refusal> {
@@ -104,8 +154,16 @@ pub fn thin(floor: Floor, list: &[u16], out: &mut [u16], n: usize) -> Result<usi
     let vertices = floor.vertices();
     let used = list.get(..n).filter(|used| !used.is_empty()).ok_or(Refusal::NotJoined)?;
     let vertex = |k: usize| usize::from(used[k]);
-    let on_floor = used.iter().all(|&v| usize::from(v) < vertices);
-    if !on_floor || !(1..n).all(|k| sees(floor, vertex(k - 1), vertex(k))) {
+    if !used.iter().all(|&v| usize::from(v) < vertices) {
+        return Err(Refusal::NotJoined);
+    }
+    // A pinch is joined to itself alone.
+    let joined = if used.iter().any(|&v| is_pinch_at(floor, usize::from(v))) {
+        used.iter().all(|v| *v == used[0])
+    } else {
+        (1..n).all(|k| is_clear_between(floor, vertex(k - 1), vertex(k)))
+    };
+    if !joined {
         return Err(Refusal::NotJoined);
     }
     out.fill(0);
@@ -115,7 +173,8 @@ pub fn thin(floor: Floor, list: &[u16], out: &mut [u16], n: usize) -> Result<usi
         let mut k = i + 1;
         // A vertex further on in the same direction is seen: each part of the segment is clear.
         while k + 1 < n
-            && (goes_on(columns, vertex(i), vertex(k), vertex(k + 1)) || sees(floor, vertex(i), vertex(k + 1)))
+            && (goes_on(columns, vertex(i), vertex(k), vertex(k + 1))
+                || is_clear_between(floor, vertex(i), vertex(k + 1)))
         {
             k += 1;
         }

@@ -10,9 +10,11 @@
  * cell outside the map is blocked. Vertices are the cell corners: the one in column x and row y has number
  * x + y * (width + 1), and there are V = (width + 1) * (height + 1) of them.
  *
- * Sight. Two vertices see each other when the straight segment between them enters the inside of no blocked cell, and
- * no unit step of it runs along a grid line between two blocked cells. Going along one blocked cell is allowed, and so
- * are touching one at a corner and passing between two that touch only at a corner. A vertex sees itself.
+ * Sight. A vertex is a pinch when exactly two of its four cells are blocked and they are diagonal to each other; no
+ * vertex on the floor's edge is one. Two vertices see each other when the straight segment between them enters the
+ * inside of no blocked cell, no unit step of it runs along a grid line between two blocked cells, and, where it is
+ * longer than zero, it neither starts at a pinch, nor ends at one, nor passes through one. Going along one blocked cell
+ * is allowed, and so is touching one at a corner that is no pinch. A vertex sees itself, a pinch too.
  *
  * Moves. neighbourhood 4 has the moves to the four vertices at the end of a cell side, at cost 408; 8 has the four
  * across a cell too, at cost 577. Their order is (1, 0), (1, 1), (0, 1), (-1, 1), (-1, 0), (-1, -1), (0, -1), (1, -1),
@@ -54,6 +56,7 @@ enum {
                                        given, the sheet that lurfanzi_check is asked about */
     LURFANZI_NOT_JOINED = 10,       /* n is 0 or above list_length, or one of the first n numbers is not below V or
                                        does not see the next */
+    LURFANZI_PINCHED_END = 11,      /* an end is a pinch */
     LURFANZI_BAD_CLOSURE = 12,      /* the rectangle is empty or leaves the floor */
     LURFANZI_SLOTS_FULL = 13,       /* no slot is free */
     LURFANZI_SLOT_EMPTY = 14        /* the slot is above 15 or free */
@@ -68,7 +71,8 @@ enum {
 /* What lurfanzi_obstacle finds in the way. */
 enum {
     LURFANZI_BLOCKED_CELL = 101,
-    LURFANZI_SHUT_STEP = 102
+    LURFANZI_SHUT_STEP = 102,
+    LURFANZI_PINCH = 103
 };
 
 /* The cost where no open walk joins two vertices; it stands in d and e. */
@@ -76,13 +80,14 @@ enum {
 
 /* Do the vertices a and b see each other?
  *
- * Answers LURFANZI_SIGHT_YES or LURFANZI_SIGHT_NO, or refuses with 1, 2, 3 or 5, in this order. Writes nothing.
+ * Answers LURFANZI_SIGHT_YES or LURFANZI_SIGHT_NO, or refuses with 1, 2, 3 or 5, in this order. An end that is a pinch
+ * is not refused. Writes nothing.
  */
 uint8_t lurfanzi_sight(uint32_t width, uint32_t height, const uint8_t *map, size_t map_length, uint32_t a, uint32_t b);
 
 typedef struct {
     uint32_t place;  /* where it is; 0 where nothing is in the way and at a refusal */
-    uint8_t answer;  /* 0, LURFANZI_BLOCKED_CELL, LURFANZI_SHUT_STEP, or a refusal: 1, 2, 3 or 5 */
+    uint8_t answer;  /* 0, LURFANZI_BLOCKED_CELL, LURFANZI_SHUT_STEP, LURFANZI_PINCH, or a refusal: 1, 2, 3 or 5 */
 } lurfanzi_obstacle_result;
 
 /* What is in the way from vertex a to vertex b? For technicians, who ask why a point was kept; a drive that needs yes
@@ -94,9 +99,11 @@ typedef struct {
  *                           equals least far in rows: map[place] is its byte
  * 102         a vertex      a step of a segment along a grid line is shut: the vertex where the first one begins, going
  *                           from a
- * 1, 2, 3, 5  0             refused, in this order
+ * 103         a vertex      no blocked cell is entered and no step is shut, anywhere on the segment: of the pinches
+ *                           where it starts, where it ends and through which it passes, the nearest to a
+ * 1, 2, 3, 5  0             refused, in this order; an end that is a pinch is not refused
  *
- * Asked from b to a it may name another cell or step; whether the way is clear stays the same.
+ * Asked from b to a it may name another cell, step or pinch; whether the way is clear stays the same.
  */
 lurfanzi_obstacle_result lurfanzi_obstacle(
     uint32_t width, uint32_t height, const uint8_t *map, size_t map_length, uint32_t a, uint32_t b);
@@ -107,14 +114,14 @@ lurfanzi_obstacle_result lurfanzi_obstacle(
  *
  * Fills d with the costs from vertex a.
  *
- * d          V costs from a; LURFANZI_UNREACHABLE where there is no walk
- * work       4 * V numbers of working memory; what it holds at entry does not matter
+ * d           V costs from a; LURFANZI_UNREACHABLE where there is no walk, so at every pinch
+ * work        4 * V numbers of working memory; what it holds at entry does not matter
  *
- * answer     d          work
- * 0          true       0
- * 1 to 6     untouched  untouched
+ * answer      d          work
+ * 0           true       0
+ * 1 to 6, 11  untouched  untouched
  *
- * Refuses with 1, 2, 3, 4, 5 for a, and 6 for d and work, in this order.
+ * Refuses with 1, 2, 3, 4, 5 for a, 11 for a, and 6 for d and work, in this order.
  */
 uint8_t lurfanzi_costs(
     uint32_t width, uint32_t height, const uint8_t *map, size_t map_length, uint32_t neighbourhood, uint32_t a,
@@ -124,31 +131,31 @@ typedef struct {
     uint64_t total;  /* the number of cheapest routes */
     size_t points;   /* the number of vertices of the central route, its ends among them */
     uint32_t cost;   /* its cost */
-    uint8_t answer;  /* 0, or a refusal 1 to 9; the other members are 0 at a refusal */
+    uint8_t answer;  /* 0, or a refusal: 1 to 9 or 11; the other members are 0 at a refusal */
 } lurfanzi_plan_result;
 
 /* Finishes the job from vertex a to vertex b: plans its central route and fills the rest of its sheet. From each vertex
  * the route takes, of the open moves that lead on along a cheapest route, the one to the vertex with the highest
  * f * back, of equals the first in the order of moves. With a = b it is that one vertex, at cost 0.
  *
- * d          V costs from a, as lurfanzi_costs leaves them. They are read, and never written: many jobs may be finished
- *            from one d, also by calls at the same time. They are tested, and not trusted: where any of them is not
- *            true the answer is 9, whoever made them.
- * e          V costs to b; LURFANZI_UNREACHABLE where there is no walk
- * f, back    V counts of cheapest walks: f from a, back to b; 0 off the cheapest routes
- * route      V vertices: the points of the route, then 0
- * work       4 * V numbers of working memory; what it holds at entry does not matter
+ * d           V costs from a, as lurfanzi_costs leaves them. They are read, and never written: many jobs may be
+ *             finished from one d, also by calls at the same time. They are tested, and not trusted: where any of them
+ *             is not true the answer is 9, whoever made them.
+ * e           V costs to b; LURFANZI_UNREACHABLE where there is no walk, so at every pinch
+ * f, back     V counts of cheapest walks: f from a, back to b; 0 off the cheapest routes
+ * route       V vertices: the points of the route, then 0
+ * work        4 * V numbers of working memory; what it holds at entry does not matter
  *
- * answer     e          f, back    route      work
- * 0          true       true       true       0
- * 1 to 6     untouched  untouched  untouched  untouched
- * 9          untouched  untouched  untouched  untouched
- * 7          0          0          0          0
- * 8          true       0          0          0
+ * answer      e          f, back    route      work
+ * 0           true       true       true       0
+ * 1 to 6, 11  untouched  untouched  untouched  untouched
+ * 9           untouched  untouched  untouched  untouched
+ * 7           0          0          0          0
+ * 8           true       0          0          0
  *
- * Refuses with 1, 2, 3, 4, 5 for a or b, 6 for each of the six slices, 9, 7 and 8, in this order. A call is of good
- * shape where none of 1 to 6 and 9 applies: a d that is not true is answered with 9 also where no walk joins the ends,
- * and where the routes are too many.
+ * Refuses with 1, 2, 3, 4, 5 for a or b, 11 for a or b, also where a = b, 6 for each of the six slices, 9, 7 and 8, in
+ * this order. A call is of good shape where none of 1 to 6, 9 and 11 applies: a d that is not true is answered with 9
+ * also where no walk joins the ends, and where the routes are too many.
  */
 lurfanzi_plan_result lurfanzi_finish(
     uint32_t width, uint32_t height, const uint8_t *map, size_t map_length,
@@ -165,7 +172,8 @@ lurfanzi_plan_result lurfanzi_finish(
  *            does at answer 7, with n = 0
  * 9          every other sheet, also for an n above V, and every sheet of a job that lurfanzi_finish answers with 8
  *            from true costs
- * 1 to 6     refused before these, in this order: 5 for a or b, 6 for each of the five slices, which have V places
+ * 1 to 6, 11 refused before these, in the order 1, 2, 3, 4, 5 for a or b, 11 for a or b, 6 for each of the five slices,
+ *            which have V places; with 11 also where a = b
  */
 uint8_t lurfanzi_check(
     uint32_t width, uint32_t height, const uint8_t *map, size_t map_length,
@@ -181,7 +189,7 @@ typedef struct {
 /* Thins the first n vertices of list to the positions that a cart needs. Position 0 is kept; after a kept position the
  * next is the last one before the first position that it does not see, or n - 1 where it sees all; so n - 1 is kept,
  * and each kept vertex sees the next. With n = 1 position 0 alone is kept. Vertices may stand in the list more than
- * once.
+ * once. A list of one pinch alone, once or again and again, is joined; a pinch beside another vertex is not.
  *
  * list       at most 16,384 places; those past n are not read
  * out        as long as list: at answer 0 the kept positions in list, then 0; untouched at a refusal

@@ -54,6 +54,11 @@ static int show_obstacle(uint32_t a, uint32_t b)
         print_vertex(found.place);
         printf(" on\n");
         return 1;
+    case LURFANZI_PINCH:
+        printf(": pinched at");
+        print_vertex(found.place);
+        printf("\n");
+        return 1;
     default:
         printf(": refused %d\n", found.answer);
         return 0;

@@ -58,12 +58,14 @@ pub enum Verdict {
     FalseSheet,
 }
 
-/// What is in the way between two vertices: nothing, the cell with a number, or the shut step that begins in a vertex.
+/// What is in the way between two vertices: nothing, the cell with a number, the shut step that begins in a vertex, or
+/// the pinch at a vertex.
 #[derive(Clone, Copy, Debug, PartialEq, Eq)]
 pub enum Obstacle {
     Clear,
     Cell(u32),
     Step(u32),
+    Pinch(u32),
 }
 
 /// A rectangle of cells: its first column and row, and how many columns and rows it has.
@@ -97,6 +99,7 @@ pub enum Refusal {
     TooMany,
     FalseCosts,
     NotJoined,
+    PinchedEnd,
     BadClosure,
     SlotsFull,
     SlotEmpty,
@@ -117,6 +120,7 @@ impl Refusal {
             8 => Refusal::TooMany,
             9 => Refusal::FalseCosts,
             10 => Refusal::NotJoined,
+            11 => Refusal::PinchedEnd,
             12 => Refusal::BadClosure,
             13 => Refusal::SlotsFull,
             14 => Refusal::SlotEmpty,
@@ -136,6 +140,7 @@ impl Refusal {
             Refusal::TooMany => 8,
             Refusal::FalseCosts => 9,
             Refusal::NotJoined => 10,
+            Refusal::PinchedEnd => 11,
             Refusal::BadClosure => 12,
             Refusal::SlotsFull => 13,
             Refusal::SlotEmpty => 14,
@@ -157,6 +162,7 @@ impl std::fmt::Display for Refusal {
             Refusal::TooMany => "the cheapest routes number more than 2^64 - 1",
             Refusal::FalseCosts => "the costs handed in are not those from the first end",
             Refusal::NotJoined => "the list is not a joined list of vertices",
+            Refusal::PinchedEnd => "an end is a pinch, between two blocked cells that touch at a corner",
             Refusal::BadClosure => "the rectangle is empty or leaves the floor",
             Refusal::SlotsFull => "no slot is free",
             Refusal::SlotEmpty => "the slot is above 15 or free",
@@ -232,6 +238,7 @@ pub fn obstacle(floor: Floor, a: u32, b: u32) -> Result<Obstacle, Refusal> {
         0 => Ok(Obstacle::Clear),
         101 => Ok(Obstacle::Cell(result.place)),
         102 => Ok(Obstacle::Step(result.place)),
+        103 => Ok(Obstacle::Pinch(result.place)),
         number => Err(Refusal::from_number(number)),
     }
 }
@@ -432,6 +439,8 @@ mod tests {
     const OPEN: Floor = Floor { width: 2, height: 1, map: &[0, 0] };
     const SHUT: Floor = Floor { width: 2, height: 1, map: &[0, 1] };
     const JOB: Job = Job { neighbourhood: 8, a: 0, b: 5 };
+    /// Vertex 4 is a pinch.
+    const TOUCHING: Floor = Floor { width: 2, height: 2, map: &[1, 0, 0, 1] };
 
     type Answers = (Result<Plan, Refusal>, Result<Verdict, Refusal>);
 
@@ -473,6 +482,22 @@ mod tests {
         refused(OPEN, JOB, 5, Refusal::BadSliceLength);
         refused(OPEN, JOB, 0, Refusal::BadSliceLength);
         assert_eq!(plan_and_check(OPEN, JOB, 6, 23).0, Err(Refusal::BadSliceLength));
+    }
+
+    #[test]
+    fn pinched_ends() {
+        let job = Job { neighbourhood: 8, a: 2, b: 6 };
+        assert_eq!(plan_and_check(TOUCHING, job, 9, 36), (Err(Refusal::NoRoute), Ok(Verdict::NoRoute)));
+        for pinched in [Job { a: 4, ..job }, Job { b: 4, ..job }, Job { a: 4, b: 4, ..job }] {
+            refused(TOUCHING, pinched, 9, Refusal::PinchedEnd);
+        }
+        refused(TOUCHING, Job { a: 4, ..job }, 8, Refusal::PinchedEnd);
+        refused(TOUCHING, Job { a: 9, b: 4, ..job }, 9, Refusal::BadEnd);
+        assert_eq!(plan_and_check(TOUCHING, Job { b: 4, ..job }, 8, 32).1, Err(Refusal::PinchedEnd));
+        assert_eq!(plan_and_check(TOUCHING, Job { a: 4, b: 9, ..job }, 9, 36).1, Err(Refusal::BadEnd));
+        let (mut d, mut work) = ([7; 9], [7; 36]);
+        assert_eq!(costs(TOUCHING, 8, 4, &mut d, &mut work), Err(Refusal::PinchedEnd));
+        assert_eq!((d, work), ([7; 9], [7; 36]));
     }
 
     /// Finishes a job from these costs, with an output slice of the given length; nothing is touched at a refusal of
@@ -523,6 +548,8 @@ mod tests {
         assert_eq!(sight(OPEN, 0, 5), Ok(true));
         assert_eq!(sight(SHUT, 0, 5), Ok(false));
         assert_eq!(sight(SHUT, 0, 6), Err(Refusal::BadEnd));
+        assert_eq!(sight(TOUCHING, 2, 6), Ok(false));
+        assert_eq!(sight(TOUCHING, 4, 4), Ok(true));
         assert_eq!(sight(Floor { width: 0, height: 0, map: &[] }, 0, 0), Err(Refusal::BadSize));
     }
 
@@ -532,6 +559,10 @@ mod tests {
         assert_eq!(obstacle(SHUT, 0, 5), Ok(Obstacle::Cell(1)));
         assert_eq!(obstacle(SHUT, 0, 2), Ok(Obstacle::Step(1)));
         assert_eq!(obstacle(SHUT, 2, 0), Ok(Obstacle::Step(2)));
+        assert_eq!(obstacle(TOUCHING, 2, 6), Ok(Obstacle::Pinch(4)));
+        assert_eq!(obstacle(TOUCHING, 4, 5), Ok(Obstacle::Pinch(4)));
+        assert_eq!(obstacle(TOUCHING, 4, 4), Ok(Obstacle::Clear));
+        assert_eq!(obstacle(TOUCHING, 8, 0), Ok(Obstacle::Cell(3)));
         assert_eq!(obstacle(SHUT, 6, 0), Err(Refusal::BadEnd));
         assert_eq!(obstacle(Floor { map: &[0, 2], ..OPEN }, 0, 0), Err(Refusal::BadMapByte));
     }
@@ -584,6 +615,10 @@ mod tests {
         assert_eq!(thin(OPEN, &[0, 1, 5, 6], &mut out, usize::MAX), Err(Refusal::NotJoined));
         assert_eq!(thin(OPEN, &[0, 1, 5], &mut out, 3), Err(Refusal::BadSliceLength));
         assert_eq!(thin(OPEN, &[], &mut [], 0), Err(Refusal::NotJoined));
+        assert_eq!(thin(TOUCHING, &[4, 4, 4, 5], &mut out, 3), Ok(2));
+        assert_eq!(out, [0, 2, 0, 0]);
+        assert_eq!(thin(TOUCHING, &[4, 4, 4, 5], &mut out, 4), Err(Refusal::NotJoined));
+        assert_eq!(thin(TOUCHING, &[2, 6], &mut out[..2], 2), Err(Refusal::NotJoined));
     }
 
     #[test]

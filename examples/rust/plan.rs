@@ -39,6 +39,7 @@ fn show_obstacle(floor: Floor, a: u32, b: u32) -> Result<(), Refusal> {
         Obstacle::Clear => "the way is clear".to_string(),
         Obstacle::Cell(cell) => format!("cell ({},{}) is blocked", cell % WIDTH, cell / WIDTH),
         Obstacle::Step(vertex) => format!("shut from {} on", point(vertex)),
+        Obstacle::Pinch(vertex) => format!("pinched at {}", point(vertex)),
     };
     println!("from {} to {}: {found}", point(a), point(b));
     Ok(())

@@ -22,6 +22,7 @@ _Static_assert(LURFANZI_BAD_MAP_BYTE == 3 && LURFANZI_BAD_NEIGHBOURHOOD == 4, "a
 _Static_assert(LURFANZI_BAD_END == 5, "answer 5");
 _Static_assert(LURFANZI_BAD_SLICE_LENGTH == 6 && LURFANZI_NO_ROUTE == 7 && LURFANZI_TOO_MANY == 8, "answers 6 to 8");
 _Static_assert(LURFANZI_FALSE_SHEET == 9 && LURFANZI_NOT_JOINED == 10, "answers 9 and 10");
+_Static_assert(LURFANZI_PINCHED_END == 11, "answer 11");
 _Static_assert(LURFANZI_UNREACHABLE == 4294967295, "the cost of no walk");
 
 /* A job for planner or checker: every number of the call, and the sheet's slices. */
@@ -71,7 +72,7 @@ static uint8_t fill_costs(const char *where, const job *j, unsigned char fill, l
     expect_read_only(where, "the map", &map);
     expect_guards(where, "d of the costs", d);
     expect_guards(where, "work of the costs", &work);
-    if (answer > 6) fail(where, "the costs", "gave an answer above 6");
+    if (answer > 6 && answer != LURFANZI_PINCHED_END) fail(where, "the costs", "gave an answer that is not theirs");
     if (answer == 0) {
         expect_zeros(where, "work of the costs", &work);
     } else {
@@ -103,13 +104,13 @@ static planned finish_job(const char *where, const job *j, const void *d, unsign
     expect_read_only(where, "d", &s[D]);
     for (int k = E; k < SLICES; k++) expect_guards(where, slice_name[k], &s[k]);
     const uint8_t answer = p.result.answer;
-    if (answer > 9) fail(where, "the planner", "gave an answer above 9");
+    if (answer > 9 && answer != LURFANZI_PINCHED_END) fail(where, "the planner", "gave an answer that is not its own");
     if (answer != 0) {
         expect(where, "cost", p.result.cost, 0);
         expect(where, "total", p.result.total, 0);
         expect(where, "points", p.result.points, 0);
     }
-    if ((1 <= answer && answer <= 6) || answer == 9)
+    if ((1 <= answer && answer <= 6) || answer == 9 || answer == LURFANZI_PINCHED_END)
         for (int k = E; k < SLICES; k++) expect_untouched(where, slice_name[k], &s[k]);
     else
         expect_zeros(where, "work", &s[WORK]);
@@ -127,12 +128,22 @@ static void expect_finish(const char *where, const job *j, const void *d, unsign
     give_back_sheet(&p);
 }
 
+/* Whether of the four cells at a vertex of the map one diagonal pair is blocked and the other open. */
+static int is_pinch(const job *j, uint32_t v)
+{
+    const uint32_t x = v % (j->width + 1), y = v / (j->width + 1);
+    if (x == 0 || x == j->width || y == 0 || y == j->height) return 0;
+    const uint8_t *above = j->map + (y - 1) * j->width + x, *below = above + j->width;
+    return above[-1] == below[0] && above[0] == below[-1] && above[0] != below[0];
+}
+
 /* What the costs answer where the whole job has this answer: they know neither b nor the other slices. */
 static uint8_t costs_answer(const job *j, uint8_t answer)
 {
     const size_t v = vertices(j->width, j->height);
     if (1 <= answer && answer <= 4) return answer;
     if (j->a >= v) return LURFANZI_BAD_END;
+    if (is_pinch(j, j->a)) return LURFANZI_PINCHED_END;
     return j->length[D] == v && j->length[WORK] == 4 * v ? 0 : LURFANZI_BAD_SLICE_LENGTH;
 }
 
@@ -245,8 +256,7 @@ static const worked floors[] = {
     {"floor e", 2, 1, {0, 0}, 8, 0, 5, 0, 985, 2, {0, 408, 816, 408, 577, 985}, {985, 577, 408, 816, 408, 0},
      {1, 1, 0, 0, 1, 2}, {2, 1, 0, 0, 1, 1}, 3, {0, 1, 5}, 2, {0, 2}},
     {"floor f", 2, 1, {0, 1}, 8, 0, 5, 7, 0, 0, {0, 408, M, 408, 577, M}, {0}, {0}, {0}, 0, {0}, 0, {0}},
-    {"floor g", 2, 2, {1, 0, 0, 1}, 8, 2, 6, 0, 1154, 1, {M, 408, 0, 985, 577, 408, 1154, 985, M},
-     {M, 985, 1154, 408, 577, 985, 0, 408, M}, {0, 0, 1, 0, 1, 0, 1}, {0, 0, 1, 0, 1, 0, 1}, 3, {2, 4, 6}, 2, {0, 2}},
+    {"floor g", 2, 2, {1, 0, 0, 1}, 8, 2, 6, 7, 0, 0, {M, 408, 0, M, M, 408, M, M, M}, {0}, {0}, {0}, 0, {0}, 0, {0}},
     {"floor h", 2, 2, {0, 0, 0, 0}, 4, 0, 8, 0, 1632, 6, {0, 408, 816, 408, 816, 1224, 816, 1224, 1632},
      {1632, 1224, 816, 1224, 816, 408, 816, 408, 0}, {1, 1, 1, 1, 2, 3, 1, 3, 6}, {6, 3, 1, 3, 2, 1, 1, 1, 1},
      5, {0, 1, 4, 5, 8}, 2, {0, 4}},
@@ -255,6 +265,11 @@ static const worked floors[] = {
     {"three cells in a row", 3, 1, {0, 0, 0}, 4, 0, 7, 0, 1632, 4, {0, 408, 816, 1224, 408, 816, 1224, 1632},
      {1632, 1224, 816, 408, 1224, 816, 408, 0}, {1, 1, 1, 1, 1, 2, 3, 4}, {4, 3, 2, 1, 1, 1, 1, 1},
      5, {0, 1, 2, 6, 7}, 2, {0, 4}},
+    /* Floor g within its cell 1: vertex 4 is no way round. */
+    {"round the pinch", 2, 2, {1, 0, 0, 1}, 4, 1, 5, 0, 816, 1, {M, 0, 408, M, M, 816, M, M, M},
+     {M, 816, 408, M, M, 0, M, M, M}, {0, 1, 1, 0, 0, 1}, {0, 1, 1, 0, 0, 1}, 3, {1, 2, 5}, 2, {0, 2}},
+    {"floor g mirrored", 2, 2, {0, 1, 1, 0}, 8, 0, 8, 7, 0, 0, {0, 408, M, 408, M, M, M, M, M}, {0}, {0}, {0},
+     0, {0}, 0, {0}},
 };
 
 static job job_of(const worked *w)
@@ -632,30 +647,36 @@ static void limits_of_slices(void)
     expect_refused("all empty on a floor without cells", &empty, LURFANZI_BAD_SIZE);
 }
 
-/* Of two faults the one with the lower number is answered. */
-static void spoil(job *j, uint8_t fault)
+/* Of two faults the one that comes first in this order is answered. The job is on floor g, from 2 to 5. */
+static const uint8_t order[] = {1, 2, 3, 4, 5, LURFANZI_PINCHED_END, 6};
+enum { FAULTS = sizeof order };
+static const uint8_t touching[5] = {1, 0, 0, 1};
+
+/* Of the ends one is off the floor at 5, and the other the pinch at 11. */
+static void spoil(job *j, uint8_t fault, int turned)
 {
-    static const uint8_t bad_byte[3] = {0, 2, 0};
+    static const uint8_t bad_byte[5] = {1, 0, 2, 1};
     if (fault == 1) j->height = 128;
-    if (fault == 2) j->map_length = 3;
+    if (fault == 2) j->map_length = 5;
     if (fault == 3) j->map = bad_byte;
     if (fault == 4) j->neighbourhood = 6;
-    if (fault == 5) j->b = 6;
-    if (fault == 6) j->length[ROUTE] = 7;
+    if (fault == 5) *(turned ? &j->a : &j->b) = 9;
+    if (fault == LURFANZI_PINCHED_END) *(turned ? &j->b : &j->a) = 4;
+    if (fault == 6) j->length[ROUTE] = 10;
 }
 
 static void order_of_refusals(void)
 {
-    static const uint8_t open[3];
-    for (uint8_t first = 1; first <= 6; first++)
-        for (uint8_t second = first; second <= 6; second++) {
-            job j = make_job(2, 1, open, 8, 0, 5);
-            spoil(&j, second);
-            spoil(&j, first);
-            expect_refused("two faults", &j, first);
-            expect_finish("two faults, and false costs", &j, NULL, 0xFF, first);
-        }
-    /* Refusals 1 to 6 come before 7 and 9, and n is not looked at before them; 9 comes before 7. */
+    for (int first = 0; first < FAULTS; first++)
+        for (int second = first; second < FAULTS; second++)
+            for (int turned = 0; turned < 2; turned++) {
+                job j = make_job(2, 2, touching, 8, 2, 5);
+                spoil(&j, order[second], turned);
+                spoil(&j, order[first], turned);
+                expect_refused("two faults", &j, order[first]);
+                expect_finish("two faults, and false costs", &j, NULL, 0xFF, order[first]);
+            }
+    /* Refusals 1 to 6 and 11 come before 7 and 9, and n is not looked at before them; 9 comes before 7. */
     job no_route = job_of(&floors[5]);
     expect_finish("no route, and false costs", &no_route, NULL, 0x01, LURFANZI_FALSE_SHEET);
     no_route.length[WORK] = 23;
@@ -671,24 +692,52 @@ static void order_of_refusals(void)
 /* The costs have one end, and two slices. */
 static void spoil_costs(job *j, uint8_t fault, int slice)
 {
-    if (fault < 5) spoil(j, fault);
-    if (fault == 5) j->a = 6;
     if (fault == 6) j->length[slice] -= 1;
+    else spoil(j, fault, fault == 5);
 }
 
 static void order_of_costs_refusals(void)
 {
-    static const uint8_t open[3];
-    for (uint8_t first = 1; first <= 6; first++)
-        for (uint8_t second = first; second <= 6; second++)
+    const char *const where = "two faults of the costs";
+    for (int first = 0; first < FAULTS; first++)
+        for (int second = first; second < FAULTS; second++)
             for (int slice = D; slice <= WORK; slice += WORK) {
-                job j = make_job(2, 1, open, 8, 0, 5);
-                spoil_costs(&j, second, slice);
-                if (second != first) spoil_costs(&j, first, slice);
+                job j = make_job(2, 2, touching, 8, 2, 5);
+                spoil_costs(&j, order[second], slice);
+                if (second != first) spoil_costs(&j, order[first], slice);
                 lent d;
-                expect_answer("two faults of the costs", fill_costs("two faults of the costs", &j, 0xFF, &d), first);
+                expect_answer(where, fill_costs(where, &j, 0xFF, &d), order[first]);
                 give_back(&d);
             }
+}
+
+/* Ends on the pinch of floor g: also both, also from costs that are true, and though the sheet handed in were the true
+ * one if a pinch could be an end. */
+static void pinched_ends(void)
+{
+    const worked *g = &floors[6];
+    const uint32_t ends[][2] = {{2, 4}, {4, 2}, {4, 4}, {0, 4}, {4, 8}};
+    for (size_t k = 0; k < sizeof ends / sizeof ends[0]; k++)
+        for (uint32_t neighbourhood = 4; neighbourhood <= 8; neighbourhood += 4) {
+            job j = make_job(2, 2, touching, neighbourhood, ends[k][0], ends[k][1]);
+            expect_refused("a pinched end", &j, LURFANZI_PINCHED_END);
+            expect_finish("a pinched end, from costs", &j, g->d, 0xFF, LURFANZI_PINCHED_END);
+            j.length[E] = 8;
+            expect_refused("a pinched end, and a short slice", &j, LURFANZI_PINCHED_END);
+        }
+    const uint32_t off[][2] = {{4, 9}, {9, 4}, {4, 4294967295u}, {65536 + 4, 4}};
+    for (size_t k = 0; k < sizeof off / sizeof off[0]; k++) {
+        job j = make_job(2, 2, touching, 8, off[k][0], off[k][1]);
+        expect_refused("a pinched end, and one off the floor", &j, LURFANZI_BAD_END);
+    }
+    const worked alone = {
+        "the pinch alone", 2, 2, {1, 0, 0, 1}, 8, 4, 4, 0, 0, 1, {M, M, M, M, 0, M, M, M, M},
+        {M, M, M, M, 0, M, M, M, M}, {0, 0, 0, 0, 1}, {0, 0, 0, 0, 1}, 1, {4}, 1, {0}};
+    const void *const sheet[5] = {alone.d, alone.e, alone.f, alone.back, alone.route};
+    job j = job_of(&alone);
+    j.n = alone.points;
+    expect_finish(alone.name, &j, alone.d, 0xFF, LURFANZI_PINCHED_END);
+    expect_answer(alone.name, check(alone.name, &j, sheet), LURFANZI_PINCHED_END);
 }
 
 /* ---- The thinning. ---- */
@@ -698,7 +747,7 @@ static void order_of_costs_refusals(void)
 typedef struct {
     const char *name;
     uint32_t side;
-    uint8_t map[4];
+    uint8_t map[16];
     size_t places, n;
     uint16_t list[7];
     size_t kept;
@@ -717,6 +766,12 @@ static const thinned lists[] = {
     {"one vertex twice", 1, {1}, 2, 2, {0, 0}, 2, {0, 1}},
     {"the first of two", 1, {0}, 2, 1, {3, 0}, 1, {0}},
     {"V past n", 1, {0}, 2, 1, {0, 4}, 1, {0}},
+    {"one pinch", 2, {1, 0, 0, 1}, 1, 1, {4}, 1, {0}},
+    {"a pinch three times", 2, {1, 0, 0, 1}, 4, 3, {4, 4, 4, 5}, 2, {0, 2}},
+    /* 4 by 4 with cells (1, 1) and (2, 2) blocked: from (3, 1) to (1, 3), vertices 8 and 16, the segment passes the
+     * pinch (2, 2). Vertex 18, at (3, 3), is beside both cells. */
+    {"round a pinch", 4, {0, 0, 0, 0, 0, 1, 0, 0, 0, 0, 1}, 3, 3, {8, 18, 16}, 3, {0, 1, 2}},
+    {"round a pinch and back", 4, {0, 0, 0, 0, 0, 1, 0, 0, 0, 0, 1}, 5, 5, {16, 18, 8, 9, 4}, 3, {0, 1, 4}},
 };
 
 static void thinned_lists(void)
@@ -771,6 +826,11 @@ static void limits_of_thinning(void)
     const uint16_t apart[2] = {0, 5};
     t = (trail){2, 1, wall, 2, apart, 2, 2, 2};
     expect_thin("two that do not see each other", &t, LURFANZI_NOT_JOINED);
+    const uint16_t pinched[][3] = {{2, 6, 6}, {2, 4, 5}, {4, 2, 1}, {4, 4, 5}, {5, 4, 4}, {1, 7, 7}};
+    for (size_t k = 0; k < sizeof pinched / sizeof pinched[0]; k++) {
+        t = (trail){2, 2, touching, 4, pinched[k], 3, 3, 3};
+        expect_thin("two with a pinch on the way", &t, LURFANZI_NOT_JOINED);
+    }
     t = (trail){2, 1, open, 2, NULL, 0, 0, 1};
     expect_thin("an empty list, with n = 1", &t, LURFANZI_NOT_JOINED);
 
@@ -844,9 +904,10 @@ int main(void)
     limits_of_slices();
     order_of_refusals();
     order_of_costs_refusals();
+    pinched_ends();
     thinned_lists();
     limits_of_thinning();
     order_of_thinning_refusals();
-    const uint8_t answers[] = {0, 1, 2, 3, 4, 5, 6, 7, 8, 9, 10};
+    const uint8_t answers[] = {0, 1, 2, 3, 4, 5, 6, 7, 8, 9, 10, LURFANZI_PINCHED_END};
     return finish("interface", answers, sizeof answers);
 }

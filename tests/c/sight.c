@@ -8,10 +8,11 @@ _Static_assert(sizeof(lurfanzi_obstacle_result) == 8, "size of the result");
 _Static_assert(offsetof(lurfanzi_obstacle_result, place) == 0, "place of place");
 _Static_assert(offsetof(lurfanzi_obstacle_result, answer) == 4, "place of answer");
 _Static_assert(LURFANZI_SIGHT_YES == 0 && LURFANZI_SIGHT_NO == 100, "answers of the sight question");
-_Static_assert(LURFANZI_BLOCKED_CELL == 101 && LURFANZI_SHUT_STEP == 102, "what is in the way");
+_Static_assert(LURFANZI_BLOCKED_CELL == 101 && LURFANZI_SHUT_STEP == 102, "a cell or a step in the way");
+_Static_assert(LURFANZI_PINCH == 103, "a pinch in the way");
 
 /* What is in the way is `answer` with `place`; the sight question then answers yes where that is 0, and no where it is
- * a cell or a step, and gives the same refusals. */
+ * a cell, a step or a pinch, and gives the same refusals. */
 static void expect_obstacle(
     const char *where, uint32_t w, uint32_t h, const uint8_t *map, size_t length, uint32_t a, uint32_t b,
     uint8_t answer, uint32_t place)
@@ -47,6 +48,14 @@ static void expect_steps(
 {
     expect_obstacle(where, w, h, map, (size_t)w * h, a, b, LURFANZI_SHUT_STEP, from_a);
     expect_obstacle(where, w, h, map, (size_t)w * h, b, a, LURFANZI_SHUT_STEP, from_b);
+}
+
+static void expect_pinches(
+    const char *where, uint32_t w, uint32_t h, const uint8_t *map, uint32_t a, uint32_t b,
+    uint32_t from_a, uint32_t from_b)
+{
+    expect_obstacle(where, w, h, map, (size_t)w * h, a, b, LURFANZI_PINCH, from_a);
+    expect_obstacle(where, w, h, map, (size_t)w * h, b, a, LURFANZI_PINCH, from_b);
 }
 
 static void expect_refused(
@@ -90,19 +99,94 @@ static void mirrored(void)
     expect_clear("mirrored, cells beside the segment", 2, 3, beside, 2, 9);
 }
 
-/* Floor g: 2 by 2 with cells 0 and 3 blocked. Passing between two cells that touch at a corner is allowed, entering is
- * not. */
+/* Floor g: 2 by 2 with cells 0 and 3 blocked. Vertex 4, where they touch, is a pinch: nothing starts there, ends there
+ * or passes. */
 static void floor_g(void)
 {
     const uint8_t map[4] = {1, 0, 0, 1};
-    expect_clear("floor g, between the touching cells", 2, 2, map, 2, 6);
+    expect_pinches("floor g, between the touching cells", 2, 2, map, 2, 6, 4, 4);
     expect_cells("floor g, through the blocked cells", 2, 2, map, 0, 8, 0, 3);
-    expect_clear("floor g, to the corner they share", 2, 2, map, 2, 4);
+    expect_pinches("floor g, to the corner they share", 2, 2, map, 2, 4, 4, 4);
+    expect_pinches("floor g, along one cell to the corner they share", 2, 2, map, 5, 4, 4, 4);
+    expect_pinches("floor g, along one cell and the other", 2, 2, map, 1, 7, 4, 4);
     expect_steps("floor g, along a blocked border", 2, 2, map, 0, 1, 0, 1);
     expect_steps("floor g, down a blocked border", 2, 2, map, 0, 3, 0, 3);
     expect_steps("floor g, along the left border", 2, 2, map, 0, 6, 0, 3);
     expect_clear("floor g, along an open border", 2, 2, map, 1, 2);
     expect_clear("floor g, a vertex sees itself", 2, 2, map, 0, 0);
+    expect_clear("floor g, a pinch sees itself", 2, 2, map, 4, 4);
+    expect_clear("floor g, past the pinch", 2, 2, map, 1, 5);
+}
+
+/* Every 2 by 2 floor: vertex 4 is a pinch where cells 0 and 3 alone are blocked, or cells 1 and 2 alone. */
+static void across(const uint8_t *map, int pinched, uint32_t a, uint32_t b, uint32_t near_a, uint32_t near_b)
+{
+    const char *const where = "four cells, a diagonal";
+    if (map[near_a] || map[near_b])
+        expect_cells(where, 2, 2, map, a, b, map[near_a] ? near_a : near_b, map[near_b] ? near_b : near_a);
+    else if (pinched) expect_pinches(where, 2, 2, map, a, b, 4, 4);
+    else expect_clear(where, 2, 2, map, a, b);
+}
+
+static void along(const uint8_t *map, int pinched, uint32_t a, uint32_t b, int shut_at_a, int shut_at_b)
+{
+    const char *const where = "four cells, a line";
+    if (shut_at_a || shut_at_b) expect_steps(where, 2, 2, map, a, b, shut_at_a ? a : 4, shut_at_b ? b : 4);
+    else if (pinched) expect_pinches(where, 2, 2, map, a, b, 4, 4);
+    else expect_clear(where, 2, 2, map, a, b);
+}
+
+static void outwards(const uint8_t *map, int pinched, uint32_t cell, uint32_t corner)
+{
+    const char *const where = "four cells, from the middle";
+    if (map[cell]) expect_cells(where, 2, 2, map, 4, corner, cell, cell);
+    else if (pinched) expect_pinches(where, 2, 2, map, 4, corner, 4, 4);
+    else expect_clear(where, 2, 2, map, 4, corner);
+}
+
+static void four_cells(void)
+{
+    const uint32_t corners[4] = {0, 2, 6, 8};
+    for (unsigned bits = 0; bits < 16; bits++) {
+        uint8_t m[4];
+        for (int cell = 0; cell < 4; cell++) m[cell] = bits >> cell & 1;
+        const int pinched = bits == 9 || bits == 6;
+        across(m, pinched, 0, 8, 0, 3);
+        across(m, pinched, 2, 6, 1, 2);
+        along(m, pinched, 1, 7, m[0] && m[1], m[2] && m[3]);
+        along(m, pinched, 3, 5, m[0] && m[2], m[1] && m[3]);
+        for (uint32_t cell = 0; cell < 4; cell++) outwards(m, pinched, cell, corners[cell]);
+        expect_clear("four cells, the middle", 2, 2, m, 4, 4);
+    }
+}
+
+/* Floors with pinches inside. */
+static void pinches(void)
+{
+    /* 4 by 4 with cells 1, 6, 9 and 14 blocked: vertices 7, 12 and 17 of column line 2 are pinches. */
+    const uint8_t column[16] = {0, 1, 0, 0, 0, 0, 1, 0, 0, 1, 0, 0, 0, 0, 1, 0};
+    expect_pinches("the nearest of three pinches", 4, 4, column, 2, 22, 7, 17);
+    expect_pinches("from the first pinch to the second", 4, 4, column, 7, 12, 7, 12);
+    expect_pinches("along a row line", 4, 4, column, 5, 9, 7, 7);
+    expect_pinches("along a row line to the pinch", 4, 4, column, 9, 7, 7, 7);
+    expect_clear("along a row line before the pinch", 4, 4, column, 9, 8);
+    /* 6 by 3 with cells 2 and 9 blocked: vertex 10, in column 3 and row 1, is a pinch. */
+    const uint8_t one[18] = {0, 0, 1, 0, 0, 0, 0, 0, 0, 1, 0, 0};
+    expect_pinches("strictly inside a slanted segment", 6, 3, one, 5, 15, 10, 10);
+    expect_pinches("strictly inside a diagonal", 6, 3, one, 4, 16, 10, 10);
+    expect_pinches("an end of a slanted segment", 6, 3, one, 5, 10, 10, 10);
+    expect_clear("beyond the pinch", 6, 3, one, 11, 13);
+    /* With cell 7, which the segment from (6,0) to (0,2) enters behind the pinch: a cell is named before a pinch. */
+    const uint8_t behind[18] = {0, 0, 1, 0, 0, 0, 0, 1, 0, 1, 0, 0};
+    expect_cells("a cell behind the pinch", 6, 3, behind, 6, 14, 7, 7);
+    /* With cells 5 and 11, which shut the last step of row line 1: a step is named before a pinch. */
+    const uint8_t shut[18] = {0, 0, 1, 0, 0, 1, 0, 0, 0, 1, 0, 1};
+    expect_steps("a step behind the pinch", 6, 3, shut, 7, 13, 12, 13);
+    expect_pinches("the line before that step", 6, 3, shut, 7, 12, 10, 10);
+    /* The same pinch from the other diagonal: cells 3 and 8. */
+    const uint8_t other[18] = {0, 0, 0, 1, 0, 0, 0, 0, 1, 0, 0, 0};
+    expect_pinches("the other diagonal", 6, 3, other, 1, 19, 10, 10);
+    expect_cells("the other diagonal, crossed", 6, 3, other, 5, 15, 3, 8);
 }
 
 /* Along a grid line between two blocked cells, and along the border of floor f. */
@@ -140,6 +224,10 @@ static void floor_l(void)
     expect_cells("the last cell of the largest floor", 127, 127, map, 0, 16383, 16128, 16128);
     expect_steps("the last step of the largest floor", 127, 127, map, 127, 16383, 16255, 16383);
     map[127 * 127 - 1] = 0;
+    /* Two cells that touch at (126, 126), beside the diagonal. */
+    map[125 * 127 + 126] = map[126 * 127 + 125] = 1;
+    expect_pinches("the last pinch of the largest floor", 127, 127, map, 0, 16383, 16254, 16254);
+    map[125 * 127 + 126] = map[126 * 127 + 125] = 0;
     const uint32_t ends[] = {16384, 65536, 65536 + 5, 4294967295u};
     for (size_t k = 0; k < sizeof ends / sizeof ends[0]; k++) {
         expect_refused("a bad first end", 127, 127, map, 127 * 127, ends[k], 0, LURFANZI_BAD_END);
@@ -155,8 +243,11 @@ int main(void)
     floor_i();
     mirrored();
     floor_g();
+    four_cells();
+    pinches();
     shut_steps();
     floor_l();
-    const uint8_t answers[] = {0, 1, 2, 3, 5, LURFANZI_SIGHT_NO, LURFANZI_BLOCKED_CELL, LURFANZI_SHUT_STEP};
+    const uint8_t answers[] = {
+        0, 1, 2, 3, 5, LURFANZI_SIGHT_NO, LURFANZI_BLOCKED_CELL, LURFANZI_SHUT_STEP, LURFANZI_PINCH};
     return finish("sight", answers, sizeof answers);
 }

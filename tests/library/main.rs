@@ -274,6 +274,7 @@ impl Driver {
             Ok(Obstacle::Clear) => " y".to_string(),
             Ok(Obstacle::Cell(cell)) => format!(" c{cell}"),
             Ok(Obstacle::Step(vertex)) => format!(" s{vertex}"),
+            Ok(Obstacle::Pinch(vertex)) => format!(" p{vertex}"),
             Err(refusal) => format!(" {}", refusal.number()),
         };
         let words: String = record.pairs().map(ask).collect();

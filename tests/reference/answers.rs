@@ -240,6 +240,7 @@ impl Runner {
             Ok(Obstacle::Clear) => " y".to_string(),
             Ok(Obstacle::Cell(number)) => format!(" c{number}"),
             Ok(Obstacle::Step(number)) => format!(" s{number}"),
+            Ok(Obstacle::Pinch(number)) => format!(" p{number}"),
             Err(refusal) => format!(" {refusal}"),
         };
         format!("obstacle {}{}", digest8(&floor.cells), pairs_of(record).map(word).collect::<String>())

@@ -2,50 +2,47 @@
 
 use crate::floor::Floor;
 
-/// k open cells in a diagonal row, the rest blocked: 2^k cheapest walks from
-/// the first vertex to the last, since each cell is passed on either side.
-pub fn doubling(k: u64) -> Floor {
-    let cells = (0..k * k).map(|c| u8::from(c / k != c % k)).collect();
-    Floor::new(k, k, cells)
-}
-
-/// Open cells laid in parts, one after the other; `at` is the vertex where the
-/// next part starts. Every cheapest walk passes all these vertices.
+/// Halls one below the other, with a wall of one row after each. A walk goes round the ends of the walls to and fro,
+/// and a cheapest one passes both corners of each end: `at` is the lower one, where the next hall begins. So the counts
+/// of the halls are multiplied.
 struct Track {
-    open: Vec<(u64, u64)>,
+    /// The walls' rows, and the columns of their open cells.
+    walls: Vec<(u64, Vec<u64>)>,
     at: (u64, u64),
 }
 
 impl Track {
-    /// An open rectangle of one column: multiplies the count by rows + 1.
-    fn column(&mut self, rows: u64) {
+    /// A hall of one row to the right: multiplies the count by length + 1.
+    fn right(&mut self, length: u64) {
         let (x, y) = self.at;
-        self.open.extend((0..rows).map(|j| (x, y + j)));
-        self.at = (x + 1, y + rows);
+        self.walls.push((y + 1, vec![x + length]));
+        self.at = (x + length, y + 2);
     }
 
-    /// k cells in a diagonal row, and one walk round them along the top and the
-    /// right: multiplies the count by 2^k + 1.
-    fn diagonal_with_bypass(&mut self, k: u64) {
+    /// The same to the left.
+    fn left(&mut self, length: u64) {
         let (x, y) = self.at;
-        self.open.extend((0..k).map(|i| (x + i, y + i)));
-        self.open.extend((1..k).map(|i| (x + i, y - 1)));
-        self.open.extend((0..k - 1).map(|j| (x + k, y + j)));
-        self.at = (x + k, y + k);
+        self.walls.push((y + 1, vec![x - length - 1]));
+        self.at = (x - length, y + 2);
     }
 
-    /// Three steps down with no choice.
-    fn link(&mut self) {
+    /// Two halls to the right with a wall between them that is open at some cells. A walk passes that wall along one of
+    /// the column lines c beside them, so that the count is multiplied by the sum over these lines of
+    /// binomial(c + upper, upper) * binomial(length - c + lower, lower).
+    fn gate(&mut self, upper: u64, lower: u64, length: u64, open: &[u64]) {
         let (x, y) = self.at;
-        self.open.extend([(x, y), (x - 1, y + 1), (x - 1, y + 2)]);
-        self.at = (x, y + 3);
+        self.walls.push((y + upper, open.iter().map(|cell| x + cell).collect()));
+        self.walls.push((y + upper + 1 + lower, vec![x + length]));
+        self.at = (x + length, y + upper + lower + 2);
     }
 
-    fn floor(&self) -> Floor {
-        let (width, height) = (self.at.0 + 1, self.at.1 + 1);
-        let mut floor = Floor::new(width, height, vec![1; (width * height) as usize]);
-        for &(i, j) in &self.open {
-            floor.cells[(j * width + i) as usize] = 0;
+    /// The floor with all these rows, `width` cells wide.
+    fn floor(&self, width: u64) -> Floor {
+        let mut floor = Floor::open(width, self.at.1);
+        for (row, open) in &self.walls {
+            for i in (0..width).filter(|i| !open.contains(i)) {
+                floor.cells[(row * width + i) as usize] = 1;
+            }
         }
         floor
     }
@@ -58,19 +55,34 @@ pub struct Case {
     pub goal: u64,
 }
 
-/// A total of (rows + 1) * 17 * 257 * 65,537 * 4,294,967,297, which for 14 rows
-/// is 2^64 - 1.
-pub fn product(rows: u64) -> Case {
-    let mut track = Track { open: Vec::new(), at: (1, 1) };
-    track.column(rows);
-    track.link();
-    track.column(16);
-    for k in [8, 16, 32] {
-        track.link();
-        track.diagonal_with_bypass(k);
+impl Case {
+    fn new(floor: Floor, start: (u64, u64), goal: (u64, u64)) -> Case {
+        let number = |(x, y): (u64, u64)| y * (floor.width + 1) + x;
+        let (start, goal) = (number(start), number(goal));
+        Case { floor, start, goal }
     }
-    let floor = track.floor();
-    let number = |(x, y): (u64, u64)| y * (floor.width + 1) + x;
-    let (start, goal) = (number((1, 1)), number(track.at));
-    Case { floor, start, goal }
+}
+
+/// k halls of two ways each: a total of 2^k.
+pub fn doubling(k: u64) -> Case {
+    let mut track = Track { walls: Vec::new(), at: (1, 0) };
+    for hall in 1..k {
+        if hall % 2 == 1 { track.right(1) } else { track.left(1) }
+    }
+    let (x, y) = track.at;
+    track.at = (3 - x, y + 1);
+    Case::new(track.floor(3), (1, 0), track.at)
+}
+
+/// A total of 6,700,417 * (length + 1) * 65,537 * 3 * 641 * 5 * 257, which for length 16 is 2^64 - 1.
+pub fn product(length: u64) -> Case {
+    let mut track = Track { walls: Vec::new(), at: (0, 0) };
+    track.gate(2, 3, 45, &[1, 2, 8, 9, 13, 17, 23, 24]);
+    track.left(length);
+    track.gate(2, 3, 20, &[0, 1, 11, 12, 17, 18, 19]);
+    track.left(2);
+    track.gate(1, 1, 18, &[4, 5, 6, 9, 10]);
+    track.left(4);
+    track.gate(1, 2, 9, &[2, 8]);
+    Case::new(track.floor(track.at.0 + 1), (0, 0), track.at)
 }

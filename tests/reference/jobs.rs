@@ -28,6 +28,8 @@ pub struct Maker {
     aside: Random,
     /// For costs that are not true: their records change nothing of the others.
     given: Random,
+    /// For pinches: their records change nothing of the others.
+    corners: Random,
     /// Whether numbers may pass 8 bits (sides, neighbourhood) and 16 bits (ends, n).
     wide: bool,
     pub solver: Solver,
@@ -38,8 +40,9 @@ pub struct Maker {
 /// The stream for a number of floors.
 pub fn make(seed: u64, count: u64, wide: bool) -> Vec<u8> {
     let [random, aside, given] = [seed, !seed, seed ^ u64::from(u32::MAX)].map(Random::new);
+    let corners = Random::new(!seed ^ u64::from(u32::MAX));
     let (solver, table) = (Solver::new(Floor::open(1, 1)), Table::empty());
-    let mut maker = Maker { out: Vec::new(), random, aside, given, wide, solver, table };
+    let mut maker = Maker { out: Vec::new(), random, aside, given, corners, wide, solver, table };
     let mut floors = fixed_floors(&mut maker.random);
     floors.truncate(count as usize);
     for k in floors.len() as u64..count {
@@ -81,8 +84,6 @@ fn fixed_floors(random: &mut Random) -> Vec<(Floor, Vec<Request>)> {
         (stream::halls_floor(), vec![request(4, 0, 767), request(8, 767, 0)]),
         (Floor::open(33, 34), vec![request(4, 0, 34 * 35 - 1)]),
         (Floor::open(34, 34), vec![request(4, 0, 35 * 35 - 1)]),
-        (boundary::doubling(63), vec![request(4, 0, 64 * 64 - 1)]),
-        (boundary::doubling(64), vec![request(4, 0, 65 * 65 - 1), request(4, 0, 65 * 65 - 2)]),
         (Floor::open(64, 32), vec![request(8, 0, 65 * 33 - 1)]),
         (Floor::open(127, 127), vec![request(4, 0, 1), request(4, 0, 16_383)]),
         (Floor::open(127, 1), both(0, 255)),
@@ -95,10 +96,13 @@ fn fixed_floors(random: &mut Random) -> Vec<(Floor, Vec<Request>)> {
         (Kind::Dense, 126, 127),
         (Kind::Diagonals, 127, 125),
         (Kind::Sparse, 119, 104),
+        (Kind::Pairs, 127, 127),
+        (Kind::Boards, 111, 127),
     ];
-    for rows in [14, 15] {
-        let case = boundary::product(rows);
-        floors.push((case.floor, vec![request(4, case.start, case.goal)]));
+    let boundary = [boundary::doubling(63), boundary::doubling(64), boundary::product(16), boundary::product(17)];
+    for case in boundary {
+        let before = case.goal - (case.floor.width + 1);
+        floors.push((case.floor, vec![request(4, case.start, case.goal), request(4, case.start, before)]));
     }
     for (kind, width, height) in large {
         floors.push((layouts::make(kind, random, width, height), Vec::new()));
@@ -113,7 +117,7 @@ impl Maker {
 
     /// The k-th floor: mostly small, some long and narrow, some of bad shape.
     fn any_floor(&mut self, k: u64) -> Floor {
-        let mut kind = KINDS[(k % 7) as usize];
+        let mut kind = KINDS[k as usize % KINDS.len()];
         let random = &mut self.random;
         let (width, height) = match k % 20 {
             7 | 17 => return self.bad_floor(k / 10),
@@ -122,7 +126,7 @@ impl Maker {
             13 | 14 => (random.within(1, 4), k * 53 % 127 + 1),
             15 | 16 | 18 => (random.within(9, 32), random.within(9, 32)),
             _ => {
-                kind = random.pick(&[Kind::Open, Kind::Sparse, Kind::Corridors, Kind::Rooms]);
+                kind = random.pick(&[Kind::Open, Kind::Sparse, Kind::Corridors, Kind::Rooms, Kind::Pairs]);
                 (random.within(20, 80), random.within(20, 80))
             }
         };
@@ -165,6 +169,7 @@ impl Maker {
         self.solver = Solver::new(floor);
         if is_good {
             self.good_operations(requests);
+            self.pinch_operations();
         } else {
             self.bad_operations();
         }
@@ -187,8 +192,16 @@ impl Maker {
         std::mem::swap(&mut self.random, &mut self.given);
     }
 
+    pub fn use_corners(&mut self) {
+        std::mem::swap(&mut self.random, &mut self.corners);
+    }
+
     pub fn is_large(&self) -> bool {
         self.count() > LARGE
+    }
+
+    pub fn is_pinch(&self, vertex: usize) -> bool {
+        sight::is_pinch(&self.solver.floor, self.solver.floor.point(vertex))
     }
 
     pub fn count(&self) -> usize {
@@ -309,6 +322,8 @@ impl Maker {
                 start = self.random.below(count);
             }
         }
+        // The first vertex is at a corner of the floor.
+        let start = if self.is_pinch(start as usize) { 0 } else { start };
         let distances = graph::distances(&graphs.0, start as usize);
         request(neighbourhood, start, self.any_goal(start, &distances))
     }
@@ -316,7 +331,8 @@ impl Maker {
     /// Unreached, the start itself, any reached vertex, or a far one of some.
     fn any_goal(&mut self, start: u64, distances: &Distances) -> u64 {
         let all = 0..distances.len();
-        let (reached, unreached): (Vec<usize>, Vec<usize>) = all.partition(|&v| distances[v].is_some());
+        let (reached, mut unreached): (Vec<usize>, Vec<usize>) = all.partition(|&v| distances[v].is_some());
+        unreached.retain(|&v| !self.is_pinch(v));
         let choice = self.random.below(10);
         if choice < 2 && !unreached.is_empty() {
             return self.random.pick(&unreached) as u64;
@@ -351,7 +367,7 @@ impl Maker {
         request
     }
 
-    fn bad_end(&mut self) -> u64 {
+    pub fn bad_end(&mut self) -> u64 {
         let count = self.count() as u64;
         let mut choices = vec![count, count, count + 1, count + 40, 65_535];
         if self.wide {
@@ -377,13 +393,13 @@ impl Maker {
 /// Single records.
 impl Maker {
     /// Both operations, with the same lengths.
-    fn plan_records(&mut self, request: Request, lengths: Lengths) {
+    pub fn plan_records(&mut self, request: Request, lengths: Lengths) {
         let seed = self.random.next() as u32;
         self.costs_record(request, lengths, seed);
         self.finish_record(request, lengths, seed, &[]);
     }
 
-    fn costs_record(&mut self, request: Request, lengths: Lengths, seed: u32) {
+    pub fn costs_record(&mut self, request: Request, lengths: Lengths, seed: u32) {
         let words = [request.neighbourhood as u32, request.start as u32, lengths[0] as u32, lengths[5] as u32, seed];
         self.record(format::COSTS, &words, Vec::new());
     }
@@ -395,14 +411,14 @@ impl Maker {
         self.record(format::FINISH, &words, format::damages_to_bytes(damages));
     }
 
-    fn check_record(&mut self, request: Request, lengths: Lengths, n: Option<u32>, damages: &[Damage]) {
+    pub fn check_record(&mut self, request: Request, lengths: Lengths, n: Option<u32>, damages: &[Damage]) {
         let mut words = request_words(request);
         words.extend(lengths[..5].iter().map(|&length| length as u32));
         words.extend([u32::from(n.is_some()), n.unwrap_or(0)]);
         self.record(format::CHECK, &words, format::damages_to_bytes(damages));
     }
 
-    fn load_record(&mut self, sheet: &Sheet) {
+    pub fn load_record(&mut self, sheet: &Sheet) {
         let mut rows = Vec::new();
         for i in 0..sheet.d.len() {
             rows.extend(sheet.d[i].to_le_bytes());
@@ -414,7 +430,7 @@ impl Maker {
         self.record(format::LOAD, &[sheet.d.len() as u32, sheet.n as u32], rows);
     }
 
-    fn list_record(&mut self, list: &[u16], length: usize, out_length: usize, n: u32) {
+    pub fn list_record(&mut self, list: &[u16], length: usize, out_length: usize, n: u32) {
         let seed = self.random.next() as u32;
         let words = [0, length as u32, out_length as u32, 1, n, seed];
         self.record(format::THIN, &words, list.iter().flat_map(|v| v.to_le_bytes()).collect());

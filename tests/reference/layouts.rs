@@ -12,10 +12,21 @@ pub enum Kind {
     Corridors,
     Diagonals,
     Rooms,
+    Pairs,
+    Boards,
 }
 
-pub const KINDS: [Kind; 7] =
-    [Kind::Open, Kind::Dense, Kind::Sparse, Kind::Maze, Kind::Corridors, Kind::Diagonals, Kind::Rooms];
+pub const KINDS: [Kind; 9] = [
+    Kind::Open,
+    Kind::Dense,
+    Kind::Sparse,
+    Kind::Maze,
+    Kind::Corridors,
+    Kind::Diagonals,
+    Kind::Rooms,
+    Kind::Pairs,
+    Kind::Boards,
+];
 
 pub fn make(kind: Kind, random: &mut Random, width: u64, height: u64) -> Floor {
     match kind {
@@ -26,6 +37,8 @@ pub fn make(kind: Kind, random: &mut Random, width: u64, height: u64) -> Floor {
         Kind::Corridors => corridors(random, width, height),
         Kind::Diagonals => diagonals(random, width, height),
         Kind::Rooms => rooms(random, width, height),
+        Kind::Pairs => pairs(random, width, height),
+        Kind::Boards => boards(random, width, height),
     }
 }
 
@@ -69,7 +82,11 @@ fn is_uncut(floor: &Floor, i: i64, j: i64) -> bool {
 }
 
 fn clear(floor: &mut Floor, i: i64, j: i64) {
-    floor.cells[j as usize * floor.width as usize + i as usize] = 0;
+    put(floor, i as u64, j as u64, 0);
+}
+
+fn put(floor: &mut Floor, i: u64, j: u64, cell: u8) {
+    floor.cells[(j * floor.width + i) as usize] = cell;
 }
 
 /// Parallel halls one to six cells wide, joined at alternate ends.
@@ -90,6 +107,31 @@ fn diagonals(random: &mut Random, width: u64, height: u64) -> Floor {
     let scale = random.within(1, 2);
     let changed = random.within(0, 25);
     from_rule(width, height, |i, j| ((i / scale + j / scale) % 2 == 0) != random.percent(changed))
+}
+
+/// Blocked cells in pairs that touch at a corner, on an open floor.
+fn pairs(random: &mut Random, width: u64, height: u64) -> Floor {
+    let mut floor = Floor::open(width, height);
+    let share = random.within(2, 20);
+    for _ in 0..(width - 1) * (height - 1) * share / 100 + 1 {
+        if width == 1 || height == 1 {
+            break;
+        }
+        let (i, j) = (random.below(width - 1), random.below(height - 1));
+        let falling = random.below(2);
+        put(&mut floor, i + 1 - falling, j, 1);
+        put(&mut floor, i + falling, j + 1, 1);
+    }
+    floor
+}
+
+/// Squares of checkerboard between open ones.
+fn boards(random: &mut Random, width: u64, height: u64) -> Floor {
+    let side = random.within(2, 6);
+    let share = random.within(20, 60);
+    let seed = random.next();
+    let is_board = |i: u64, j: u64| Random::new(seed ^ (i / side * 1000 + j / side)).percent(share);
+    from_rule(width, height, |i, j| is_board(i, j) && (i + j) % 2 == 0)
 }
 
 /// Square rooms with a door in each wall between two of them.

@@ -20,6 +20,7 @@ mod graph;
 mod jobs;
 mod layouts;
 mod natural;
+mod pinch_jobs;
 mod program;
 mod random;
 mod records;

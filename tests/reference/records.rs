@@ -3,15 +3,17 @@
 use crate::floor::Floor;
 use crate::layouts::{self, KINDS};
 use crate::random::Random;
-use crate::stream;
+use crate::{sight, stream};
 
 /// A map and jobs, in half of the streams with one fault.
 pub fn make(seed: u64) -> Vec<u8> {
     let mut random = Random::new(seed);
     let floor = any_floor(&mut random);
     let mut records = vec![stream::map_record(&floor)];
+    let is_pinch = |&v: &usize| sight::is_pinch(&floor, floor.point(v));
+    let pinches: Vec<usize> = (0..floor.vertex_count()).filter(is_pinch).collect();
     for _ in 0..job_count(&mut random) {
-        records.push(any_job(&mut random, floor.vertex_count() as u64));
+        records.push(any_job(&mut random, floor.vertex_count() as u64, &pinches));
     }
     if random.percent(50) {
         return records.concat();
@@ -34,13 +36,14 @@ fn job_count(random: &mut Random) -> u64 {
     if random.percent(4) { random.within(998, 1003) } else { random.within(0, 24) }
 }
 
-fn any_job(random: &mut Random, count: u64) -> Vec<u8> {
+fn any_job(random: &mut Random, count: u64, pinches: &[usize]) -> Vec<u8> {
     let neighbourhood = if random.percent(95) { random.pick(&[4, 8]) } else { random.below(256) as u8 };
     let mut end = || match random.below(40) {
         0 => count + random.below(3),
         1 => random.below(1 << 16),
         2 => 0,
         3 => count - 1,
+        4..=6 if !pinches.is_empty() => random.pick(pinches) as u64,
         _ => random.below(count),
     };
     let (start, goal) = (end(), end());

@@ -4,6 +4,7 @@ use crate::count;
 use crate::floor::Floor;
 use crate::graph::{self, Distances, Graph};
 use crate::natural::Natural;
+use crate::sight;
 use std::collections::BTreeMap;
 use std::rc::Rc;
 
@@ -190,7 +191,7 @@ pub struct Request {
 }
 
 impl Request {
-    /// Refusal 1 to 5, the first that applies.
+    /// Refusal 1 to 5, the first that applies, and then 11.
     pub fn fault(&self, floor: &Floor) -> Option<u8> {
         if let Some(fault) = floor.shape_fault() {
             return Some(fault);
@@ -199,7 +200,11 @@ impl Request {
             return Some(4);
         }
         let count = floor.vertex_count() as u64;
-        (self.start >= count || self.goal >= count).then_some(5)
+        if self.start >= count || self.goal >= count {
+            return Some(5);
+        }
+        let ends = [self.start, self.goal].map(|end| floor.point(end as usize));
+        ends.into_iter().any(|end| sight::is_pinch(floor, end)).then_some(11)
     }
 }
 
@@ -241,7 +246,7 @@ impl PlanAnswer {
     }
 }
 
-/// The planner's first operation: 1 to 6, or 0, which leaves the costs from the start and a working slice of 0.
+/// The planner's first operation: 1 to 5, 11, 6, or 0, which leaves the costs from the start and a working slice of 0.
 pub fn costs(solver: &mut Solver, neighbourhood: u64, start: u64, d: &mut [u32], work: &mut [u32]) -> u8 {
     if let Some(fault) = (Request { neighbourhood, start, goal: start }).fault(&solver.floor) {
         return fault;
@@ -255,8 +260,8 @@ pub fn costs(solver: &mut Solver, neighbourhood: u64, start: u64, d: &mut [u32],
     0
 }
 
-/// The planner's second operation: 1 to 6, 9 for a d that is not the costs from the start, and then 7, 8 or 0, with
-/// what each leaves in the lent slices.
+/// The planner's second operation: 1 to 5, 11, 6, 9 for a d that is not the costs from the start, and then 7, 8 or 0,
+/// with what each leaves in the lent slices.
 pub fn finish(solver: &mut Solver, request: Request, d: &[u32], mut lent: Lent) -> PlanAnswer {
     if let Some(fault) = request.fault(&solver.floor) {
         return PlanAnswer::refusal(fault);
@@ -311,7 +316,7 @@ impl Handed<'_> {
     }
 }
 
-/// The checker: 1 to 6, then 0, 7 or 9.
+/// The checker: 1 to 5, 11, 6, then 0, 7 or 9.
 pub fn check(solver: &mut Solver, request: Request, handed: &Handed) -> u8 {
     if let Some(fault) = request.fault(&solver.floor) {
         return fault;

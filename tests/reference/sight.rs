@@ -1,5 +1,6 @@
 //! Line of sight by exact geometry: the segment is clipped against the open
-//! square of each blocked cell, with fractions for the parameters.
+//! square of each blocked cell, with fractions for the parameters; the vertices
+//! on it cut it into equal parts, as many as its sides' greatest common divisor.
 
 use crate::floor::Floor;
 
@@ -71,8 +72,28 @@ fn horizontal_is_shut(floor: &Floor, y: i64, x0: i64, x1: i64) -> bool {
     (x0.min(x1)..x0.max(x1)).any(|i| floor.is_blocked(i, y - 1) && floor.is_blocked(i, y))
 }
 
-/// Whether two points of a floor of good shape see each other.
-pub fn sees(floor: &Floor, from: Point, to: Point) -> bool {
+/// Whether exactly two of the four cells at a point are blocked, one of them across
+/// the point from the other.
+pub fn is_pinch(floor: &Floor, (x, y): Point) -> bool {
+    let cells = [(x - 1, y - 1), (x, y - 1), (x - 1, y), (x, y)];
+    let blocked: Vec<Point> = cells.into_iter().filter(|&(i, j)| floor.is_blocked(i, j)).collect();
+    matches!(blocked[..], [one, other] if one.0 != other.0 && one.1 != other.1)
+}
+
+fn common_divisor(a: i64, b: i64) -> i64 {
+    if b == 0 { a } else { common_divisor(b, a % b) }
+}
+
+/// The first pinch on a segment, from its first end; none where it is one point.
+fn first_pinch(floor: &Floor, from: Point, to: Point) -> Option<Point> {
+    let (dx, dy) = (to.0 - from.0, to.1 - from.1);
+    let parts = common_divisor(dx.abs(), dy.abs());
+    let point = |k: i64| (from.0 + k * dx / parts, from.1 + k * dy / parts);
+    (0..=parts).filter(|_| parts > 0).map(point).find(|&at| is_pinch(floor, at))
+}
+
+/// Whether no blocked cell is entered and no step is shut.
+fn is_unblocked(floor: &Floor, from: Point, to: Point) -> bool {
     if from.0 == to.0 {
         !vertical_is_shut(floor, from.0, from.1, to.1)
     } else if from.1 == to.1 {
@@ -80,6 +101,11 @@ pub fn sees(floor: &Floor, from: Point, to: Point) -> bool {
     } else {
         !enters_blocked_cell(floor, from, to)
     }
+}
+
+/// Whether two points of a floor of good shape see each other.
+pub fn sees(floor: &Floor, from: Point, to: Point) -> bool {
+    is_unblocked(floor, from, to) && first_pinch(floor, from, to).is_none()
 }
 
 /// Whether two vertices see each other; both are below the vertex count.
@@ -100,12 +126,13 @@ pub fn question(floor: &Floor, from: u64, to: u64) -> Result<bool, u8> {
 }
 
 /// What is in the way of a segment: a cell's number, or that of the vertex where a
-/// step begins.
+/// step begins, or that of a pinch.
 #[derive(Clone, Copy, Debug, PartialEq, Eq)]
 pub enum Obstacle {
     Clear,
     Cell(u64),
     Step(u64),
+    Pinch(u64),
 }
 
 /// Of all blocked cells entered, the one least far in columns from the first end,
@@ -125,16 +152,23 @@ fn nearest_step(floor: &Floor, from: Point, to: Point) -> Obstacle {
     let begins = |&v: &usize| {
         let (x, y) = floor.point(v);
         let on_segment = between(x, from.0, to.0) && between(y, from.1, to.1) && (x, y) != to;
-        on_segment && !sees(floor, (x, y), (x + dx, y + dy))
+        on_segment && !is_unblocked(floor, (x, y), (x + dx, y + dy))
     };
     let far = |&v: &usize| (floor.point(v).0 - from.0).abs() + (floor.point(v).1 - from.1).abs();
     let nearest = (0..floor.vertex_count()).filter(begins).min_by_key(far);
     nearest.map_or(Obstacle::Clear, |v| Obstacle::Step(v as u64))
 }
 
-/// What is in the way between two points of a floor of good shape.
+/// What is in the way between two points of a floor of good shape. A pinch is named
+/// where no cell and no step is.
 pub fn obstacle(floor: &Floor, from: Point, to: Point) -> Obstacle {
-    if from.0 == to.0 || from.1 == to.1 { nearest_step(floor, from, to) } else { nearest_cell(floor, from, to) }
+    let along_a_line = from.0 == to.0 || from.1 == to.1;
+    let blockage = if along_a_line { nearest_step(floor, from, to) } else { nearest_cell(floor, from, to) };
+    let pinch = || first_pinch(floor, from, to).and_then(|(x, y)| floor.vertex(x, y));
+    match blockage {
+        Obstacle::Clear => pinch().map_or(Obstacle::Clear, |v| Obstacle::Pinch(v as u64)),
+        found => found,
+    }
 }
 
 /// What is in the way between two vertices, or a refusal 1, 2, 3 or 5.

@@ -83,6 +83,10 @@ pub fn short_streams() -> Vec<Vec<u8>> {
     let map = map_record(&Floor::open(1, 1));
     let job = job_record(4, 0, 3);
     let joined = |parts: &[&[u8]]| parts.concat();
+    // Vertex 4 is a pinch, and the floor has 9.
+    let pinched = map_record(&Floor::new(2, 2, vec![1, 0, 0, 1]));
+    let pinched_jobs = [(8, 2, 6), (8, 2, 4), (8, 4, 2), (4, 4, 4), (8, 4, 9), (8, 9, 4), (5, 4, 9), (8, 2, 5)];
+    let pinched_jobs = pinched_jobs.map(|(neighbourhood, start, goal)| job_record(neighbourhood, start, goal)).concat();
     vec![
         joined(&[&map, &job]),
         Vec::new(),
@@ -100,5 +104,6 @@ pub fn short_streams() -> Vec<Vec<u8>> {
         map_record(&Floor::open(1, 32)),
         joined(&[&map_record(&Floor::open(31, 31)), &job_record(8, 0, 1023), &job_record(4, 0, 1024)]),
         joined(&[&map, &job_record(3, 9, 9), &job_record(8, 4, 0), &job_record(8, 0, 4), &job_record(8, 2, 2)]),
+        joined(&[&pinched, &pinched_jobs]),
     ]
 }

@@ -40,6 +40,8 @@ pub fn run() -> bool {
     named_obstacles(&mut tally);
     posted_closures(&mut tally);
     costs_handed_in(&mut tally);
+    pinched_ends(&mut tally);
+    pinches_on_segments(&mut tally);
     large_totals(&mut tally);
     totals_at_the_boundary(&mut tally);
     bad_shapes(&mut tally);
@@ -163,11 +165,6 @@ fn small_floors(tally: &mut Tally) {
     tally.equal("e", e.answer, route(985, 2, 3));
     tally.equal("e route", e.points(), &[0, 1, 5]);
     tally.equal("e kept", thin::kept_positions(&Floor::open(2, 1), e.points()), vec![0, 2]);
-    let touching = Floor::new(2, 2, vec![1, 0, 0, 1]);
-    let g = plan(&touching, 8, 2, 6);
-    tally.equal("g", g.answer, route(1154, 1, 3));
-    tally.equal("g route", g.points(), &[2, 4, 6]);
-    tally.equal("g kept", thin::kept_positions(&touching, g.points()), vec![0, 2]);
     let h = plan(&Floor::open(2, 2), 4, 0, 8);
     tally.equal("h", h.answer, route(1632, 6, 5));
     tally.equal("h traversal count", h.traversal_count(4), Natural::from_u64(4));
@@ -190,6 +187,38 @@ fn blocked_floors(tally: &mut Tally) {
     let costs = [0, 408, NO_WALK, 408, 577, NO_WALK];
     tally.equal("f sheet", f.sheet.clone(), sheet_of(&costs, &[0; 6], &[0; 6], &[0; 6], &[]));
     tally.equal("f checked", check(&half, 8, 0, 5, &f.sheet), 7);
+    // As request 5 has it: 4 is the only pinch, so that no move joins the two open cells.
+    let touching = Floor::new(2, 2, vec![1, 0, 0, 1]);
+    let pinches: Vec<usize> = (0..9).filter(|&v| sight::is_pinch(&touching, touching.point(v))).collect();
+    tally.equal("g pinches", pinches, vec![4]);
+    let g = plan(&touching, 8, 2, 6);
+    tally.equal("g", g.answer, refusal(7));
+    let costs = [NO_WALK, 408, 0, NO_WALK, NO_WALK, 408, NO_WALK, NO_WALK, NO_WALK];
+    tally.equal("g sheet", g.sheet.clone(), sheet_of(&costs, &[0; 9], &[0; 9], &[0; 9], &[]));
+    tally.equal("g checked", check(&touching, 8, 2, 6, &g.sheet), 7);
+}
+
+/// Document 02, request 5, on floor g: an end that is a pinch is refused after 5, before 6 and 9, equal ends included,
+/// by both of the planner's operations and by the checker.
+fn pinched_ends(tally: &mut Tally) {
+    let floor = Floor::new(2, 2, vec![1, 0, 0, 1]);
+    let jobs = [(8, 2, 4, 11), (8, 4, 2, 11), (4, 4, 4, 11), (8, 4, 9, 5), (8, 9, 4, 5), (5, 4, 4, 4)];
+    for (neighbourhood, start, goal, answer) in jobs {
+        let name = format!("request 5, {neighbourhood}, {start} to {goal}");
+        let planned = plan(&floor, neighbourhood, start, goal);
+        tally.equal(&name, planned.answer, refusal(answer));
+        tally.holds(&name, planned.sheet.e.iter().chain(&planned.work).all(|&x| x == 9));
+        tally.equal(&name, check(&floor, neighbourhood, start, goal, &planned.sheet), answer);
+    }
+    let to_pinch = Request { neighbourhood: 8, start: 2, goal: 4 };
+    let costs = [NO_WALK, 408, 0, NO_WALK, NO_WALK, 408, NO_WALK, NO_WALK, NO_WALK];
+    tally.equal("11 from true costs", finish_from(&floor, to_pinch, &costs, 9), refusal(11));
+    tally.equal("11 before 9", finish_from(&floor, to_pinch, &[0; 9], 9), refusal(11));
+    tally.equal("11 before 6", finish_from(&floor, to_pinch, &costs, 8), refusal(11));
+    tally.equal("11 before 6 of the check", check(&floor, 8, 4, 2, &Sheet::zeros(8)), 11);
+    let mut lent = ([9; 8], [9; 36]);
+    let answer = sheet::costs(&mut Solver::new(floor), 8, 4, &mut lent.0, &mut lent.1);
+    tally.equal("11 before 6 of the costs", (answer, lent), (11, ([9; 8], [9; 36])));
 }
 
 /// Document 01, i.
@@ -205,11 +234,12 @@ fn small_sight(tally: &mut Tally) {
     tally.equal("i", entered, vec![(0, 0), (1, 0), (1, 1), (2, 1)]);
 }
 
-/// Document 02, request 2, on floors i, f and g of document 01: from (0, 0) to (3, 2)
-/// cells 0, 1, 4 and 5 are entered.
+/// Document 02, requests 2 and 5, on floors i, f and g of document 01: from (0, 0) to
+/// (3, 2) cells 0, 1, 4 and 5 are entered.
 fn named_obstacles(tally: &mut Tally) {
     let cell = |number| Ok(Obstacle::Cell(number));
     let step = |number| Ok(Obstacle::Step(number));
+    let pinch = |number| Ok(Obstacle::Pinch(number));
     let clear = Ok(Obstacle::Clear);
     let i = |blocked: &[usize]| {
         let mut floor = Floor::open(3, 2);
@@ -229,14 +259,65 @@ fn named_obstacles(tally: &mut Tally) {
         (f.clone(), 0, 6, Err(5)),
         (g.clone(), 0, 8, cell(0)),
         (g.clone(), 8, 0, cell(3)),
-        (g.clone(), 2, 6, clear),
+        (g.clone(), 2, 6, pinch(4)),
+        (g.clone(), 6, 2, pinch(4)),
+        (g.clone(), 2, 4, pinch(4)),
+        (g.clone(), 4, 2, pinch(4)),
+        (g.clone(), 1, 7, pinch(4)),
+        (g.clone(), 4, 4, clear),
         (g.clone(), 0, 6, step(0)),
         (g.clone(), 6, 0, step(3)),
         (g, 0, 0, clear),
     ];
     for (floor, from, to, answer) in questions {
         tally.equal("request 2", sight::obstacle_question(&floor, from, to), answer);
+        tally.equal("yes or no", sight::question(&floor, from, to), answer.map(|found| found == Obstacle::Clear));
     }
+}
+
+/// Document 02, request 5. On a floor of 4 by 4 cells with 1, 6, 9 and 14 blocked the pinches are 7, 12 and 17, at
+/// (2, 1), (2, 2) and (2, 3); on floors of 6 by 3 cells with 2 and 9 blocked vertex 10 is one, at (3, 1).
+fn pinches_on_segments(tally: &mut Tally) {
+    let floor = |width: u64, height: u64, blocked: &[usize]| {
+        let mut floor = Floor::open(width, height);
+        blocked.iter().for_each(|&c| floor.cells[c] = 1);
+        floor
+    };
+    let upright = floor(4, 4, &[1, 6, 9, 14]);
+    let slanted = floor(6, 3, &[2, 9]);
+    let (cell, step, pinch) = (Obstacle::Cell, Obstacle::Step, Obstacle::Pinch);
+    let questions = [
+        // All three on a column line: the nearest is named.
+        (upright.clone(), 2, 22, pinch(7)),
+        (upright.clone(), 22, 2, pinch(17)),
+        (upright.clone(), 12, 22, pinch(12)),
+        // Along a row line, and the part of it before the pinch.
+        (upright.clone(), 5, 9, pinch(7)),
+        (upright.clone(), 5, 6, Obstacle::Clear),
+        (upright, 9, 6, pinch(7)),
+        // Strictly inside a slanted segment, from (5, 0) to (1, 2) and from (4, 0) to (2, 2).
+        (slanted.clone(), 5, 15, pinch(10)),
+        (slanted.clone(), 15, 5, pinch(10)),
+        (slanted.clone(), 4, 16, pinch(10)),
+        // From (6, 0) to (0, 2), with cell 7 blocked behind the pinch: the cell is named from both ends.
+        (floor(6, 3, &[2, 9, 7]), 6, 14, cell(7)),
+        (floor(6, 3, &[2, 9, 7]), 14, 6, cell(7)),
+        // On the row line through the pinch a shut step from (5, 1) to (6, 1).
+        (floor(6, 3, &[2, 9, 5, 11]), 7, 13, step(12)),
+        (floor(6, 3, &[2, 9, 5, 11]), 13, 7, step(13)),
+        (floor(6, 3, &[2, 9, 5, 11]), 7, 12, pinch(10)),
+        // On the pinch's row line beyond it; past the pinch, from (5, 0) to (2, 2).
+        (slanted.clone(), 11, 13, Obstacle::Clear),
+        (slanted, 5, 16, cell(9)),
+    ];
+    for (floor, from, to, answer) in questions {
+        tally.equal("request 5", sight::obstacle_question(&floor, from, to), Ok(answer));
+        let joined = thin::thin(&floor, &[from as u16, to as u16], &mut [9; 2], 2);
+        tally.equal("request 5, thinning", joined, if answer == Obstacle::Clear { (0, 2) } else { (10, 0) });
+    }
+    let g = Floor::new(2, 2, vec![1, 0, 0, 1]);
+    tally.equal("a pinch three times", thin::thin(&g, &[4, 4, 4], &mut [9; 3], 3), (0, 2));
+    tally.equal("a pinch and another vertex", thin::thin(&g, &[4, 4, 5], &mut [9; 3], 3), (10, 0));
 }
 
 /// Document 02, request 1, on a floor of 3 by 2 cells with cell 5 blocked.
@@ -294,13 +375,12 @@ fn large_totals(tally: &mut Tally) {
 
 /// Totals of 2^63, 2^64 - 1, 2^64 and above.
 fn totals_at_the_boundary(tally: &mut Tally) {
-    tally.equal("2^63", plan(&boundary::doubling(63), 4, 0, 64 * 64 - 1).answer.total, 1 << 63);
-    tally.equal("2^64", plan(&boundary::doubling(64), 4, 0, 65 * 65 - 1).answer, refusal(8));
-    let largest = boundary::product(14);
-    let answer = plan(&largest.floor, 4, largest.start, largest.goal).answer;
-    tally.equal("2^64 - 1", (answer.answer, answer.total), (0, u64::MAX));
-    let above = boundary::product(15);
-    tally.equal("above 2^64", plan(&above.floor, 4, above.start, above.goal).answer, refusal(8));
+    let answer = |case: boundary::Case| plan(&case.floor, 4, case.start, case.goal).answer;
+    tally.equal("2^63", answer(boundary::doubling(63)).total, 1 << 63);
+    tally.equal("2^64", answer(boundary::doubling(64)), refusal(8));
+    let largest = answer(boundary::product(16));
+    tally.equal("2^64 - 1", (largest.answer, largest.total), (0, u64::MAX));
+    tally.equal("above 2^64", answer(boundary::product(17)), refusal(8));
 }
 
 /// Document 01, l, and the order of the refusals.
@@ -420,15 +500,15 @@ fn mirrored_counts(tally: &mut Tally) {
 }
 
 /// Document 002, "Path planning problem and notation": not through the interior of
-/// blocked cells, not between blocked cells that share an edge, but between
-/// diagonally touching blocked cells.
+/// blocked cells, not between blocked cells that share an edge. It lets a path
+/// between diagonally touching blocked cells, which request 5 does not.
 fn source_002_sight(tally: &mut Tally) {
     let touching = Floor::new(2, 2, vec![1, 0, 0, 1]);
-    tally.holds("002 between touching cells", sight::sees(&touching, (2, 0), (0, 2)));
+    tally.holds("request 5, between touching cells", !sight::sees(&touching, (2, 0), (0, 2)));
     tally.holds("002 through the interior", !sight::sees(&touching, (0, 0), (2, 2)));
     let wall = Floor::new(2, 3, vec![0, 0, 1, 1, 0, 0]);
     tally.holds("002 between cells with a shared edge", !sight::sees(&wall, (1, 0), (1, 3)));
-    tally.holds("002 along one blocked cell", sight::sees(&touching, (1, 0), (1, 2)));
+    tally.holds("002 along one blocked cell", sight::sees(&Floor::new(2, 2, vec![1, 0, 0, 0]), (1, 0), (1, 2)));
     tally.holds("outside is blocked", !sight::sees(&touching, (0, 0), (0, 1)));
     tally.holds("a vertex sees itself", sight::sees(&Floor::new(1, 1, vec![1]), (1, 1), (1, 1)));
 }
@@ -454,13 +534,13 @@ fn source_003(tally: &mut Tally) {
     tally.equal("003 six paths, neighbourhood 4", open_answer(2, 2, 4).total, 6);
     tally.equal("003 six paths, neighbourhood 8", open_answer(4, 2, 8).total, 6);
     // "The Ugly Path Problem": 400 shortest paths of 15 moves, 4 directions.
-    let squares = carved(9, 7, &[(0, 0, 3, 1), (3, 1, 3, 3), (6, 4, 3, 3)]);
-    let start = squares.vertex(0, 1).unwrap() as u64;
-    tally.equal("003 400 paths", plan(&squares, 4, start, 79).answer, route(15 * 408, 400, 16));
+    let squares = carved(4, 9, &[(0, 0, 4, 3), (3, 3, 1, 3), (0, 6, 4, 3)]);
+    let goal = squares.vertex(0, 9).unwrap() as u64;
+    tally.equal("003 400 paths", plan(&squares, 4, 0, goal).answer, route(15 * 408, 400, 16));
     // "Pathfinding by Counting": 12 paths from A and 20 from B make 12 times 20 = 240.
-    let chain = carved(5, 8, &[(0, 0, 1, 2), (1, 2, 1, 3), (2, 5, 3, 3)]);
-    let planned = plan(&chain, 4, 0, 53);
-    let middle = chain.vertex(2, 5).unwrap();
+    let chain = carved(12, 5, &[(0, 0, 12, 1), (11, 1, 1, 1), (8, 2, 4, 3)]);
+    let planned = plan(&chain, 4, 0, chain.vertex(8, 5).unwrap() as u64);
+    let middle = chain.vertex(11, 1).unwrap();
     tally.equal("003 12 from A", planned.sheet.f[middle], 12);
     tally.equal("003 20 from B", planned.sheet.b[middle], 20);
     tally.equal("003 240 paths", planned.traversal_count(middle), Natural::from_u64(240));
@@ -488,6 +568,9 @@ fn programs(tally: &mut Tally) {
         "bad record at 0\n",
         "job 1: cost 17887 routes 1 points 32 kept 2\nat 0 1023\njob 2: refused 5\n",
         "job 1: refused 4\njob 2: refused 5\njob 3: refused 5\njob 4: cost 0 routes 1 points 1 kept 1\nat 2\n",
+        // Request 5: 4, then 5 for either end, then 11.
+        "job 1: refused 7\njob 2: refused 11\njob 3: refused 11\njob 4: refused 11\njob 5: refused 5\n\
+         job 6: refused 5\njob 7: refused 4\njob 8: cost 408 routes 1 points 2 kept 2\nat 2 5\n",
     ];
     let streams = stream::short_streams();
     tally.equal("short streams", streams.len(), expected.len());
