@@ -3,18 +3,25 @@
 --   bit-or   == n | m has the bits that either has
 --   bit-and  == n & m has the bits that both have
 --   without-bit == n ^ (n & 2^k) has those of n but for bit k
+--   bit-zero == 0 has no bit
+--   pow-bit  == 2^j has bit j and no other
+--   bit-high == the bits of n from j on are those of n / 2^j
 --   bits-at  == the number made of a test's bits has those bits, and no others
-use Prim.Native.Nat.{ℕ, zero, suc, _/_, _%_, _^_, _≤_, _<_}
+--   bits-cong == tests that agree below n make the same number
+--   byte-of-bits == a byte is the number made of its bits
+use Prim.Native.Nat.{ℕ, zero, suc, _+_, _/_, _%_, _^_, _≤_, _<_}
 use mathlib.Core.Path.{_≡_, refl, sym, ap, ap₂, _∙_}
 use mathlib.Core.Logic.{⊎-elim}
 use mathlib.Core.Bool.{Bool, true, false, _&&_, _||_, not, and-true, and-false, or-false}
 use native.Mathlib.Omega.{arith}
 use native.Mathlib.Nat.{div-one, div-div-eq-div-mul, pow-suc, zero-div}
-use borrow.Author.Tests.{eq-eqb, ne-eqb, lt-ltb, le-ltb}
+use borrow.Author.Tests.{eq-eqb, ne-eqb, eqb-true, lt-ltb, le-ltb}
 use lib.Bits.{bitOr, bitAnd, bitXor, or-shr, or-mod, and-shr, and-mod, xor-shr, xor-mod}
 use lib.Dec.{eqb, ltb}
-use Rattle.basics.specs.Bounded.{pick}
+use lib.Pow.{pow-add}
+use Rattle.basics.specs.Bounded.{pick, every, bounded-opened}
 use Rattle.basics.proofs.Order.{le-or-lt, eq-or-ne}
+use Rattle.basics.proofs.Bounded.{every-at}
 use Rattle.basics.specs.Bits.{bit, bitsOf}
 
 -- Digit k of n.
@@ -82,8 +89,12 @@ half-bit n k = ap (λ x. eqb x 1) (half-digit n k)
 low-bit : (n : ℕ) → n % 2 ≡ 0 → bit n 0 ≡ false
 low-bit n e = ap (λ x. eqb x 1) (low-digit n ∙ e)
 
-bit-zero : (k : ℕ) → bit 0 k ≡ false
+pub bit-zero : (k : ℕ) → bit 0 k ≡ false
 bit-zero k = ap (λ x. eqb (x % 2) 1) (zero-div (2 ^ k))
+
+pub bit-high : (n j k : ℕ) → bit n (j + k) ≡ bit (n / 2 ^ j) k
+bit-high n j k =
+    ap (λ x. eqb (x % 2) 1) (ap (λ (x : ℕ). n / x) (pow-add 2 j k) ∙ sym (div-div-eq-div-mul n (2 ^ j) (2 ^ k)))
 
 pow-half : (j : ℕ) → 2 ^ suc j / 2 ≡ 2 ^ j
 pow-half j = omega (arith, pow-suc 2 j)
@@ -99,7 +110,7 @@ pow-unset (suc j) zero ne = low-bit (2 ^ suc j) (omega (arith, pow-suc 2 j))
 pow-unset (suc j) (suc k) ne =
     half-bit (2 ^ suc j) k ∙ ap (λ x. bit x k) (pow-half j) ∙ pow-unset j k (λ e. ne (ap suc e))
 
-pow-bit : (j k : ℕ) → bit (2 ^ j) k ≡ eqb j k
+pub pow-bit : (j k : ℕ) → bit (2 ^ j) k ≡ eqb j k
 pow-bit j k =
     ⊎-elim (λ (e : j ≡ k). rw (← e) (pow-set j ∙ sym (eq-eqb j j refl)))
     (λ ne. pow-unset j k ne ∙ sym (ne-eqb j k ne)) (eq-or-ne j k)
@@ -134,3 +145,15 @@ module _ (p : ℕ → Bool) where
       rw (e, le-ltb n n (omega arith), lt-ltb n (suc n) (omega arith), eq-eqb n n refl, and-true (p n)))
       (le-or-lt (suc n) k))
       (le-or-lt (suc k) n)
+
+pub bits-cong : (n : ℕ) (p q : ℕ → Bool) → ((k : ℕ) → k < n → p k ≡ q k) → bitsOf n p ≡ bitsOf n q
+unfolding bitsOf
+bits-cong zero p q h = refl
+bits-cong (suc n) p q h = rw (bits-cong n p q (λ k l. h k (omega arith)), h n (omega arith))
+
+all-bytes : every 256 (λ x. eqb x (bitsOf 8 (bit x))) ≡ true
+unfolding bounded-opened bitsOf
+all-bytes = refl
+
+pub byte-of-bits : (x : ℕ) → x < 256 → x ≡ bitsOf 8 (bit x)
+byte-of-bits x h = eqb-true x (bitsOf 8 (bit x)) (every-at 256 (λ x. eqb x (bitsOf 8 (bit x))) all-bytes x h)

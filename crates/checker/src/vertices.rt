@@ -4,6 +4,7 @@ ghost use Prim.Native.Nat.{_≤_, _<_};
 ghost use lib.Dec.{eqb};
 ghost use lib.ListN.{length};
 ghost use Rattle.floor.specs.Floor.{floorOf};
+ghost use Rattle.masks.specs.Windows.{WindowsTo};
 ghost use Rattle.offsets.specs.Classes.{Classes};
 ghost use Rattle.paths.specs.Local.{entry, countAt, Shaped, blankAt};
 ghost use Rattle.paths.specs.Sheet.{sheetOf};
@@ -139,15 +140,17 @@ fn row_right(
     f: &[u64],
     back: &[u64],
     route: &[u16],
+    windows: [u32; 16],
     y: usize,
 ) -> bool
-    requires { ⌜ Posed w h (now map) rows a b (sheetOf (now d) (now e) (now f) (now back) (now route) 0) × (y ≤ h) ⌝ }
+    requires { ⌜ Posed w h (now map) rows a b (sheetOf (now d) (now e) (now f) (now back) (now route) 0) × (y ≤ h)
+        × WindowsTo 16 windows ⌝ }
     ensures { λ r. ⌜ r ≡ rowTest joined (leavingGraph (floorOf w h (now (map .entry))) rows) a b
         (sheetOf (now (d .entry)) (now (e .entry)) (now (f .entry)) (now (back .entry)) (now (route .entry)) 0) w y ⌝ }
 {
     let shifts = offsets::shifts_of(w);
     let classes = offsets::classes_of(rows);
-    let leaving = masks::leaving_row(w, h, map, y);
+    let leaving = masks::leaving_row(w, h, map, y, windows);
     let first = y * (w + 1);
     let mut right = true;
     for x in 0..w + 1 {
@@ -196,6 +199,7 @@ pub fn vertices_right(
 {
     let start = a.0;
     let goal = b.0;
+    let windows = masks::window_masks();
     for y in 0..h + 1 {
         if !row_right(
             w,
@@ -210,6 +214,7 @@ pub fn vertices_right(
             f,
             back,
             route,
+            windows,
             y,
         ) {
             return false;

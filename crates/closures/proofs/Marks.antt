@@ -14,6 +14,7 @@ use Rattle.basics.specs.Bounded.{any}
 use Rattle.floor.specs.Floor.{Floor, floorOf, mapOf, withBlocked}
 use Rattle.floor.specs.Refusals.{floorShape}
 use Rattle.floor.specs.declared.Shape.the-variants.{Good}
+use Rattle.floor.proofs.Packed.{Bytes}
 use Rattle.floor.proofs.Maps.{blocked-more, blocked-none, blocked-good, blocked-length}
 use Rattle.closures.specs.Plain.{coveredBy, closedBy, workingMap}
 use Rattle.closures.specs.Table.{held}
@@ -22,8 +23,9 @@ use Rattle.closures.specs.declared.Rectangle.{Rectangle}
 use Rattle.closures.specs.declared.Closures.{Closures}
 
 -- No closure blocks nothing.
-pub unmarked : (s : Option Rectangle) (w h : ℕ) (l : List ℕ) → floorShape w h l ≡ Good → s ≡ none → Marked s w h l l
-unmarked s w h l g e = rw e (blocked-none w h l g)
+pub unmarked : (s : Option Rectangle) (w h : ℕ) (l : List ℕ) → floorShape w h l ≡ Good → Bytes l → s ≡ none
+    → Marked s w h l l
+unmarked s w h l g small e = rw e (blocked-none w h l g small)
 
 abbrev closedTo : Closures → ℕ → ℕ → ℕ → Bool
 closedTo t k i j = any k (λ s. coveredBy (held t s) i j)
@@ -45,11 +47,11 @@ pub marking-length : {t : Closures} {base work : List ℕ} {k : ℕ} → Marking
 marking-length {t} {base} {work} {k} h =
     ap length (h .at) ∙ blocked-length (t .width) (t .height) base (h .base-good) (closedTo t k)
 
-pub marking-none : (t : Closures) (base work : List ℕ) → floorShape (t .width) (t .height) base ≡ Good → work ≡ base
-    → Marking t base 0 work
+pub marking-none : (t : Closures) (base work : List ℕ) → floorShape (t .width) (t .height) base ≡ Good → Bytes base
+    → work ≡ base → Marking t base 0 work
 unfolding any
-marking-none t base work g e =
-    record { base-good = g; within = omega arith; at = e ∙ blocked-none (t .width) (t .height) base g }
+marking-none t base work g small e =
+    record { base-good = g; within = omega arith; at = e ∙ blocked-none (t .width) (t .height) base g small }
 
 pub marking-more : {t : Closures} {base work : List ℕ} {k : ℕ} (left : List ℕ) → Marking t base k work → k < 16
     → Marked (held t k) (t .width) (t .height) work left → Marking t base (k + 1) left

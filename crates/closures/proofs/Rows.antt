@@ -17,6 +17,7 @@ use Rattle.basics.proofs.Order.{le-or-lt, eq-or-ne}
 use Rattle.floor.specs.Floor.{cellNumber, floorOf, mapOf, withBlocked, blockedFrom}
 use Rattle.floor.specs.Refusals.{floorShape}
 use Rattle.floor.specs.declared.Shape.the-variants.{Good}
+use Rattle.floor.proofs.Packed.{Bytes}
 use Rattle.floor.proofs.Maps.{
   map-same,
   blocked-more,
@@ -80,13 +81,13 @@ all-rows r n i j e = ⊎-elim
     (le-or-lt n j)
 
 module _ (r : Rectangle) (w h : ℕ) (old : List ℕ) (good : floorShape w h old ≡ Good) where
-  pub rows-none : (end : ℕ) → end ≡ r .row + r .rows → Rows r w h old end (r .row) old
-  rows-none end e = record {
+  pub rows-none : Bytes old → (end : ℕ) → end ≡ r .row + r .rows → Rows r w h old end (r .row) old
+  rows-none small end e = record {
     last = e;
     from = omega arith;
     within = omega arith;
     at =
-        blocked-none w h old good
+        blocked-none w h old good small
         ∙ map-same w h _ _ (λ i j a b. ap (λ t. floorOf w h old .cell i j || t) (no-row r i j));
   }
 
@@ -113,7 +114,7 @@ module _ (r : Rectangle) (w h : ℕ) (old : List ℕ) (good : floorShape w h old
           within = omega arith;
           at =
               e ∙ ap (λ n. blockedFrom n (r .columns) s) q
-              ∙ blocked-row w h s rows-good (r .column) j (r .columns) (on .columns)
+              ∙ blocked-row w h s rows-good (r .column) j (r .columns) (on .columns) (omega (arith, g .last, on .rows))
               ∙ ap (λ l. mapOf (withBlocked (floorOf w h l) row)) (g .at)
               ∙ blocked-more (floorOf w h old) (coversTo r j) row
               ∙ map-same w h _ _ (λ x y a c.

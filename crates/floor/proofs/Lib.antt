@@ -1,6 +1,10 @@
 pub mod Numbers
 pub mod Cells
 pub mod Shapes
-pub mod Bytes
+pub mod Packed
+pub mod Unused
 pub mod Rewriting
+pub mod Blocking
+pub mod Storing
 pub mod Maps
+pub mod Stored

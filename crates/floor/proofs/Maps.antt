@@ -1,50 +1,51 @@
 -- The map of a floor: read back it gives the floor's cells, its shape is good, and blocking cells on it gives the map
 -- of the floor with those cells blocked.
 --
+--   numbered-cell    == the cell in column i and row j has the number of the definition
+--   cell-numbered    == bit c of a map is the cell with number c of its floor
+--   good-map         == a map of good shape is the map of its floor
 --   inRow i j n x y  == the cell in column x and row y is one of the n cells of row j from column i on
 use Prim.Native.Nat.{ℕ, zero, suc, _+_, _*_, _/_, _%_, _≤_, _<_}
 use mathlib.Core.Path.{_≡_, refl, sym, ap, ap₂, _∙_}
-use mathlib.Core.Bool.{Bool, true, false, _&&_, _||_, not, and-false, or-false, or-assoc}
+use mathlib.Core.Bool.{Bool, false, _&&_, _||_, and-false, or-false, or-assoc}
 use mathlib.Core.Logic.{_⊎_, inl, inr, ⊎-elim}
 use mathlib.Core.List.{List}
 use native.Mathlib.Omega.{arith}
 use native.Mathlib.Nat.{mod-lt, div-add-mod', div-lt-iff-lt-mul, mul-le-mul}
-use borrow.Author.Tests.{le-leb, lt-leb, leb-true, le-ltb, eq-eqb, ne-eqb}
+use borrow.Author.Tests.{le-leb, lt-leb, lt-ltb, le-ltb, eq-eqb, ne-eqb}
 use lib.Arith.{digits-div, digits-mod}
 use lib.Dec.{leb, ltb, eqb}
-use lib.ListN.{length, getD}
-use Rattle.basics.specs.Bounded.{pick}
-use Rattle.basics.specs.Lists.{tabulate}
+use lib.ListN.{length}
 use Rattle.basics.proofs.Order.{le-or-lt, eq-or-ne}
 use Rattle.basics.proofs.Bools.{ltb-shift}
-use Rattle.basics.proofs.Bounded.{every-all, every-at}
-use Rattle.basics.proofs.Lists.{length-tabulate, getD-tabulate, tabulate-of, tabulate-cong}
-use Rattle.floor.specs.Floor.{Floor, cellNumber, cellOf, floorOf, mapOf, withBlocked, blockedFrom}
-use Rattle.floor.specs.Refusals.{sidesShape, floorShape, mapByte}
+use Rattle.floor.specs.Floor.{
+  Floor,
+  cellNumber,
+  bitAt,
+  bitBytes,
+  mapLength,
+  cellOf,
+  floorOf,
+  cellNumbered,
+  mapOf,
+  withBlocked,
+  blockedFrom,
+}
+use Rattle.floor.specs.Refusals.{sidesShape, floorShape}
 use Rattle.floor.specs.declared.Shape.the-variants.{Good}
-use Rattle.floor.proofs.Numbers.{cell-lt}
-use Rattle.floor.proofs.Rewriting.{blockedByte}
+use Rattle.floor.proofs.Numbers.{cells-le, cell-lt}
 use Rattle.floor.proofs.Shapes.{good-sides, good-floor, floor-good, good-first}
-
--- ---- the bytes of a map
-
-byte-read : (b : Bool) → not (eqb (pick b 1 0) 0) ≡ b
-byte-read true = refl
-byte-read false = refl
-
-byte-small : (b : Bool) → leb (pick b 1 0) 1 ≡ true
-byte-small true = refl
-byte-small false = refl
-
-byte-written : (x : ℕ) → x ≤ 1 → x ≡ pick (not (eqb x 0)) 1 0
-byte-written zero l = refl
-byte-written (suc zero) l = refl
-byte-written (suc (suc x)) l = absurd (omega arith)
-
-byte-blocked : (b c : Bool) → _≡_ {A = ℕ} (pick c 1 (pick b 1 0)) (pick (b || c) 1 0)
-byte-blocked true true = refl
-byte-blocked true false = refl
-byte-blocked false c = refl
+use Rattle.floor.proofs.Packed.{
+  Bytes,
+  bytes-cong,
+  packed-bit,
+  packed-length,
+  packed-clear,
+  packed-cong,
+  packed-same,
+  unused-open,
+}
+use Rattle.floor.proofs.Blocking.{inSpan}
 
 -- ---- the column and the row of a cell's number
 
@@ -61,40 +62,35 @@ row-lt w h c l = div-lt-iff-lt-mul {k = w} {x = c} {y = h} (pos w h c l) .1 (ome
 -- ---- the map of a floor
 
 module _ (f : Floor) where
-  abbrev byte : ℕ → ℕ
-  byte c = pick (f .cell (c % f .wide) (c / f .wide)) 1 0
-
-  map-length : length (mapOf f) ≡ f .wide * f .high
+  map-length : length (mapOf f) ≡ mapLength (f .wide * f .high)
   unfolding mapOf
-  map-length = length-tabulate (f .wide * f .high) byte
+  map-length = packed-length (f .wide * f .high) (cellNumbered f)
 
-  map-at : (c : ℕ) → c < f .wide * f .high → getD (mapOf f) c 0 ≡ byte c
-  unfolding mapOf
-  map-at c l = getD-tabulate (f .wide * f .high) c byte l
+  -- The cell in column i and row j, by its number.
+  pub numbered-cell : (i j : ℕ) → i < f .wide → cellNumbered f (cellNumber (f .wide) i j) ≡ f .cell i j
+  numbered-cell i j p = ap₂ (f .cell) (digits-mod j {m = f .wide} {r = i} p) (digits-div j {m = f .wide} {r = i} p)
 
   -- Read back, the map gives the floor's cells.
   pub map-cell : (i j : ℕ) → i < f .wide → j < f .high → cellOf (f .wide) (mapOf f) i j ≡ f .cell i j
-  unfolding cellOf
+  unfolding cellOf mapOf
   map-cell i j p q =
       let c = cellNumber (f .wide) i j in
-      ap (λ x. not (eqb x 0)) (map-at c (cell-lt (f .wide) (f .high) i j p q))
-      ∙ byte-read (f .cell (c % f .wide) (c / f .wide))
-      ∙ ap₂ (f .cell) (digits-mod j {m = f .wide} {r = i} p) (digits-div j {m = f .wide} {r = i} p)
+      packed-bit (f .wide * f .high) (cellNumbered f) c
+      ∙ rw (lt-ltb c (f .wide * f .high) (cell-lt (f .wide) (f .high) i j p q)) (numbered-cell i j p)
 
   pub map-good : sidesShape (f .wide) (f .high) ≡ Good → floorShape (f .wide) (f .high) (mapOf f) ≡ Good
+  unfolding mapOf
   map-good e =
       let s = good-sides (f .wide) (f .high) e in
-      let l = mapOf f in
-      sym (floor-good (f .wide) (f .high) l (s .wide-pos) (s .wide) (s .high-pos) (s .high) map-length
-      (every-all (length l) (mapByte l) (λ c k.
-      ap (λ x. leb x 1) (map-at c (omega (arith, map-length))) ∙ byte-small (f .cell (c % f .wide) (c / f .wide)))))
+      sym (floor-good (f .wide) (f .high) (mapOf f) (s .wide-pos) (s .wide) (s .high-pos) (s .high) map-length
+      (packed-clear (f .wide * f .high) (cellNumbered f)))
 
 -- Floors with the same cells have the same map.
 pub map-same : (w h : ℕ) (p q : ℕ → ℕ → Bool) → ((i j : ℕ) → i < w → j < h → p i j ≡ q i j)
     → mapOf (record { wide = w; high = h; cell = p }) ≡ mapOf (record { wide = w; high = h; cell = q })
 unfolding mapOf
 map-same w h p q e =
-    tabulate-cong (w * h) _ _ (λ c l. ap (λ b. pick b 1 0) (e (c % w) (c / w) (column-lt w h c l) (row-lt w h c l)))
+    packed-cong (w * h) _ _ (λ c l. e (c % w) (c / w) (column-lt w h c l) (row-lt w h c l))
 
 -- Cells blocked on a map that was so made: it is the map of the floor with both blocked.
 pub blocked-more : (f : Floor) (p q : ℕ → ℕ → Bool)
@@ -141,21 +137,21 @@ row-span w i j n x y p q = ⊎-elim
 
 -- ---- a good map is the map of its floor
 
+-- A cell of a map, by its number.
+pub cell-numbered : (w h : ℕ) (l : List ℕ) (c : ℕ) → bitAt l c ≡ cellNumbered (floorOf w h l) c
+unfolding cellOf
+cell-numbered w h l c = ap (bitAt l) (sym (div-add-mod' c w))
+
 module _ (w h : ℕ) (l : List ℕ) (g : floorShape w h l ≡ Good) where
-  good-at : (c : ℕ) → c < w * h → getD l c 0 ≡ pick (cellOf w l (c % w) (c / w)) 1 0
-  unfolding cellOf
-  good-at c k =
-      let f = good-floor w h l g in
-      byte-written (getD l c 0) (leb-true (getD l c 0) 1
-      (every-at (length l) (mapByte l) (f .bytes) c (omega (arith, f .sized .size))))
-      ∙ ap (λ n. pick (not (eqb (getD l n 0) 0)) 1 0) (sym (div-add-mod' c w))
-
-  pub good-map : l ≡ mapOf (floorOf w h l)
+  pub good-map : Bytes l → l ≡ mapOf (floorOf w h l)
   unfolding mapOf
-  good-map = tabulate-of (w * h) l _ (good-floor w h l g .sized .size) good-at
+  good-map small =
+      let f = good-floor w h l g in
+      packed-same (w * h) (cellNumbered (floorOf w h l)) l small (f .sized .size) (f .unused)
+      (λ c k. cell-numbered w h l c)
 
-  pub blocked-none : l ≡ mapOf (withBlocked (floorOf w h l) (λ i j. false))
-  blocked-none = good-map ∙ map-same w h _ _ (λ i j a b. sym (or-false (cellOf w l i j)))
+  pub blocked-none : Bytes l → l ≡ mapOf (withBlocked (floorOf w h l) (λ i j. false))
+  blocked-none small = good-map small ∙ map-same w h _ _ (λ i j a b. sym (or-false (cellOf w l i j)))
 
   module _ (p : ℕ → ℕ → Bool) where
     pub blocked-good : floorShape w h (mapOf (withBlocked (floorOf w h l) p)) ≡ Good
@@ -165,27 +161,34 @@ module _ (w h : ℕ) (l : List ℕ) (g : floorShape w h l ≡ Good) where
     pub blocked-length : length (mapOf (withBlocked (floorOf w h l) p)) ≡ length l
     blocked-length = map-length (withBlocked (floorOf w h l) p) ∙ sym (good-floor w h l g .sized .size)
 
-  -- Cells of a row blocked.
-  pub blocked-row : (i j n : ℕ) → i + n ≤ w
-      → blockedFrom (cellNumber w i j) n l ≡ mapOf (withBlocked (floorOf w h l) (inRow i j n))
-  unfolding mapOf blockedFrom
-  blocked-row i j n q =
-      ap (λ m. tabulate m (blockedByte (cellNumber w i j) n l)) (good-floor w h l g .sized .size)
-      ∙ tabulate-cong (w * h) _ _ (λ c k.
-      let x = c % w in
-      let y = c / w in
-      ap (pick (span c) 1) (good-at c k) ∙ byte-blocked (cellOf w l x y) (span c)
-      ∙ ap (λ b. pick (cellOf w l x y || b) 1 0)
-      (ap span (sym (div-add-mod' c w)) ∙ row-span w i j n x y (column-lt w h c k) q))
-    where
-      span : ℕ → Bool
-      span c = leb (cellNumber w i j) c && ltb c (cellNumber w i j + n)
+  -- Cells of a row lie on the map.
+  row-within : (i j n : ℕ) → i + n ≤ w → j < h → cellNumber w i j + n ≤ w * h
+  row-within i j n p q = omega (arith, mul-le-mul {n₁ = suc j} {m₁ = w} {n₂ = h} {m₂ = w} q (omega arith))
 
-  -- They lie on the map.
-  pub row-fits : (i j n : ℕ) → i + n ≤ w → j < h → cellNumber w i j + n ≤ length l
+  pub row-fits : (i j n : ℕ) → i + n ≤ w → j < h → (cellNumber w i j + n ≤ 8 * length l) × (length l ≤ 2017)
   row-fits i j n p q =
-      omega (
-        arith,
-        good-floor w h l g .sized .size,
-        mul-le-mul {n₁ = suc j} {m₁ = w} {n₂ = h} {m₂ = w} q (omega arith),
+      let s = good-floor w h l g .sized in
+      (omega (arith, s .size, row-within i j n p q), omega (arith, s .size, cells-le (s .wide) (s .high)))
+
+  -- Cells of a row blocked.
+  pub blocked-row : (i j n : ℕ) → i + n ≤ w → j < h
+      → blockedFrom (cellNumber w i j) n l ≡ mapOf (withBlocked (floorOf w h l) (inRow i j n))
+  unfolding mapOf blockedFrom cellOf
+  blocked-row i j n p q =
+      let f = good-floor w h l g in
+      let a = cellNumber w i j in
+      ap (λ m. bitBytes m (λ c. bitAt l c || inSpan a n c)) (f .sized .size)
+      ∙ bytes-cong (mapLength (w * h)) (λ c. bitAt l c || inSpan a n c)
+      (λ c. ltb c (w * h) && (cellNumbered (floorOf w h l) c || inRow i j n (c % w) (c / w))) (λ c k. ⊎-elim
+      (λ (o : suc c ≤ w * h).
+      rw (lt-ltb c (w * h) o) (ap₂ _||_ (cell-numbered w h l c)
+      (ap (inSpan a n) (sym (div-add-mod' c w)) ∙ row-span w i j n (c % w) (c / w) (column-lt w h c o) p)))
+      (λ (o : w * h < suc c).
+      rw (
+        le-ltb c (w * h) (omega arith),
+        le-ltb c (a + n) (omega (arith, row-within i j n p q)),
+        and-false (leb a c),
+        or-false (bitAt l c),
       )
+      (unused-open (w * h) l (f .unused) c (omega (arith, f .sized .size)) (omega arith)))
+      (le-or-lt (suc c) (w * h)))

@@ -11,6 +11,9 @@ use Rattle.floor.specs.Floor.{Sized, vertices, number, column, row}
 pub vertices-le : {w h : ℕ} → w ≤ 127 → h ≤ 127 → vertices w h ≤ 16384
 vertices-le {w} {h} p q = mul-le-mul {n₁ = suc h} {m₁ = suc w} {n₂ = 128} {m₂ = 128} (omega arith) (omega arith)
 
+pub cells-le : {w h : ℕ} → w ≤ 127 → h ≤ 127 → w * h ≤ 16129
+cells-le {w} {h} p q = mul-le-mul {n₁ = w} {m₁ = h} {n₂ = 127} {m₂ = 127} p q
+
 -- A product of two numbers up to 128, and one more number added, fit in a word.
 pub mul-fits : {a b : ℕ} → a ≤ 128 → b ≤ 128 → a * b < 2 ^ 64
 mul-fits {a} {b} p q = omega (arith, mul-le-mul {n₁ = a} {m₁ = b} {n₂ = 128} {m₂ = 128} p q)
@@ -51,6 +54,6 @@ pub cell-lt : (w h i j : ℕ) → i < w → j < h → j * w + i < w * h
 cell-lt w h i j p q = omega (arith, mul-le-mul {n₁ = suc j} {m₁ = w} {n₂ = h} {m₂ = w} (omega arith) (omega arith))
 
 pub cell-inside : {w h x y : ℕ} {l : List ℕ} → Sized w h l → 1 ≤ x → x ≤ w → 1 ≤ y → y ≤ h
-    → (y - 1) * w + (x - 1) < length l
+    → (y - 1) * w + (x - 1) < 8 * length l
 cell-inside {w} {h} {x} {y} {l} g a b c d =
     omega (arith, g .size, cell-lt w h (x - 1) (y - 1) (omega arith) (omega arith))

@@ -1,21 +1,16 @@
--- A loop that writes a map, place after place.
+-- A loop that writes a list, place after place.
 --
 --   Rewriting F old m n c s  == of the list old, the places below c, of those below the loop's end n, which is m, are
 --                               rewritten by F, which gives s
 use Prim.Native.Nat.{ℕ, _+_, _≤_, _<_}
 use mathlib.Core.Path.{_≡_, refl, sym, _∙_}
-use mathlib.Core.Bool.{_&&_, and-false}
 use mathlib.Core.Logic.{⊎-elim}
 use mathlib.Core.List.{List}
 use native.Mathlib.Omega.{arith}
-use borrow.Author.Tests.{le-leb, lt-leb, lt-ltb, le-ltb}
-use lib.Dec.{leb, ltb}
 use lib.ListN.{length, getD, set, length-set}
 use lib.Seq.{getD-set-same, getD-set-other}
-use Rattle.basics.specs.Bounded.{pick}
-use Rattle.basics.proofs.Order.{le-or-lt, eq-or-ne}
+use Rattle.basics.proofs.Order.{eq-or-ne}
 use Rattle.basics.proofs.Lists.{tabulate-of}
-use Rattle.floor.specs.Floor.{blockedFrom}
 
 pub record Rewriting (F : ℕ → ℕ) (old : List ℕ) (m n c : ℕ) (s : List ℕ) : Type 0 where
   pub end : n ≡ m
@@ -59,39 +54,3 @@ copy-done {base} {old} {s} {n} {c} e h l =
     let F : ℕ → ℕ = λ k. getD base k 0 in
     tabulate-of (length base) s F (h .len ∙ e) (λ k i. h .done k (omega (arith, h .end)))
     ∙ sym (tabulate-of (length base) base F refl (λ k i. refl))
-
--- Cells blocked: F gives 1 from number a on, for n cells.
-module _ (a n : ℕ) (l : List ℕ) where
-  abbrev pub blockedByte : ℕ → ℕ
-  blockedByte c = pick (leb a c && ltb c (a + n)) 1 (getD l c 0)
-
-  byte-before : (c : ℕ) → c < a → getD l c 0 ≡ blockedByte c
-  byte-before c p = rw (lt-leb a c p)
-
-  byte-inside : (c : ℕ) → a ≤ c → c < a + n → 1 ≡ blockedByte c
-  byte-inside c p q = rw (le-leb a c p, lt-ltb c (a + n) q)
-
-  byte-after : (c : ℕ) → a + n ≤ c → getD l c 0 ≡ blockedByte c
-  byte-after c p = rw (le-ltb c (a + n) p, and-false (leb a c))
-
-  pub block-none : (e : ℕ) → a + n ≤ length l → e ≡ a + n → Rewriting blockedByte l (a + n) e a l
-  block-none e f q = record {
-    end = q;
-    fits = f;
-    within = omega arith;
-    len = refl;
-    done = byte-before;
-    rest = λ k i. refl;
-  }
-
-  pub block-more : {e c : ℕ} {s : List ℕ} → Rewriting blockedByte l (a + n) e c s → a ≤ c → c < e
-      → Rewriting blockedByte l (a + n) e (c + 1) (set s c 1)
-  block-more {e} {c} {s} h p q = rewriting-more 1 h q (byte-inside c p (omega (arith, h .end)))
-
-  pub block-done : {e c : ℕ} {s : List ℕ} → Rewriting blockedByte l (a + n) e c s → e ≤ c → s ≡ blockedFrom a n l
-  unfolding blockedFrom
-  block-done {e} {c} {s} h p =
-      tabulate-of (length l) s blockedByte (h .len) (λ k i. ⊎-elim
-      (λ (q : c ≤ k). h .rest k q ∙ byte-after k (omega (arith, h .end)))
-      (λ (q : k < c). h .done k q)
-      (le-or-lt c k))

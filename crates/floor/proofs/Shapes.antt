@@ -8,12 +8,12 @@ use native.Mathlib.Omega.{arith}
 use borrow.Author.Tests.{leb-true, le-leb, lt-leb, eqb-true, eq-eqb, ne-eqb, ltb-true, lt-ltb, le-ltb}
 use lib.Dec.{leb, ltb, eqb}
 use lib.ListN.{length}
-use Rattle.basics.specs.Bounded.{pick, every}
+use Rattle.basics.specs.Bounded.{pick}
 use Rattle.basics.proofs.Bools.{and-left, and-right}
-use Rattle.floor.specs.Floor.{Sized, vertices}
-use Rattle.floor.specs.Refusals.{side, mapByte, sidesShape, floorShape, endShape, andThen}
+use Rattle.floor.specs.Floor.{Sized, mapLength, vertices}
+use Rattle.floor.specs.Refusals.{side, unusedClear, sidesShape, floorShape, endShape, andThen}
 use Rattle.floor.specs.declared.Refusal.{Refusal}
-use Rattle.floor.specs.declared.Refusal.the-variants.{Size, MapLength, MapByte, End}
+use Rattle.floor.specs.declared.Refusal.the-variants.{Size, MapLength, UnusedBit, End}
 use Rattle.floor.specs.declared.Shape.{Shape}
 use Rattle.floor.specs.declared.Shape.the-variants.{Good, Refused}
 
@@ -91,48 +91,48 @@ pub record GoodFloor (w h : ℕ) (l : List ℕ) : Type 0 where
   pub sized : Sized w h l
   pub wide-pos : 1 ≤ w
   pub high-pos : 1 ≤ h
-  pub bytes : every (length l) (mapByte l) ≡ true
+  pub unused : unusedClear (w * h) l ≡ true
 
 module _ (w h : ℕ) (l : List ℕ) where
   abbrev lengthShape : Shape
-  lengthShape = pick (eqb (length l) (w * h)) Good (Refused MapLength)
+  lengthShape = pick (eqb (length l) (mapLength (w * h))) Good (Refused MapLength)
 
-  abbrev bytesShape : Shape
-  bytesShape = pick (every (length l) (mapByte l)) Good (Refused MapByte)
+  abbrev unusedShape : Shape
+  unusedShape = pick (unusedClear (w * h) l) Good (Refused UnusedBit)
 
   pub sides-refused : {r : Refusal} → sidesShape w h ≡ Refused r → sidesShape w h ≡ floorShape w h l
   unfolding floorShape
-  sides-refused e = then-refused (sidesShape w h) (andThen lengthShape bytesShape) e
+  sides-refused e = then-refused (sidesShape w h) (andThen lengthShape unusedShape) e
 
   module _ (a : sidesShape w h ≡ Good) where
-    pub length-refused : (length l ≡ w * h → ⊥) → Refused MapLength ≡ floorShape w h l
+    pub length-refused : (length l ≡ mapLength (w * h) → ⊥) → Refused MapLength ≡ floorShape w h l
     unfolding floorShape
-    length-refused ne = rw (a, ne-eqb (length l) (w * h) ne)
+    length-refused ne = rw (a, ne-eqb (length l) (mapLength (w * h)) ne)
 
-    module _ (e : length l ≡ w * h) where
-      pub bytes-refused : every (length l) (mapByte l) ≡ false → Refused MapByte ≡ floorShape w h l
+    module _ (e : length l ≡ mapLength (w * h)) where
+      pub unused-refused : unusedClear (w * h) l ≡ false → Refused UnusedBit ≡ floorShape w h l
       unfolding floorShape
-      bytes-refused t = rw (a, eq-eqb (length l) (w * h) e, t)
+      unused-refused t = rw (a, eq-eqb (length l) (mapLength (w * h)) e, t)
 
-      pub bytes-passed : every (length l) (mapByte l) ≡ true → Good ≡ floorShape w h l
+      pub unused-passed : unusedClear (w * h) l ≡ true → Good ≡ floorShape w h l
       unfolding floorShape
-      bytes-passed t = rw (a, eq-eqb (length l) (w * h) e, t)
+      unused-passed t = rw (a, eq-eqb (length l) (mapLength (w * h)) e, t)
 
-  pub floor-good : 1 ≤ w → w ≤ 127 → 1 ≤ h → h ≤ 127 → length l ≡ w * h → every (length l) (mapByte l) ≡ true
+  pub floor-good : 1 ≤ w → w ≤ 127 → 1 ≤ h → h ≤ 127 → length l ≡ mapLength (w * h) → unusedClear (w * h) l ≡ true
       → Good ≡ floorShape w h l
-  floor-good a b c d e t = bytes-passed (sym (sides-good w h a b c d)) e t
+  floor-good a b c d e t = unused-passed (sym (sides-good w h a b c d)) e t
 
   pub good-floor : floorShape w h l ≡ Good → GoodFloor w h l
   unfolding floorShape
   good-floor e =
-      let s = good-sides w h (good-first (sidesShape w h) (andThen lengthShape bytesShape) e) in
-      let m : andThen lengthShape bytesShape ≡ Good = good-second (sidesShape w h) _ e in
-      let size = good-pick MapLength (eqb (length l) (w * h)) (good-first lengthShape bytesShape m) in
+      let s = good-sides w h (good-first (sidesShape w h) (andThen lengthShape unusedShape) e) in
+      let m : andThen lengthShape unusedShape ≡ Good = good-second (sidesShape w h) _ e in
+      let size = good-pick MapLength (eqb (length l) (mapLength (w * h))) (good-first lengthShape unusedShape m) in
       record {
-        sized = record { wide = s .wide; high = s .high; size = eqb-true (length l) (w * h) size };
+        sized = record { wide = s .wide; high = s .high; size = eqb-true (length l) (mapLength (w * h)) size };
         wide-pos = s .wide-pos;
         high-pos = s .high-pos;
-        bytes = good-pick MapByte (every (length l) (mapByte l)) (good-second lengthShape bytesShape m);
+        unused = good-pick UnusedBit (unusedClear (w * h) l) (good-second lengthShape unusedShape m);
       }
 
 pub end-good : (w h v : ℕ) → v < vertices w h → Good ≡ endShape w h v

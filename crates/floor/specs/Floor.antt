@@ -1,10 +1,20 @@
--- Document 01, "The floor".
+-- Document 01, "The floor", and of document 02 request 6 for how a map is stored: a bit to a cell.
 --
 --   Floor            == its sides in cells, and whether the cell in column i and row j is blocked
 --   cellNumber w i j == the number of the cell in column i and row j
+--   bitAt l c        == bit c of the bytes l: bit c % 8, counted from the low end, of byte c / 8
+--   bitBytes m p     == the m bytes whose bits are those that p has: bit c is set where p c holds
+--   mapLength n      == the number of bytes of a map of n cells: n / 8 rounded up
+--   packed n p       == the map of n cells of which cell c is blocked where p c holds. Cell c is bit c; the bits of the
+--                       last byte past the cells are 0
+--   byteBlocked l c  == cell c is blocked, as the bytes l give the cells: 0 open
 --   storedCells l    == the map that stores the cells given by the bytes l, 0 open and 1 blocked, row by row
+--   cellOf w l i j   == the cell in column i and row j, as the map l of a floor of width w has it
 --   floorOf w h l    == the floor of width w and height h whose map is the list of bytes l
---   mapOf f          == the map of floor f: a byte for each cell, 1 where it is blocked and 0 where it is open
+--   byteFloor w h l  == the floor of width w and height h whose cells are given by the bytes l, row by row
+--   cellNumbered f c == the cell of floor f with number c
+--   mapOf f          == the map of floor f
+--   cellBytes f      == the cells of floor f, a byte for each, 1 where it is blocked and 0 where it is open
 --   withBlocked f p  == the floor f, blocked also where p holds
 --   blockedFrom a n l == the map l, with the n cells from number a on blocked
 --   blocked f x y    == the cell that has the vertex (x, y) as its lower right corner, cell (x - 1, y - 1), is blocked;
@@ -22,6 +32,7 @@ use lib.Dec.{leb, ltb, eqb}
 use lib.ListN.{length, getD}
 use Rattle.basics.specs.Bounded.{pick}
 use Rattle.basics.specs.Lists.{tabulate}
+use Rattle.basics.specs.Bits.{bit, bitsOf}
 
 pub record Floor : Type 0 where
   pub wide : ℕ
@@ -31,25 +42,48 @@ pub record Floor : Type 0 where
 abbrev pub cellNumber : ℕ → ℕ → ℕ → ℕ
 cellNumber w i j = j * w + i
 
--- A map stores a byte for each cell, 0 open: what it stores of cells that are given so are those bytes.
-abbrev pub storedCells : List ℕ → List ℕ
-storedCells l = l
+abbrev pub bitAt : List ℕ → ℕ → Bool
+bitAt l c = bit (getD l (c / 8) 0) (c % 8)
+
+unfoldable pub bitBytes : ℕ → (ℕ → Bool) → List ℕ
+bitBytes m p = tabulate m (λ k. bitsOf 8 (λ b. p (8 * k + b)))
+
+abbrev pub mapLength : ℕ → ℕ
+mapLength n = (n + 7) / 8
+
+abbrev pub packed : ℕ → (ℕ → Bool) → List ℕ
+packed n p = bitBytes (mapLength n) (λ c. ltb c n && p c)
+
+abbrev pub byteBlocked : List ℕ → ℕ → Bool
+byteBlocked l c = not (eqb (getD l c 0) 0)
+
+unfoldable pub storedCells : List ℕ → List ℕ
+storedCells l = packed (length l) (byteBlocked l)
 
 unfoldable pub cellOf : ℕ → List ℕ → ℕ → ℕ → Bool
-cellOf w l i j = not (eqb (getD l (cellNumber w i j) 0) 0)
+cellOf w l i j = bitAt l (cellNumber w i j)
 
 abbrev pub floorOf : ℕ → ℕ → List ℕ → Floor
 floorOf w h l = record { wide = w; high = h; cell = cellOf w l }
 
+abbrev pub byteFloor : ℕ → ℕ → List ℕ → Floor
+byteFloor w h l = record { wide = w; high = h; cell = λ i j. byteBlocked l (cellNumber w i j) }
+
 -- The cell with number c stands in column c % w and row c / w.
+abbrev pub cellNumbered : Floor → ℕ → Bool
+cellNumbered f c = f .cell (c % f .wide) (c / f .wide)
+
 unfoldable pub mapOf : Floor → List ℕ
-mapOf f = tabulate (f .wide * f .high) (λ c. pick (f .cell (c % f .wide) (c / f .wide)) 1 0)
+mapOf f = packed (f .wide * f .high) (cellNumbered f)
+
+unfoldable pub cellBytes : Floor → List ℕ
+cellBytes f = tabulate (f .wide * f .high) (λ c. pick (cellNumbered f c) 1 0)
 
 abbrev pub withBlocked : Floor → (ℕ → ℕ → Bool) → Floor
 withBlocked f p = record { wide = f .wide; high = f .high; cell = λ i j. f .cell i j || p i j }
 
 unfoldable pub blockedFrom : ℕ → ℕ → List ℕ → List ℕ
-blockedFrom a n l = tabulate (length l) (λ c. pick (leb a c && ltb c (a + n)) 1 (getD l c 0))
+blockedFrom a n l = bitBytes (length l) (λ c. bitAt l c || (leb a c && ltb c (a + n)))
 
 unfoldable pub blocked : Floor → ℕ → ℕ → Bool
 blocked f zero y = true
@@ -71,9 +105,9 @@ row w v = v / suc w
 pub record Sized (w h : ℕ) (l : List ℕ) : Type 0 where
   pub wide : w ≤ 127
   pub high : h ≤ 127
-  pub size : length l ≡ w * h
+  pub size : length l ≡ mapLength (w * h)
 
 -- Named on an `unfolding` line, this opens all of the above, for a theorem that is computed.
 unfoldable pub floor-opened : ℕ
-unfolding cellOf mapOf blockedFrom blocked
+unfolding bitsOf bitBytes storedCells cellOf mapOf cellBytes blockedFrom blocked
 floor-opened = 0

@@ -1,24 +1,25 @@
--- Document 01, "Answers by number", and of document 02 request 5 for 11 and request 1 for 12 to 14: each refusal's
--- number, and the refusals over the shape of a floor and of an end.
+-- Document 01, "Answers by number", and of document 02 request 6 for 2 and 3, request 5 for 11 and request 1 for 12 to
+-- 14: each refusal's number, and the refusals over the shape of a floor and of an end.
 --
 --   refusalNumber r    == the number of refusal r
 --   sidesShape w h     == refusal 1: the sides
---   floorShape w h l   == refusals 1 to 3 of a floor, in order: the sides, the map's length, its bytes
+--   unusedClear n l    == every bit of the map l past its n cells is 0
+--   floorShape w h l   == refusals 1 to 3 of a floor, in order: the sides, the map's length, its unused bits
 --   endShape w h v     == refusal 5 of one end
 --   andThen s t        == the shape s, and t where s is good: the first refusal that applies
 --   leftBy s x y       == what a call leaves whose refusals are the shape s: x where it is good, y at a refusal
 use Prim.Native.Nat.{ℕ, _*_}
-use mathlib.Core.Bool.{Bool, _&&_}
+use mathlib.Core.Bool.{Bool, _&&_, _||_, not}
 use mathlib.Core.List.{List}
 use lib.Dec.{leb, ltb, eqb}
-use lib.ListN.{length, getD}
+use lib.ListN.{length}
 use Rattle.basics.specs.Bounded.{pick, every}
-use Rattle.floor.specs.Floor.{vertices}
+use Rattle.floor.specs.Floor.{bitAt, mapLength, vertices}
 use Rattle.floor.specs.declared.Refusal.{Refusal}
 use Rattle.floor.specs.declared.Refusal.the-variants.{
   Size,
   MapLength,
-  MapByte,
+  UnusedBit,
   Neighbourhood,
   End,
   SliceLength,
@@ -37,7 +38,7 @@ use Rattle.floor.specs.declared.Shape.the-variants.{Good, Refused}
 abbrev pub refusalNumber : Refusal → ℕ
 refusalNumber Size = 1
 refusalNumber MapLength = 2
-refusalNumber MapByte = 3
+refusalNumber UnusedBit = 3
 refusalNumber Neighbourhood = 4
 refusalNumber End = 5
 refusalNumber SliceLength = 6
@@ -62,18 +63,17 @@ leftBy (Refused r) x y = y
 abbrev pub side : ℕ → Bool
 side n = leb 1 n && leb n 127
 
--- A map byte is 0 or 1.
-abbrev pub mapByte : List ℕ → ℕ → Bool
-mapByte l k = leb (getD l k 0) 1
-
 unfoldable pub sidesShape : ℕ → ℕ → Shape
 sidesShape w h = pick (side w && side h) Good (Refused Size)
+
+unfoldable pub unusedClear : ℕ → List ℕ → Bool
+unusedClear n l = every (8 * length l) (λ c. ltb c n || not (bitAt l c))
 
 unfoldable pub floorShape : ℕ → ℕ → List ℕ → Shape
 floorShape w h l =
     andThen (sidesShape w h)
-    (andThen (pick (eqb (length l) (w * h)) Good (Refused MapLength))
-    (pick (every (length l) (mapByte l)) Good (Refused MapByte)))
+    (andThen (pick (eqb (length l) (mapLength (w * h))) Good (Refused MapLength))
+    (pick (unusedClear (w * h) l) Good (Refused UnusedBit)))
 
 unfoldable pub endShape : ℕ → ℕ → ℕ → Shape
 endShape w h v = pick (ltb v (vertices w h)) Good (Refused End)

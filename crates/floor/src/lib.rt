@@ -1,13 +1,13 @@
 // The floor: cells and vertices, what a cell reads as, and the refusals over the shape of a floor and of an end.
 ghost use mathlib.Core.Path.{_≡_};
-ghost use Prim.Native.Nat.{suc, _+_, _-_, _<_, _≤_, max};
-ghost use lib.ListN.{length, getD};
+ghost use Prim.Native.Nat.{suc, _+_, _-_, _*_, _<_, _≤_};
+ghost use lib.ListN.{length};
 ghost use lib.Dec.{eqb};
-ghost use mathlib.Core.Bool.{not};
-ghost use Rattle.basics.specs.Bounded.{every};
-ghost use Rattle.floor.specs.Floor.{Sized, cellNumber, storedCells, floorOf, blockedFrom, blocked};
-ghost use Rattle.floor.specs.Floor.{vertices, number, column, row};
-ghost use Rattle.floor.specs.Refusals.{refusalNumber, sidesShape, floorShape, endShape, mapByte};
+ghost use Rattle.basics.specs.Bounded.{pick};
+ghost use Rattle.floor.specs.Floor.{Sized, cellNumber, bitAt, mapLength, storedCells, floorOf, blockedFrom};
+ghost use Rattle.floor.specs.Floor.{blocked, vertices, number, column, row};
+ghost use Rattle.floor.specs.Window.{WindowMap};
+ghost use Rattle.floor.specs.Refusals.{refusalNumber, unusedClear, sidesShape, floorShape, endShape};
 
 // The number of a cell: column + row * W.
 pub struct Cell(pub usize);
@@ -19,7 +19,7 @@ pub struct Vertex(pub usize);
 pub enum Refusal {
     Size,
     MapLength,
-    MapByte,
+    UnusedBit,
     Neighbourhood,
     End,
     SliceLength,
@@ -46,7 +46,7 @@ pub fn refusal_number(r: Refusal) -> u8
     match r {
         Refusal::Size => 1,
         Refusal::MapLength => 2,
-        Refusal::MapByte => 3,
+        Refusal::UnusedBit => 3,
         Refusal::Neighbourhood => 4,
         Refusal::End => 5,
         Refusal::SliceLength => 6,
@@ -72,19 +72,27 @@ pub fn cell_at(w: usize, i: usize, j: usize) -> Cell
 // The cell that has the vertex (x, y) as its lower right corner.
 pub fn cell_before(w: usize, h: usize, map: &[u8], x: usize, y: usize) -> Cell
     requires { ⌜ Sized w h (now map) × (1 ≤ x) × (x ≤ w) × (1 ≤ y) × (y ≤ h) ⌝ }
-    ensures { λ c. ⌜ (c .0 ≡ cellNumber w (x - 1) (y - 1)) × (c .0 < length (now (map .entry))) ⌝ }
+    ensures { λ c. ⌜ (c .0 ≡ cellNumber w (x - 1) (y - 1)) × (c .0 < 8 * length (now (map .entry))) ⌝ }
 {
     cell_at(w, x - 1, y - 1)
 }
 
-// Whether a cell of the map is blocked. Only this, `block_cells`, `copy_map`, `store_cells` and `floor_shape`, which
-// tests length and bytes, know how a map is stored.
+// The number of bytes of a map, a bit to a cell: cell c is bit c % 8, from the low end, of byte c / 8. Only this,
+// `is_blocked`, `block_cell`, `copy_map`, `store_cells` and `unused_clear` know how a map is stored.
+pub fn map_length(w: usize, h: usize) -> usize
+    requires { ⌜ (w ≤ 127) × (h ≤ 127) ⌝ }
+    ensures { λ r. ⌜ (r ≡ mapLength (w * h)) × (r ≤ 2017) ⌝ }
+{
+    (w * h + 7) / 8
+}
+
+// Whether a cell of the map is blocked.
 fn is_blocked(map: &[u8], c: Cell) -> bool
-    requires { ⌜ c .0 < length (now map) ⌝ }
-    ensures { λ r. ⌜ r ≡ not (eqb (getD (now (map .entry)) (c .0) 0) 0) ⌝ }
+    requires { ⌜ c .0 < 8 * length (now map) ⌝ }
+    ensures { λ r. ⌜ r ≡ bitAt (now (map .entry)) (c .0) ⌝ }
 {
     let at = c.0;
-    map[at] != 0
+    (map[at / 8] >> (at % 8)) % 2 == 1
 }
 
 // Whether the cell that has the vertex (x, y) as its lower right corner is blocked; outside the map it is.
@@ -107,14 +115,31 @@ pub fn blocked_at(w: usize, h: usize, map: &[u8], x: usize, y: usize) -> bool
     is_blocked(map, cell_before(w, h, map, x, y))
 }
 
+// Blocks one cell of the map.
+fn block_cell(map: &mut [u8], c: Cell)
+    requires { ⌜ c .0 < 8 * length (now map) ⌝ }
+    ensures { λ _. ⌜ now (map .exit) ≡ blockedFrom (c .0) 1 (now (map .entry)) ⌝ }
+{
+    let at = c.0;
+    let bit: u8 = 1 << (at % 8);
+    map[at / 8] = map[at / 8] | bit;
+}
+
+// The map of a floor of 2 by 2 cells, of which cell c is blocked where b has bit c.
+pub fn window_map(b: u8) -> [u8; 1]
+    ensures { λ r. ⌜ WindowMap b r ⌝ }
+{
+    [b]
+}
+
 // Blocks `count` cells of the map, from cell `first` on.
 pub fn block_cells(map: &mut [u8], first: Cell, count: usize)
-    requires { ⌜ first .0 + count ≤ length (now map) ⌝ }
+    requires { ⌜ (first .0 + count ≤ 8 * length (now map)) × (length (now map) ≤ 2017) ⌝ }
     ensures { λ _. ⌜ now (map .exit) ≡ blockedFrom (first .0) count (now (map .entry)) ⌝ }
 {
     let from = first.0;
     for at in from..from + count {
-        map[at] = 1;
+        block_cell(map, Cell(at));
     }
 }
 
@@ -128,12 +153,27 @@ pub fn copy_map(base: &[u8], map: &mut [u8])
     }
 }
 
+// Blocks a cell of the map where its byte is not 0.
+fn store_cell(map: &mut [u8], c: Cell, byte: u8)
+    requires { ⌜ c .0 < 8 * length (now map) ⌝ }
+    ensures { λ _. ⌜ now (map .exit)
+        ≡ pick (eqb byte 0) (now (map .entry)) (blockedFrom (c .0) 1 (now (map .entry))) ⌝ }
+{
+    if byte == 0 {
+        return;
+    }
+    block_cell(map, c);
+}
+
 // Stores a map whose cells are given by a byte each, row by row, 0 open and 1 blocked.
 pub fn store_cells(cells: &[u8], map: &mut [u8])
-    requires { ⌜ length (now map) ≡ length (now cells) ⌝ }
+    requires { ⌜ length (now map) ≡ mapLength (length (now cells)) ⌝ }
     ensures { λ _. ⌜ now (map .exit) ≡ storedCells (now (cells .entry)) ⌝ }
 {
-    copy_map(cells, map);
+    basics::clear_u8(map);
+    for at in 0..cells.len() {
+        store_cell(map, Cell(at), cells[at]);
+    }
 }
 
 // The number of vertices, V.
@@ -168,28 +208,6 @@ pub fn row_of(w: usize, h: usize, v: Vertex) -> usize
     v.0 / (w + 1)
 }
 
-// The larger of two bytes.
-fn larger(a: u8, b: u8) -> u8
-    ensures { λ r. ⌜ r ≡ max a b ⌝ }
-{
-    if a < b {
-        return b;
-    }
-    a
-}
-
-// Every byte of the map is 0 or 1. It takes the largest byte, with no early end: so the compiled loop goes many bytes
-// at a time.
-fn bytes_good(map: &[u8]) -> bool
-    ensures { λ r. ⌜ r ≡ every (length (now (map .entry))) (mapByte (now (map .entry))) ⌝ }
-{
-    let mut largest: u8 = 0;
-    for k in 0..map.len() {
-        largest = larger(largest, map[k]);
-    }
-    largest <= 1
-}
-
 // Refusal 1: the sides.
 pub fn sides_shape(w: usize, h: usize) -> Shape
     ensures { λ r. ⌜ r ≡ sidesShape w h ⌝ }
@@ -209,7 +227,18 @@ pub fn sides_shape(w: usize, h: usize) -> Shape
     Shape::Good
 }
 
-// Refusals 1 to 3, in order: the sides, the map's length, its bytes.
+// Every bit of the map past its n cells is 0. Only the last byte has such bits, and where 8 divides n it has none.
+fn unused_clear(map: &[u8], n: usize) -> bool
+    requires { ⌜ length (now map) ≡ mapLength n ⌝ }
+    ensures { λ r. ⌜ r ≡ unusedClear n (now (map .entry)) ⌝ }
+{
+    if n % 8 == 0 {
+        return true;
+    }
+    map[n / 8] >> (n % 8) == 0
+}
+
+// Refusals 1 to 3, in order: the sides, the map's length, its unused bits.
 pub fn floor_shape(w: usize, h: usize, map: &[u8]) -> Shape
     ensures { λ r. ⌜ r ≡ floorShape w h (now (map .entry)) ⌝ }
 {
@@ -217,13 +246,13 @@ pub fn floor_shape(w: usize, h: usize, map: &[u8]) -> Shape
     let Shape::Good = sides else {
         return sides;
     };
-    if map.len() != w * h {
+    if map.len() != map_length(w, h) {
         return Shape::Refused(Refusal::MapLength);
     }
-    if bytes_good(map) {
+    if unused_clear(map, w * h) {
         return Shape::Good;
     }
-    Shape::Refused(Refusal::MapByte)
+    Shape::Refused(Refusal::UnusedBit)
 }
 
 // Refusal 5: one end, on a floor whose sides are good.

@@ -4,6 +4,7 @@ ghost use mathlib.Core.Path.{_≡_};
 ghost use Prim.Native.Nat.{_≤_};
 ghost use lib.ListN.{length};
 ghost use Rattle.floor.specs.Floor.{floorOf, vertices};
+ghost use Rattle.masks.specs.Windows.{WindowsTo};
 ghost use Rattle.offsets.specs.Classes.{Classes};
 ghost use Rattle.paths.specs.Local.{entry};
 ghost use Rattle.grid.specs.Grid.{floorGraph};
@@ -36,13 +37,22 @@ fn vertex_right(
 
 // The costs of the vertices of row y are right, each by the moves that leave it. Each is looked at, also after one that is
 // false: a way out of the loop makes every turn slower.
-fn row_right(w: usize, h: usize, map: &[u8], rows: Rows, a: usize, d: &[u32], y: usize) -> bool
-    requires { ⌜ GoodJob w h (now map) rows a a × (length (now d) ≡ vertices w h) × (y ≤ h) ⌝ }
+fn row_right(
+    w: usize,
+    h: usize,
+    map: &[u8],
+    rows: Rows,
+    a: usize,
+    d: &[u32],
+    windows: [u32; 16],
+    y: usize,
+) -> bool
+    requires { ⌜ GoodJob w h (now map) rows a a × (length (now d) ≡ vertices w h) × (y ≤ h) × WindowsTo 16 windows ⌝ }
     ensures { λ r. ⌜ r ≡ rowTest (leavingGraph (floorOf w h (now (map .entry))) rows) a (now (d .entry)) w y ⌝ }
 {
     let shifts = offsets::shifts_of(w);
     let classes = offsets::classes_of(rows);
-    let leaving = masks::leaving_row(w, h, map, y);
+    let leaving = masks::leaving_row(w, h, map, y, windows);
     let first = y * (w + 1);
     let mut right = true;
     for x in 0..w + 1 {
@@ -63,8 +73,9 @@ pub fn costs_true(w: usize, h: usize, map: &[u8], rows: Rows, a: Vertex, d: &[u3
     if d[start] != 0 {
         return false;
     }
+    let windows = masks::window_masks();
     for y in 0..h + 1 {
-        if !row_right(w, h, map, rows, start, d, y) {
+        if !row_right(w, h, map, rows, start, d, windows, y) {
             return false;
         }
     }

@@ -9,6 +9,7 @@ use mathlib.Core.List.{List, [], _++_, append-assoc}
 use mathlib.Core.Option.{some, none}
 use native.Mathlib.Omega.{arith}
 use lib.ListN.{take}
+use Rattle.floor.specs.Floor.{storedCells}
 use Rattle.records.specs.Format.{Stream, recordAt, startCursor, cellsOf, streamFrom, streamOf}
 use Rattle.records.specs.Lines.{badLine}
 use Rattle.records.specs.declared.stream.Cursor.{Cursor}
@@ -40,7 +41,7 @@ module _ (s : List ℕ) (w h : ℕ) (map : List ℕ) (c : Cursor) where
 
 module _ (s : List ℕ) where
   pub program-map : (m : MapRecord) (d : Cursor) → recordAt s startCursor ≡ Map m d
-      → programText s ≡ textFrom s (m .wide) (m .high) (cellsOf s m) d
+      → programText s ≡ textFrom s (m .wide) (m .high) (storedCells (cellsOf s m)) d
   unfolding programText textFrom restText
   program-map m d e = ap (λ t. floorText s (t .map) t) (stream-first s ∙ stream-map s startCursor m d e)
 
@@ -57,7 +58,7 @@ module _ (s : List ℕ) where
       cells (Map m d) e =
           let same : streamOf s .map ≡ some m =
           ap (λ (t : Stream). t .map) (stream-first s ∙ stream-map s startCursor m d e) in
-          rw same (ap (λ l. restText (m .wide) (m .high) l (streamOf s)) (cells-limit s m d e))
+          rw same (ap (λ l. restText (m .wide) (m .high) (storedCells l) (streamOf s)) (cells-limit s m d e))
       cells (Job j d) e =
           let f = job-step s startCursor j d e in
           absurd (omega (arith, f .number, f .number-pos))

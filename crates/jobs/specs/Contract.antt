@@ -13,7 +13,7 @@
 --   Told ..              == the lines of the job stand in the buffer, and the kept positions in their slice
 --   Routable ..          == a small floor and a list of its vertices, each of which sees the next
 --   RouteTold ..         == the two lines of the route stand in the buffer from its start on
---   CellsIn s m map      == the cells of the map m lie in the input s, and the slice has a place for each
+--   CellsIn s m map      == the cells of the map m lie in the input s, and the slice has the length of a map of them
 --   textFrom s w h map c == what the program writes from the cursor c on, which stands past the map
 --   turnText r out rest  == what the turn r wrote into the buffer, then `rest` of the cursor that it hands back
 --   bytesOf r            == the number of bytes that the turn r wrote
@@ -27,7 +27,7 @@ use mathlib.Core.Bool.{true}
 use mathlib.Core.List.{List, _++_}
 use lib.ListN.{length, take}
 use Rattle.basics.specs.Lists.{padded}
-use Rattle.floor.specs.Floor.{Floor, floorOf, vertices}
+use Rattle.floor.specs.Floor.{Floor, mapLength, floorOf, vertices}
 use Rattle.floor.specs.Refusals.{floorShape}
 use Rattle.floor.specs.declared.Shape.the-variants.{Good}
 use Rattle.grid.specs.Grid.{jobOf}
@@ -107,7 +107,7 @@ pub record RouteTold (f : Floor) (number cost total n : ℕ) (points kept out ke
 
 pub record CellsIn (s : List ℕ) (m : MapRecord) (map : List ℕ) : Type 0 where
   pub within : m .cells + m .wide * m .high ≤ length s
-  pub size : length map ≡ m .wide * m .high
+  pub size : length map ≡ mapLength (m .wide * m .high)
 
 unfoldable pub textFrom : List ℕ → ℕ → ℕ → List ℕ → Cursor → List ℕ
 textFrom s w h map c = restText w h map (streamFrom s c)

@@ -123,7 +123,7 @@ pub fn copy_cells(s: &[u8], m: MapRecord, map: &mut [u8])
     ensures { λ _. ⌜ now (map .exit) ≡ storedCells (cellsOf (now (s .entry)) m) ⌝ }
 {
     let from = m.cells;
-    let to = from + map.len();
+    let to = from + m.wide * m.high;
     floor::store_cells(&s[from..to], map);
 }
 

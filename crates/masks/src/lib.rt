@@ -1,5 +1,6 @@
 // The moves of a vertex as a mask, a bit for each row of the table: those that leave it, and those of all vertices of a floor
-// that are open. Every bit of a mask comes from the test of a move, and the pinches from that of a vertex, both in sight.
+// that are open. Every bit of a mask comes from the test of a move, and the pinches from that of a vertex, both in sight:
+// off the floor's edge they are asked of the sixteen floors of 2 by 2 cells, and the cells at a vertex say which.
 ghost use mathlib.Core.Path.{_≡_};
 ghost use Prim.Native.Nat.{suc, _+_, _<_, _≤_};
 ghost use lib.ListN.{length};
@@ -11,6 +12,7 @@ ghost use Rattle.moves.specs.Moves.{moves, moveOf};
 ghost use Rattle.moves.specs.Steps.{endIf, isSome};
 ghost use Rattle.moves.specs.Table.{Short, OnFloor};
 ghost use Rattle.masks.specs.Masks.{rowIf, OpenMasks, leavingMask, LeavingRow, LeavingTo};
+ghost use Rattle.masks.specs.Windows.{pairAt, WindowMask, WindowsTo};
 ghost use Rattle.masks.specs.Masks.{Cleared, WithoutBit, turnedRow, ClearsRow, ClearsTo};
 use floor::Vertex;
 use moves::MOVES;
@@ -18,6 +20,16 @@ use moves::Step;
 
 // The mask of a pinch: no row, and a bit above those of the rows.
 const PINCH: u32 = 65536;
+
+// The bit where a test holds.
+fn bit_where(held: bool, bit: usize) -> usize
+    ensures { λ r. ⌜ r ≡ pick held bit 0 ⌝ }
+{
+    if held {
+        return bit;
+    }
+    0
+}
 
 // The bit, where nothing is in the way of the move of these offsets from (x, y).
 fn unblocked_bit(
@@ -62,30 +74,6 @@ fn rows_unblocked(w: usize, h: usize, map: &[u8], x: usize, y: usize) -> u32
         | unblocked_bit(w, h, map, x, y, r7.dx, r7.dy, 128)
 }
 
-// The same in a function of its own: called at one place, where (x, y) is known to be off the floor's edge, it is compiled
-// without the tests of the edge.
-fn rows_inside(w: usize, h: usize, map: &[u8], x: usize, y: usize) -> u32
-    requires { ⌜ Sized w h (now map) × OnFloor w h x y ⌝ }
-    ensures { λ r. ⌜ r ≡ bitsOf (length moves) (rowIf unblocked (floorOf w h (now (map .entry))) x y) ⌝ }
-{
-    let r0 = MOVES[0];
-    let r1 = MOVES[1];
-    let r2 = MOVES[2];
-    let r3 = MOVES[3];
-    let r4 = MOVES[4];
-    let r5 = MOVES[5];
-    let r6 = MOVES[6];
-    let r7 = MOVES[7];
-    unblocked_bit(w, h, map, x, y, r0.dx, r0.dy, 1)
-        | unblocked_bit(w, h, map, x, y, r1.dx, r1.dy, 2)
-        | unblocked_bit(w, h, map, x, y, r2.dx, r2.dy, 4)
-        | unblocked_bit(w, h, map, x, y, r3.dx, r3.dy, 8)
-        | unblocked_bit(w, h, map, x, y, r4.dx, r4.dy, 16)
-        | unblocked_bit(w, h, map, x, y, r5.dx, r5.dy, 32)
-        | unblocked_bit(w, h, map, x, y, r6.dx, r6.dy, 64)
-        | unblocked_bit(w, h, map, x, y, r7.dx, r7.dy, 128)
-}
-
 // The mask of a vertex whose rows are given.
 fn marked(mask: u32, pinched: bool) -> u32
     ensures { λ r. ⌜ r ≡ pick pinched 65536 mask ⌝ }
@@ -103,17 +91,6 @@ fn leaving_at(w: usize, h: usize, map: &[u8], x: usize, y: usize) -> u32
 {
     marked(
         rows_unblocked(w, h, map, x, y),
-        sight::is_pinch(w, h, map, x, y),
-    )
-}
-
-// The same where (x, y) is off the floor's edge, in a function of its own as `rows_inside` is.
-fn leaving_inside(w: usize, h: usize, map: &[u8], x: usize, y: usize) -> u32
-    requires { ⌜ Sized w h (now map) × OnFloor w h x y ⌝ }
-    ensures { λ r. ⌜ r ≡ leavingMask (floorOf w h (now (map .entry))) x y ⌝ }
-{
-    marked(
-        rows_inside(w, h, map, x, y),
         sight::is_pinch(w, h, map, x, y),
     )
 }
@@ -138,10 +115,39 @@ fn edge_row(w: usize, h: usize, map: &[u8], y: usize) -> [u32; 128]
     masks
 }
 
-// The masks of the vertices of row y. Where it is off the floor's edge, those of the two ends are made apart, so that
-// between them nothing is left of the tests of the edge.
-pub fn leaving_row(w: usize, h: usize, map: &[u8], y: usize) -> [u32; 128]
+// The mask of a vertex off the floor's edge whose four cells are b: that of the middle of a floor of these cells.
+fn window_mask(b: u8) -> u32
+    ensures { λ r. ⌜ WindowMask b r ⌝ }
+{
+    let map = floor::window_map(b);
+    leaving_at(2, 2, &map, 1, 1)
+}
+
+// These masks for all sixteen: what is asked of sight is asked of these floors, once for each operation.
+pub fn window_masks() -> [u32; 16]
+    ensures { λ r. ⌜ WindowsTo 16 r ⌝ }
+{
+    let mut masks = [0; 16];
+    for b in 0..16 {
+        masks[b] = window_mask(b as u8);
+    }
+    masks
+}
+
+// The two cells to the left of column line x at row line y, as two bits of a window.
+fn pair_at(w: usize, h: usize, map: &[u8], x: usize, y: usize) -> usize
     requires { ⌜ Sized w h (now map) × (y ≤ h) ⌝ }
+    ensures { λ r. ⌜ (r ≡ pairAt (floorOf w h (now (map .entry))) x y) × (r ≤ 5) ⌝ }
+{
+    let upper = floor::blocked_at(w, h, map, x, y);
+    let lower = floor::blocked_at(w, h, map, x, y + 1);
+    bit_where(upper, 1) + bit_where(lower, 4)
+}
+
+// The masks of the vertices of row y. Off the floor's edge they are read from `windows` by the four cells at each: the two
+// on its left are those that were on the right of the vertex before.
+pub fn leaving_row(w: usize, h: usize, map: &[u8], y: usize, windows: [u32; 16]) -> [u32; 128]
+    requires { ⌜ Sized w h (now map) × (y ≤ h) × WindowsTo 16 windows ⌝ }
     ensures { λ r. ⌜ LeavingRow (floorOf w h (now (map .entry))) y (suc w) r ⌝ }
 {
     if y == 0 {
@@ -152,19 +158,23 @@ pub fn leaving_row(w: usize, h: usize, map: &[u8], y: usize) -> [u32; 128]
     }
     let mut masks = [0; 128];
     masks[0] = leaving_at(w, h, map, 0, y);
+    let mut left = pair_at(w, h, map, 1, y);
     for x in 1..w {
-        masks[x] = leaving_inside(w, h, map, x, y);
+        let right = pair_at(w, h, map, x + 1, y);
+        masks[x] = windows[left + 2 * right];
+        left = right;
     }
     masks[w] = leaving_at(w, h, map, w, y);
     masks
 }
 
 // Stores the masks of the vertices of row y, where those of the rows before it are stored.
-fn fill_row(w: usize, h: usize, map: &[u8], y: usize, masks: &mut [u32])
-    requires { ⌜ Sized w h (now map) × (y ≤ h) × LeavingTo (floorOf w h (now map)) (number w 0 y) (now masks) ⌝ }
+fn fill_row(w: usize, h: usize, map: &[u8], y: usize, windows: [u32; 16], masks: &mut [u32])
+    requires { ⌜ Sized w h (now map) × (y ≤ h) × WindowsTo 16 windows
+        × LeavingTo (floorOf w h (now map)) (number w 0 y) (now masks) ⌝ }
     ensures { λ _. ⌜ LeavingTo (floorOf w h (now (map .entry))) (number w 0 (y + 1)) (now (masks .exit)) ⌝ }
 {
-    let leaving = leaving_row(w, h, map, y);
+    let leaving = leaving_row(w, h, map, y, windows);
     let first = y * (w + 1);
     for x in 0..w + 1 {
         masks[first + x] = leaving[x];
@@ -239,8 +249,9 @@ pub fn fill_masks(w: usize, h: usize, map: &[u8], masks: &mut [u32])
     requires { ⌜ Sized w h (now map) × (length (now masks) ≡ vertices w h) ⌝ }
     ensures { λ _. ⌜ OpenMasks (floorOf w h (now (map .entry))) (now (masks .exit)) ⌝ }
 {
+    let windows = window_masks();
     for y in 0..h + 1 {
-        fill_row(w, h, map, y, masks);
+        fill_row(w, h, map, y, windows, masks);
     }
     for y in 0..h + 1 {
         clear_row(w, h, map, y, masks);

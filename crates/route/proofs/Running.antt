@@ -1,10 +1,10 @@
 -- The loop over the jobs: what holds before it, and that each turn moves on.
 --
 --   cells-lent   == the slice lent for the cells of the map fits them
---   few-cells    == there are at most 31 * 31 of them
+--   few-bytes    == there are at most 31 * 31 of them, so a map of them has at most 121 bytes
 --   map-sides    == its sides are within the bound of a floor
 --   few-places   == and it has at most 32 * 32 vertices
---   jobs-start   == past the map the first job is due, and the cells that were copied are a small floor
+--   jobs-start   == past the map the first job is due, and the cells that were stored are a small floor
 --   first-step   == what the first step found stands at the start of the input
 --   goes-on      == the cursor of a turn that is not the last has moved on within the input
 use Prim.Native.Nat.{ℕ, _*_, _≤_, _<_}
@@ -13,7 +13,7 @@ use mathlib.Core.List.{List}
 use native.Mathlib.Omega.{arith}
 use native.Mathlib.Nat.{mul-le-mul}
 use lib.ListN.{length}
-use Rattle.floor.specs.Floor.{vertices}
+use Rattle.floor.specs.Floor.{mapLength, storedCells, vertices}
 use Rattle.records.specs.Format.{recordAt, startCursor, cellsOf}
 use Rattle.records.specs.declared.stream.Cursor.{Cursor}
 use Rattle.records.specs.declared.stream.MapRecord.{MapRecord}
@@ -26,15 +26,15 @@ use Rattle.jobs.specs.Contract.{SmallFloor, CellsIn, Moves, GoesOn}
 use Rattle.jobs.proofs.Cells.{map-small}
 
 module _ (s : List ℕ) (m : MapRecord) (c : Cursor) (e : recordAt s startCursor ≡ Map m c) where
-  pub cells-lent : (map : List ℕ) → length map ≡ m .wide * m .high → CellsIn s m map
+  pub cells-lent : (map : List ℕ) → length map ≡ mapLength (m .wide * m .high) → CellsIn s m map
   cells-lent map size =
       let f = map-step s startCursor m c e in
       record { within = omega (arith, f .cells-end, f .moved .within); size = size }
 
-  pub few-cells : m .wide * m .high ≤ 961
-  few-cells =
+  pub few-bytes : mapLength (m .wide * m .high) ≤ 121
+  few-bytes =
       let f = map-step s startCursor m c e in
-      mul-le-mul {n₂ = 31} {m₂ = 31} (f .wide) (f .high)
+      omega (arith, mul-le-mul {n₂ = 31} {m₂ = 31} (f .wide) (f .high))
 
   pub map-sides : (m .wide ≤ 127) × (m .high ≤ 127)
   map-sides =
@@ -46,7 +46,7 @@ module _ (s : List ℕ) (m : MapRecord) (c : Cursor) (e : recordAt s startCursor
       let f = map-step s startCursor m c e in
       mul-le-mul {n₂ = 32} {m₂ = 32} (omega (arith, f .high)) (omega (arith, f .wide))
 
-  pub jobs-start : (map : List ℕ) → map ≡ cellsOf s m → (1 ≤ c .due) × SmallFloor (m .wide) (m .high) map
+  pub jobs-start : (map : List ℕ) → map ≡ storedCells (cellsOf s m) → (1 ≤ c .due) × SmallFloor (m .wide) (m .high) map
   jobs-start map same =
       let f = map-step s startCursor m c e in
       (omega (arith, f .moved .next), rw same (map-small s m c e))

@@ -7,7 +7,7 @@
 ghost use mathlib.Core.Path.{_≡_};
 ghost use Prim.Native.Nat.{_*_, _≤_};
 ghost use lib.ListN.{length};
-ghost use Rattle.floor.specs.Floor.{vertices};
+ghost use Rattle.floor.specs.Floor.{mapLength, vertices};
 ghost use Rattle.planner.specs.Plan.{slicesOf};
 ghost use Rattle.records.specs.Format.{recordAt, startCursor};
 ghost use Rattle.records.specs.declared.stream.Record.the-variants.{Map};
@@ -83,7 +83,7 @@ fn lend_turn(s: &[u8], c: Cursor, w: usize, h: usize, map: &[u8], d: &mut [u32])
 // The jobs that follow the map m, with a slice for its cells and one for the costs from a start, which the next job may
 // share.
 fn run_jobs(s: &[u8], m: MapRecord, past: Cursor, map: &mut [u8], d: &mut [u32])
-    requires { ⌜ (recordAt (now s) startCursor ≡ Map m past) × (length (now map) ≡ m .wide * m .high)
+    requires { ⌜ (recordAt (now s) startCursor ≡ Map m past) × (length (now map) ≡ mapLength (m .wide * m .high))
         × (length (now d) ≡ vertices (m .wide) (m .high)) ⌝ }
 {
     jobs::copy_cells(s, m, map);
@@ -98,11 +98,12 @@ fn run_jobs(s: &[u8], m: MapRecord, past: Cursor, map: &mut [u8], d: &mut [u32])
     }
 }
 
-// Lends the arrays for the cells and for the costs.
+// Lends the arrays for the cells and for the costs. The first is the paper's, of 31 * 31 bytes; the packed map takes its
+// first 121 at most.
 fn lend_map(s: &[u8], m: MapRecord, past: Cursor)
     requires { ⌜ recordAt (now s) startCursor ≡ Map m past ⌝ }
 {
-    let n = m.wide * m.high;
+    let n = floor::map_length(m.wide, m.high);
     let v = floor::vertex_count(m.wide, m.high);
     let mut map = [0u8; 961];
     let mut d = [0u32; 1024];

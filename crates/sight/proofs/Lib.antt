@@ -2,6 +2,7 @@ pub mod Travel
 pub mod Enters
 pub mod Sees
 pub mod Symmetry
+pub mod Corners
 pub mod First
 pub mod Obstacles
 pub mod Runs

@@ -5,7 +5,7 @@
 --   example    == the text of the example
 use Prim.Native.Nat.{ℕ}
 use mathlib.Core.Path.{_≡_, sym, ap, _∙_}
-use mathlib.Core.List.{List, [], _∷_, _++_, append-nil}
+use mathlib.Core.List.{List, [], _++_, append-nil}
 use lib.ListN.{length}
 use Rattle.basics.specs.Lists.{tabulate}
 use Rattle.floor.specs.Floor.{vertices}
@@ -57,7 +57,7 @@ pub example : programText input ≡ ascii "job 1: cost 816 routes 2 points 3 kep
 unfolding programText restText jobsText tabulate
 example =
     let h : RouteHolds floorB = worked .routes-hold .1 .0 in
-    let text : List ℕ = jobText 1 1 (0 ∷ []) (caseJob 1 floorB) in
+    let text : List ℕ = jobText 1 1 (floorB .map) (caseJob 1 floorB) in
     ap (λ t. floorText input (t .map) t) example-read
     ∙ append-nil (text ++ []) ∙ append-nil text
     ∙ case-text floorB h 1

@@ -1,3 +1,4 @@
 pub mod Worked
 pub mod Sights
 pub mod Example
+pub mod Packed

@@ -13,7 +13,7 @@ use Rattle.basics.proofs.Bools.{and-left, and-right}
 use Rattle.basics.proofs.Bounded.{every-at}
 use Rattle.basics.proofs.Lists.{same-eq}
 use Rattle.floor.specs.Floor.{column, row, floor-opened}
-use Rattle.floor.specs.Refusals.{sidesShape, floorShape, endShape}
+use Rattle.floor.specs.Refusals.{sidesShape, unusedClear, floorShape, endShape}
 use Rattle.sight.specs.Sight.{segmentOf, enters, pinch, sight-opened}
 use Rattle.moves.specs.Moves.{neighbourhoodOf}
 use Rattle.moves.specs.Steps.{steps-opened}
@@ -140,8 +140,8 @@ module _ (c : Case) (fit : Fits c) where
 -- ---- the floors
 
 routes-true : Each RouteHolds routes
-unfolding jobOf sidesShape floorShape endShape pinchShape endsShape neighbourhoodOf shaped routeTest bounded-opened
-    lists-opened floor-opened sight-opened steps-opened route-opened local-opened thinning-opened
+unfolding jobOf sidesShape unusedClear floorShape endShape pinchShape endsShape neighbourhoodOf shaped routeTest
+    bounded-opened lists-opened floor-opened sight-opened steps-opened route-opened local-opened thinning-opened
 routes-true = (
   route-holds floorA refl refl,
   (
@@ -151,8 +151,8 @@ routes-true = (
 )
 
 noRoutes-true : Each NoRouteHolds noRoutes
-unfolding jobOf sidesShape floorShape endShape pinchShape endsShape neighbourhoodOf shaped noRouteTest bounded-opened
-    lists-opened floor-opened sight-opened steps-opened route-opened local-opened
+unfolding jobOf sidesShape unusedClear floorShape endShape pinchShape endsShape neighbourhoodOf shaped noRouteTest
+    bounded-opened lists-opened floor-opened sight-opened steps-opened route-opened local-opened
 noRoutes-true =
     (noRoute-holds floorC refl refl, (noRoute-holds floorF refl refl, (noRoute-holds floorG refl refl, tt)))
 
@@ -167,7 +167,7 @@ alike-true false true e = e
 alike-true false false e = refl
 
 pinches-true : (v : ℕ) → v < 9 → pinch (planOf floorG) (column 2 v) (row 2 v) ≡ eqb v 4
-unfolding alike bounded-opened floor-opened sight-opened
+unfolding alike bounded-opened lists-opened floor-opened sight-opened
 pinches-true v l =
     alike-true (pinch (planOf floorG) (column 2 v) (row 2 v)) (eqb v 4)
     (every-at 9 (λ k. alike (pinch (planOf floorG) (column 2 k) (row 2 k)) (eqb k 4)) refl v l)

@@ -15,7 +15,7 @@ use mathlib.Core.Bool.{Bool, true, false}
 use mathlib.Core.List.{List, [], _∷_}
 use lib.Dec.{eqb}
 use lib.ListN.{length, getD}
-use Rattle.floor.specs.Floor.{Floor, floorOf, column, row}
+use Rattle.floor.specs.Floor.{Floor, storedCells, floorOf, column, row}
 use Rattle.sight.specs.Sight.{segmentOf, enters, pinch}
 use Rattle.moves.specs.declared.Rows.{Rows}
 use Rattle.moves.specs.Moves.{rowsOf}
@@ -46,12 +46,12 @@ planOf c = floorOf (c .wide) (c .high) (c .map)
 abbrev pub graphOf : Case → Graph
 graphOf c = floorGraph (planOf c) (c .rows)
 
--- A case from its floor, neighbourhood and ends, its sheet, and cost, total and kept positions.
+-- A case from its floor, with a byte to a cell, neighbourhood and ends, its sheet, and cost, total and kept positions.
 abbrev pub job : ℕ → ℕ → List ℕ → ℕ → Rows → ℕ → ℕ → Sheet → ℕ → ℕ → List ℕ → Case
 job w h l nb r a b s c t k = record {
   wide = w;
   high = h;
-  map = l;
+  map = storedCells l;
   neighbourhood = nb;
   rows = r;
   start = a;

@@ -1,2 +1,3 @@
 pub mod Floors
 pub mod Sights
+pub mod Packed

@@ -8,6 +8,7 @@
 use Prim.Native.Nat.{ℕ}
 use mathlib.Core.Path.{_≡_}
 use mathlib.Core.List.{List, [], _∷_}
+use Rattle.floor.specs.Floor.{storedCells}
 use Rattle.floor.specs.declared.Refusal.the-variants.{End}
 use Rattle.sight.specs.Question.{sightAnswer}
 use Rattle.sight.specs.declared.Obstacle.the-variants.{Clear, Cell, Step, Pinch}
@@ -22,8 +23,9 @@ pub record Question : Type 0 where
   pub last : ℕ
   pub answer : Sight
 
+-- A question from its floor, with a byte to a cell, its vertices and its answer.
 abbrev pub asked : ℕ → ℕ → List ℕ → ℕ → ℕ → Sight → Question
-asked w h l a b s = record { wide = w; high = h; map = l; first = a; last = b; answer = s }
+asked w h l a b s = record { wide = w; high = h; map = storedCells l; first = a; last = b; answer = s }
 
 abbrev pub clear : Sight
 clear = Answered Clear

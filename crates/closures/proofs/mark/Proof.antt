@@ -28,7 +28,8 @@ add-j-end c =
 loop-holds : tie.Need-loop-holds Inv-loop μ-loop
 loop-holds c =
     let s = c .before .before in
-    rows-none (s .args .r) (s .args .w) (s .args .h) (s .args .work .now) (s .pre .0) _ refl
+    rows-none (s .args .r) (s .args .w) (s .args .h) (s .args .work .now) (s .pre .0)
+    (λ k. omega (arith, c .before .slice-known .given k)) _ refl
 
 cell-at-requires : tie.Need-cell-at-requires Inv-loop μ-loop
 cell-at-requires c κs =

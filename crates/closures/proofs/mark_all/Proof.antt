@@ -26,7 +26,9 @@ copy-map-requires c κs = search needs
 loop-holds : tie.Need-loop-holds Inv-loop μ-loop
 loop-holds c =
     let s = c .before .before .before .before .before .before in
-    marking-none (s .args .table) (s .args .base .now) _ (s .pre .good) (c .before .before .copy-map .ensures)
+    let b = c .before .before .before .before .before in
+    marking-none (s .args .table) (s .args .base .now) _ (s .pre .good)
+    (λ k. omega (arith, b .shared-slice-known .given k)) (c .before .before .copy-map .ensures)
 
 mark-slot-requires : tie.Need-mark-slot-requires Inv-loop μ-loop
 mark-slot-requires c κs = (omega arith, marking-good (c .before .before .loop .inv))

@@ -2,6 +2,7 @@
 -- floor is marked. Assumes nothing.
 use mathlib.Core.Path.{sym, ap, _∙_}
 use mathlib.Core.Option.{some}
+use native.Mathlib.Omega.{arith}
 use Rattle.floor.specs.Floor.{floorOf, mapOf, withBlocked}
 use Rattle.closures.specs.Plain.{coveredBy}
 use Rattle.closures.specs.Table.{heldIn, held}
@@ -36,7 +37,8 @@ returns : tie.Need-returns
 returns c =
     let s = c .before .before .before .before in
     unmarked (held (s .args .t1) (s .args .k)) (s .args .t1 .width) (s .args .t1 .height) (s .args .work .now)
-    (s .pre .1) (ap heldIn (c .enum-told .given .1))
+    (s .pre .1) (λ k. omega (arith, c .before .before .before .slice-known .given k))
+    (ap heldIn (c .enum-told .given .1))
 
 same-length : tie.Need-same-length
 same-length c = search needs

@@ -1,14 +1,13 @@
--- `floor::block_cells` meets its contract: the cells before `at` are as they shall be. Assumes nothing.
-use Prim.Native.Nat.{_+_, _-_, _≤_}
+-- `floor::block_cells` meets its contract: the cells before `at` are blocked. Assumes nothing.
+use Prim.Native.Nat.{_-_}
 use mathlib.Core.Path.{refl}
 use native.Mathlib.Omega.{arith}
-use Rattle.floor.proofs.Rewriting.{Rewriting, blockedByte, block-none, block-more, block-done}
+use Rattle.floor.proofs.Blocking.{Blocking, blocking-length, blocking-none, blocking-more, blocking-done}
 use Rattle.floor.proofs.block_cells.Statement.{statement}
 use Rattle.floor.proofs.block_cells.Tie as tie
 
 abbrev Inv-loop : tie.InvT-loop
-Inv-loop map₀ count from at₀ at-end map at =
-    Rewriting (blockedByte from count map₀) map₀ (from + count) at-end at map × (from ≤ at)
+Inv-loop map₀ count from at₀ at-end map at = Blocking from count map₀ at-end at map
 
 abbrev μ-loop : tie.MeasureT-loop
 μ-loop map₀ count from at₀ at-end map at = at-end - at
@@ -17,10 +16,12 @@ add-at-end : tie.Need-add-at-end Inv-loop μ-loop
 add-at-end c = omega arith
 
 loop-holds : tie.Need-loop-holds Inv-loop μ-loop
-loop-holds c = (block-none _ _ _ _ (c .pre) refl, omega arith)
+loop-holds c = blocking-none _ _ _ _ (λ k. omega (arith, c .slice-known .given k)) refl
 
-slice-write-map : tie.Need-slice-write-map Inv-loop μ-loop
-slice-write-map c = omega arith
+block-cell-requires : tie.Need-block-cell-requires Inv-loop μ-loop
+block-cell-requires c κs =
+    let i = c .before .before .loop .inv in
+    omega (arith, i .end, blocking-length i, c .before .before .before .before .pre .0)
 
 add-at : tie.Need-add-at Inv-loop μ-loop
 add-at c = omega arith
@@ -30,14 +31,14 @@ loop-less c = omega arith
 
 loop-again : tie.Need-loop-again Inv-loop μ-loop
 loop-again c =
-    let i = c .before .loop .inv in
-    (block-more _ _ _ (i .0) (i .1) (omega arith), omega arith)
+    blocking-more _ (c .before .before .before .before .before .loop .inv) (omega arith)
+    (c .before .before .block-cell .ensures)
 
 same-length : tie.Need-same-length Inv-loop μ-loop
-same-length c = c .before .loop .inv .0 .len
+same-length c = blocking-length (c .before .loop .inv)
 
 returns : tie.Need-returns Inv-loop μ-loop
-returns c = block-done _ _ _ (c .before .loop .inv .0) (omega arith)
+returns c = blocking-done (c .before .loop .inv) (omega arith)
 
 pub block-cells-spec : {M : Type 1} → statement M
 block-cells-spec =
@@ -47,7 +48,7 @@ block-cells-spec =
     μ-loop
     add-at-end
     loop-holds
-    slice-write-map
+    block-cell-requires
     add-at
     loop-less
     loop-again

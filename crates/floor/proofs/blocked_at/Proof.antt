@@ -1,11 +1,8 @@
 -- `floor::blocked_at` meets its contract: outside the map each test gives the blocked answer, inside it the cell is
 -- read. Assumes nothing.
 use mathlib.Core.Path.{_≡_, sym, ap, _∙_}
-use mathlib.Core.Bool.{not}
 use native.Mathlib.Omega.{arith}
-use lib.Dec.{eqb}
-use lib.ListN.{getD}
-use Rattle.floor.specs.Floor.{Floor, floorOf, cellOf}
+use Rattle.floor.specs.Floor.{Floor, bitAt, floorOf, cellOf}
 use Rattle.floor.proofs.Cells.{blocked-left, blocked-above, blocked-right, blocked-below, blocked-inside}
 use borrow.Author.Needs.{needs}
 use Rattle.floor.proofs.blocked_at.Statement.{statement}
@@ -44,7 +41,7 @@ returns-5 : tie.Need-returns-5
 unfolding cellOf
 returns-5 c =
     let s = c .before .before .before .before .before .before .before in
-    c .is-blocked .ensures ∙ ap (λ k. not (eqb (getD (s .args .map .now) k 0) 0)) (c .before .cell-before .ensures .0)
+    c .is-blocked .ensures ∙ ap (bitAt (s .args .map .now)) (c .before .cell-before .ensures .0)
     ∙ sym (blocked-inside (plan s) (s .args .x) (s .args .y) (omega arith) (omega arith) (omega arith) (omega arith))
 
 pub blocked-at-spec : {M : Type 1} → statement M

@@ -1,10 +1,8 @@
 -- `floor::floor_shape` meets its contract: each return is one case of `floorShape`. Assumes nothing.
 use mathlib.Core.Path.{_≡_, sym, _∙_}
-use native.Mathlib.Omega.{arith}
 use Rattle.floor.specs.Refusals.{sidesShape}
 use Rattle.floor.specs.declared.Shape.the-variants.{Good}
-use Rattle.floor.proofs.Numbers.{mul-fits}
-use Rattle.floor.proofs.Shapes.{good-sides, sides-refused, length-refused, bytes-refused, bytes-passed}
+use Rattle.floor.proofs.Shapes.{good-sides, sides-refused, length-refused, unused-refused, unused-passed}
 use borrow.Author.Needs.{needs}
 use Rattle.floor.proofs.floor_shape.Statement.{statement}
 use Rattle.floor.proofs.floor_shape.Tie as tie
@@ -31,33 +29,39 @@ returns c =
     let e = c .before .before .sides-shape .ensures in
     e ∙ sides-refused (a .w) (a .h) (a .map .now) (sym e ∙ c .enum-told2 .given .1)
 
-mul-if1 : tie.Need-mul-if1
-mul-if1 c =
+map-length-requires : tie.Need-map-length-requires
+map-length-requires c κs =
     let g = good-sides (start c .args .w) (start c .args .h) (sides-are c) in
-    record { fits = mul-fits (omega arith) (omega arith) }
+    (g .wide, g .high)
 
 returns-2 : tie.Need-returns-2
 returns-2 c =
-    let t = c .before in
+    let t = c .before .before in
     let a = start t .args in
-    length-refused (a .w) (a .h) (a .map .now) (sides-are t) (c .if1 .taken)
+    length-refused (a .w) (a .h) (a .map .now) (sides-are t)
+    (λ e. c .if1 .taken (e ∙ sym (c .before .map-length .ensures .0)))
 
-bytes-good-requires : tie.Need-bytes-good-requires
-bytes-good-requires c κs = search needs
+mul-unused-clear : tie.Need-mul-unused-clear
+mul-unused-clear c = search needs
+
+unused-clear-requires : tie.Need-unused-clear-requires
+unused-clear-requires c κs = search needs
 
 returns-3 : tie.Need-returns-3
 returns-3 c =
-    let t = c .before .before .before in
+    let t = c .before .before .before .before in
     let a = start t .args in
-    bytes-passed (a .w) (a .h) (a .map .now) (sides-are t) (c .before .before .if1 .left)
-    (sym (c .before .bytes-good .ensures) ∙ c .if2 .taken)
+    unused-passed (a .w) (a .h) (a .map .now) (sides-are t)
+    (c .before .before .if1 .left ∙ c .before .before .before .map-length .ensures .0)
+    (sym (c .before .unused-clear .ensures) ∙ c .if2 .taken)
 
 returns-4 : tie.Need-returns-4
 returns-4 c =
-    let t = c .before .before .before in
+    let t = c .before .before .before .before in
     let a = start t .args in
-    bytes-refused (a .w) (a .h) (a .map .now) (sides-are t) (c .before .before .if1 .left)
-    (sym (c .before .bytes-good .ensures) ∙ c .if2 .left)
+    unused-refused (a .w) (a .h) (a .map .now) (sides-are t)
+    (c .before .before .if1 .left ∙ c .before .before .before .map-length .ensures .0)
+    (sym (c .before .unused-clear .ensures) ∙ c .if2 .left)
 
 pub floor-shape-spec : {M : Type 1} → statement M
 floor-shape-spec =
@@ -67,8 +71,9 @@ floor-shape-spec =
     enum-told
     enum-told-2
     returns
-    mul-if1
+    map-length-requires
     returns-2
-    bytes-good-requires
+    mul-unused-clear
+    unused-clear-requires
     returns-3
     returns-4)

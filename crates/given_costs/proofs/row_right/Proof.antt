@@ -58,7 +58,7 @@ classes-of-requires : tie.Need-classes-of-requires Inv-loop μ-loop
 classes-of-requires c κs = search needs
 
 leaving-row-requires : tie.Need-leaving-row-requires Inv-loop μ-loop
-leaving-row-requires c κs = let p = entered c .pre in (p .0 .sized, p .2)
+leaving-row-requires c κs = let p = entered c .pre in (p .0 .sized, p .2, p .3)
 
 add-first : tie.Need-add-first Inv-loop μ-loop
 add-first c = search needs

@@ -1,9 +1,13 @@
 -- `jobs::copy_cells` meets its contract: the part of the input that is stored is the cells of the map. Assumes nothing.
-use mathlib.Core.Path.{_∙_}
+use mathlib.Core.Path.{ap, _∙_}
+use Rattle.floor.specs.Floor.{storedCells}
 use Rattle.jobs.proofs.Cells.{part-cells}
 use borrow.Author.Needs.{needs}
 use Rattle.jobs.proofs.copy_cells.Statement.{statement}
 use Rattle.jobs.proofs.copy_cells.Tie as tie
+
+mul-to : tie.Need-mul-to
+mul-to c = search needs
 
 add-to : tie.Need-add-to
 add-to c = search needs
@@ -26,12 +30,14 @@ same-length c = search needs
 returns : tie.Need-returns
 returns c =
     let t = c .before .before in
-    t .store-cells .ensures ∙ part-cells (t .before .before .before .before .before .pre)
+    let a = t .before .before .before .before .before .before .args in
+    t .store-cells .ensures ∙ ap storedCells (part-cells (a .s .now) (a .m))
 
 pub copy-cells-spec : {M : Type 1} → statement M
 copy-cells-spec =
     tie.close
     (tie.spec
+    mul-to
     add-to
     sub-store-cells
     part-store-cells-start

@@ -7,14 +7,15 @@ use Rattle.floor.specs.Floor.{floorOf, vertices, number}
 use Rattle.masks.specs.Masks.{LeavingTo, Cleared}
 use Rattle.masks.proofs.Masks.{leaving-none, leaving-fewer}
 use Rattle.masks.proofs.Clearing.{cleared-none, cleared-all}
+use borrow.Author.Needs.{needs}
 use Rattle.masks.proofs.fill_masks.Statement.{statement}
 use Rattle.masks.proofs.fill_masks.Tie as tie
 
 abbrev Inv-loop : tie.InvT-loop
-Inv-loop w h map masks₀ y₀ y-end masks y = LeavingTo (floorOf w h map) (number w 0 y) masks × (y ≤ h + 1)
+Inv-loop w h map masks₀ windows y₀ y-end masks y = LeavingTo (floorOf w h map) (number w 0 y) masks × (y ≤ h + 1)
 
 abbrev μ-loop : tie.MeasureT-loop
-μ-loop w h map masks₀ y₀ y-end masks y = y-end - y
+μ-loop w h map masks₀ windows y₀ y-end masks y = y-end - y
 
 abbrev Inv-loop2 : tie.InvT-loop2
 Inv-loop2 w h map masks₀ y₀ y-end masks y = Cleared (floorOf w h map) (number w 0 y) masks × (y ≤ h + 1)
@@ -23,24 +24,27 @@ abbrev μ-loop2 : tie.MeasureT-loop2
 μ-loop2 w h map masks₀ y₀ y-end masks y = y-end - y
 
 abbrev start : tie.At-loop Inv-loop μ-loop Inv-loop2 μ-loop2 → tie.Start Inv-loop μ-loop Inv-loop2 μ-loop2
-start l = l .before .before .before
+start l = l .before .before .before .before
 
 abbrev start-2 : tie.At-loop2 Inv-loop μ-loop Inv-loop2 μ-loop2 → tie.Start Inv-loop μ-loop Inv-loop2 μ-loop2
 start-2 l = start (l .before .before)
 
+window-masks-requires : tie.Need-window-masks-requires Inv-loop μ-loop Inv-loop2 μ-loop2
+window-masks-requires c κs = search needs
+
 add-y-end : tie.Need-add-y-end Inv-loop μ-loop Inv-loop2 μ-loop2
-add-y-end c = omega (arith, c .before .before .pre .0 .high)
+add-y-end c = omega (arith, c .before .before .before .pre .0 .high)
 
 loop-holds : tie.Need-loop-holds Inv-loop μ-loop Inv-loop2 μ-loop2
 loop-holds c =
-    let s = c .before .before in
+    let s = c .before .before .before in
     let e : number (s .args .w) 0 0 ≡ 0 = omega arith in
     (rw e (leaving-none (s .pre .1)), omega arith)
 
 fill-row-requires : tie.Need-fill-row-requires Inv-loop μ-loop Inv-loop2 μ-loop2
 fill-row-requires c κs =
     let l = c .before .before in
-    (start l .pre .0, omega arith, l .loop .inv .0)
+    (start l .pre .0, omega arith, l .before .window-masks .ensures, l .loop .inv .0)
 
 add-y : tie.Need-add-y Inv-loop μ-loop Inv-loop2 μ-loop2
 add-y c = let l = c .before .before .before .before .before in omega (arith, start l .pre .0 .high)
@@ -95,6 +99,7 @@ fill-masks-spec =
     μ-loop
     Inv-loop2
     μ-loop2
+    window-masks-requires
     add-y-end
     loop-holds
     fill-row-requires

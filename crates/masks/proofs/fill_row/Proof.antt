@@ -22,7 +22,7 @@ abbrev start : tie.At-loop Inv-loop μ-loop → tie.Start Inv-loop μ-loop
 start l = l .before .before .before .before
 
 leaving-row-requires : tie.Need-leaving-row-requires Inv-loop μ-loop
-leaving-row-requires c κs = let p = c .before .before .pre in (p .0, p .1)
+leaving-row-requires c κs = let p = c .before .before .pre in (p .0, p .1, p .2)
 
 -- The row's first vertex has a small number.
 small : (s : tie.Start Inv-loop μ-loop) → s .args .y * (s .args .w + 1) ≤ 127 * 128
@@ -40,7 +40,7 @@ add-x-end : tie.Need-add-x-end Inv-loop μ-loop
 add-x-end c = omega (arith, c .before .before .before .pre .0 .wide)
 
 loop-holds : tie.Need-loop-holds Inv-loop μ-loop
-loop-holds c = (c .before .before .before .pre .2, omega arith)
+loop-holds c = (c .before .before .before .pre .3, omega arith)
 
 mul-masks : tie.Need-mul-masks Inv-loop μ-loop
 mul-masks c = omega (arith, start (c .before) .pre .0 .wide)
@@ -86,7 +86,7 @@ loop-again c =
     )
 
 same-length : tie.Need-same-length Inv-loop μ-loop
-same-length c = let l = c .before in l .loop .inv .0 .len ∙ sym (start l .pre .2 .len)
+same-length c = let l = c .before in l .loop .inv .0 .len ∙ sym (start l .pre .3 .len)
 
 returns : tie.Need-returns Inv-loop μ-loop
 returns c =

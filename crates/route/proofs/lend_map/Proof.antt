@@ -1,22 +1,22 @@
--- `route::lend_map` meets its contract: a map has at most 961 cells, and so at most 1,024 vertices. Depends on libc's
--- write.
+-- `route::lend_map` meets its contract: a map has at most 961 cells, so at most 121 bytes, and at most 1,024 vertices.
+-- Depends on libc's write.
 use mathlib.Core.Path.{sym, _∙_}
-use Prim.Native.Nat.{_*_, _≤_}
+use Prim.Native.Nat.{_≤_}
 use native.Mathlib.Omega.{arith}
 use Rattle.route.proofs.Sizes.{taken}
-use Rattle.route.proofs.Running.{few-cells, map-sides, few-places}
+use Rattle.route.proofs.Running.{few-bytes, map-sides, few-places}
 use borrow.Author.Needs.{needs}
 use Rattle.route.proofs.lend_map.Statement.{statement}
 use Rattle.route.proofs.lend_map.Tie as tie
 
-few : (c : tie.After-struct-known) → c .before .before .args .m .wide * c .before .before .args .m .high ≤ 961
-few c = few-cells _ _ _ (c .before .before .pre)
+few : (c : tie.After-map-length) → c .map-length .result ≤ 961
+few c = omega (arith, few-bytes _ _ _ (c .before .before .pre), c .map-length .ensures .0)
 
 few-costs : (c : tie.After-vertex-count) → c .vertex-count .result ≤ 1024
 few-costs c = omega (arith, few-places _ _ _ (c .before .before .before .pre), c .vertex-count .ensures .0)
 
-mul-n : tie.Need-mul-n
-mul-n c = omega (arith, few c)
+map-length-requires : tie.Need-map-length-requires
+map-length-requires c κs = map-sides _ _ _ (c .before .pre)
 
 vertex-count-requires : tie.Need-vertex-count-requires
 vertex-count-requires c κs = map-sides _ _ _ (c .before .before .pre)
@@ -37,7 +37,7 @@ run-jobs-requires : tie.Need-run-jobs-requires
 run-jobs-requires c κs =
     let v = c .before .before in (
       v .before .before .before .pre,
-      sym (taken _ _ (few (v .before))),
+      sym (taken _ _ (few (v .before))) ∙ v .before .map-length .ensures .0,
       sym (taken _ _ (few-costs v)) ∙ v .vertex-count .ensures .0,
     )
 
@@ -48,7 +48,7 @@ pub lend-map-spec : {M : Type 1} → statement M
 lend-map-spec =
     tie.close
     (tie.spec
-    mul-n
+    map-length-requires
     vertex-count-requires
     array-borrow-prefix-map
     slice-aggregate-run-jobs

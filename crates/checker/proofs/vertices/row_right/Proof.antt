@@ -55,7 +55,7 @@ classes-of-requires c κs = search needs
 leaving-row-requires : tie.Need-leaving-row-requires Inv-loop μ-loop
 leaving-row-requires c κs =
     let s = c .before .before .before .before .before .before .before .before in
-    (s .pre .0 .job .sized, s .pre .1)
+    (s .pre .0 .job .sized, s .pre .1, s .pre .2)
 
 add-first : tie.Need-add-first Inv-loop μ-loop
 add-first c = search needs

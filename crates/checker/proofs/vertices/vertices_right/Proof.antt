@@ -14,20 +14,23 @@ use Rattle.checker.proofs.vertices.vertices_right.Statement.{statement}
 use Rattle.checker.proofs.vertices.vertices_right.Tie as tie
 
 abbrev Inv-loop : tie.InvT-loop
-Inv-loop w h map rows joined d e f back route a b y₀ y-end y =
+Inv-loop w h map rows joined d e f back route a b windows y₀ y-end y =
     Passed (suc h) y (rowTest joined (leavingGraph (floorOf w h map) rows) a b (sheetOf d e f back route 0) w)
 
 abbrev μ-loop : tie.MeasureT-loop
-μ-loop w h map rows joined d e f back route a b y₀ y-end y = y-end - y
+μ-loop w h map rows joined d e f back route a b windows y₀ y-end y = y-end - y
 
 abbrev sheet : tie.Start Inv-loop μ-loop → Sheet
 sheet s = sheetOf (s .args .d .now) (s .args .e .now) (s .args .f .now) (s .args .back .now) (s .args .route .now) 0
 
-abbrev start : tie.After-shared-slice-known6 Inv-loop μ-loop → tie.Start Inv-loop μ-loop
-start c = c .before .before .before .before .before .before
+abbrev start : tie.After-window-masks Inv-loop μ-loop → tie.Start Inv-loop μ-loop
+start c = c .before .before .before .before .before .before .before
 
 row-in : (c : tie.In-loop Inv-loop μ-loop) → c .before .loop .y < suc (start (c .before .before) .args .h)
 row-in c = omega arith
+
+window-masks-requires : tie.Need-window-masks-requires Inv-loop μ-loop
+window-masks-requires c κs = search needs
 
 add-y-end : tie.Need-add-y-end Inv-loop μ-loop
 add-y-end c = omega (arith, start c .pre .job .sized .high)
@@ -36,7 +39,8 @@ loop-holds : tie.Need-loop-holds Inv-loop μ-loop
 loop-holds c = passed-none _ _
 
 row-right-requires : tie.Need-row-right-requires Inv-loop μ-loop
-row-right-requires c κs = (start (c .before .before) .pre, omega (arith, row-in c))
+row-right-requires c κs =
+    let t = c .before .before in (start t .pre, omega (arith, row-in c), t .window-masks .ensures)
 
 returns : tie.Need-returns Inv-loop μ-loop
 returns c =
@@ -76,6 +80,7 @@ vertices-right-spec =
     (tie.spec
     Inv-loop
     μ-loop
+    window-masks-requires
     add-y-end
     loop-holds
     row-right-requires
