@@ -1,7 +1,7 @@
 //! Holds the programs to each other: same answers, same slices.
 
 use crate::floors::{Case, Kind, Random, KINDS};
-use crate::lurfanzi::{Floor, Job, Plan, Refusal, Verdict};
+use crate::lurfanzi::{pack, Floor, Job, Plan, Refusal, Verdict};
 use crate::programs::{Program, Slices, PROGRAMS, TEXTBOOK};
 
 /// What the textbook program makes of a job.
@@ -118,7 +118,8 @@ fn all_agree_on(floor: Floor, job: Job, truth: &Truth, random: &mut Random) {
 fn is_blocked(floor: Floor, i: i32, j: i32) -> bool {
     let (width, height) = (floor.width as i32, floor.height as i32);
     let inside = 0 <= i && i < width && 0 <= j && j < height;
-    !inside || floor.map[(j * width + i) as usize] == 1
+    let cell = j * width + i;
+    !inside || floor.map[(cell / 8) as usize] & 1 << (cell % 8) != 0
 }
 
 fn point(floor: Floor, v: u32) -> (i32, i32) {
@@ -183,17 +184,46 @@ fn agree_on_pinched_end(floor: Floor, job: Job, random: &mut Random) {
 
 /// Cells blocked at random; or, on an open floor, in pairs that touch at a corner.
 fn random_map(width: usize, height: usize, random: &mut Random) -> Vec<u8> {
-    let share = [0, 10, 30, 50][random.below(4)];
+    let share = [0, 2, 10, 30, 50][random.below(5)];
     if random.below(3) > 0 || width == 1 || height == 1 {
-        return (0..width * height).map(|_| u8::from(random.below(100) < share)).collect();
+        return pack(&(0..width * height).map(|_| u8::from(random.below(100) < share)).collect::<Vec<u8>>());
     }
-    let mut map = vec![0; width * height];
+    let mut cells = vec![0; width * height];
     for _ in 0..width * height * share / 200 + 1 {
         let (cell, falling) = (random.below(height - 1) * width + random.below(width - 1), random.below(2));
-        map[cell + 1 - falling] = 1;
-        map[cell + width + falling] = 1;
+        cells[cell + 1 - falling] = 1;
+        cells[cell + width + falling] = 1;
     }
-    map
+    pack(&cells)
+}
+
+/// Every program refuses the map, and leaves all slices as they were.
+fn agree_on_refused_map(floor: Floor, job: Job, refusal: Refusal) {
+    for program in &PROGRAMS {
+        let name = program.name;
+        let before = Slices::new(floor.vertices(), 7);
+        let mut slices = before.clone();
+        assert_eq!(slices.plan(program, floor, job), Err(refusal), "plan: a map, {name}");
+        assert_eq!(slices.costs(program, floor, job), Err(refusal), "costs: a map, {name}");
+        assert_eq!(slices.finish(program, floor, job), Err(refusal), "finish: a map, {name}");
+        assert!(slices == before, "a map: the slices of {name}");
+        assert_eq!((program.check)(floor, job, slices.sheet(1)), Err(refusal), "check: a map, {name}");
+        assert_eq!((program.thin)(floor, &[0], &mut [9], 1), Err(refusal), "thin: a map, {name}");
+        assert_eq!((program.sight)(floor, 0, 0), Err(refusal), "sight: a map, {name}");
+    }
+}
+
+/// The floor's map with each unused bit set, and longer or shorter by a byte.
+fn agree_on_bad_maps(floor: Floor, job: Job) {
+    let (cells, length) = (floor.width as usize * floor.height as usize, floor.map.len());
+    for bit in cells..8 * length {
+        let mut map = floor.map.to_vec();
+        map[bit / 8] |= 1 << (bit % 8);
+        agree_on_refused_map(Floor { map: &map, ..floor }, job, Refusal::UnusedBit);
+    }
+    let longer = [floor.map, &[0]].concat();
+    agree_on_refused_map(Floor { map: &longer, ..floor }, job, Refusal::BadMapLength);
+    agree_on_refused_map(Floor { map: &floor.map[1..], ..floor }, job, Refusal::BadMapLength);
 }
 
 /// A vertex that is no pinch; the corners of a floor never are one.
@@ -204,8 +234,8 @@ fn any_end(floor: Floor, random: &mut Random) -> u32 {
 
 /// One random floor of any sides, with any ends: answers 0, 7, 8 and 11 all occur.
 fn agree_on_random_floor(random: &mut Random) {
-    let limit = [3, 8, 40][random.below(3)];
-    let (width, height) = (1 + random.below(limit), 1 + random.below(limit));
+    let limits = [(3, 3), (8, 8), (40, 40), (127, 4), (4, 127)][random.below(5)];
+    let (width, height) = (1 + random.below(limits.0), 1 + random.below(limits.1));
     let map = random_map(width, height, random);
     let floor = Floor { width: width as u32, height: height as u32, map: &map };
     let (a, b) = (any_end(floor, random), any_end(floor, random));
@@ -215,9 +245,27 @@ fn agree_on_random_floor(random: &mut Random) {
             agree_on_pinched_end(floor, Job { a: ends.0, b: ends.1, ..job }, random);
         }
     }
+    agree_on_bad_maps(floor, job);
     assert_eq!((TEXTBOOK.sight)(floor, a, b), Ok(sees_by_definition(floor, a, b)), "sight: textbook");
     let truth = truth_of(floor, job);
     all_agree_on(floor, job, &truth, random);
+}
+
+/// A pinch anywhere on a long grid line, from every vertex of the line to its right end and back: what is before it is
+/// not seen from behind.
+fn agree_on_long_line(width: usize) {
+    for x in 1..width {
+        let mut cells = vec![0; 2 * width];
+        (cells[x - 1], cells[width + x]) = (1, 1);
+        let map = pack(&cells);
+        let floor = Floor { width: width as u32, height: 2, map: &map };
+        let vertex = |column: usize| (width + 1 + column) as u32;
+        for (program, from) in PROGRAMS.iter().flat_map(|program| (0..width).map(move |from| (program, from))) {
+            let seen = Ok(from > x);
+            assert_eq!((program.sight)(floor, vertex(from), vertex(width)), seen, "sight: a line, {}", program.name);
+            assert_eq!((program.sight)(floor, vertex(width), vertex(from)), seen, "sight: a line, {}", program.name);
+        }
+    }
 }
 
 pub fn agree_on_case(case: &Case) {
@@ -237,6 +285,7 @@ pub fn agree(floors: usize) {
     for _ in 0..floors {
         agree_on_random_floor(&mut random);
     }
+    agree_on_long_line(127);
     for (kind, neighbourhood) in KINDS.into_iter().flat_map(|kind| [(kind, 4), (kind, 8)]) {
         agree_on_case(&Case::new(kind, 16, neighbourhood));
     }

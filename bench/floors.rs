@@ -1,6 +1,6 @@
 //! The floors, and the jobs on them.
 
-use crate::lurfanzi::{Floor, Job, UNREACHABLE};
+use crate::lurfanzi::{pack, Floor, Job, UNREACHABLE};
 use crate::textbook;
 
 /// A linear congruential generator: the same floors in every run.
@@ -64,7 +64,7 @@ fn serpentine(side: usize, i: usize, j: usize) -> bool {
     j % 2 == 1 && i != if j % 4 == 1 { side - 1 } else { 0 }
 }
 
-/// A job on a square floor.
+/// A job on a square floor. The map is packed, a bit to a cell.
 pub struct Case {
     pub side: usize,
     pub map: Vec<u8>,
@@ -80,10 +80,8 @@ impl Case {
 
     fn from_seed(kind: Kind, side: usize, neighbourhood: u32, seed: u64) -> Option<Case> {
         let mut random = Random::new(seed);
-        let mut map = vec![0; side * side];
-        for (cell, byte) in map.iter_mut().enumerate() {
-            *byte = u8::from(kind.blocked(&mut random, side, cell % side, cell / side));
-        }
+        let blocked = |cell: usize| u8::from(kind.blocked(&mut random, side, cell % side, cell / side));
+        let map = pack(&(0..side * side).map(blocked).collect::<Vec<u8>>());
         let a = ((side + 1) * (side / 2)) as u32;
         let floor = Floor { width: side as u32, height: side as u32, map: &map };
         let reached = textbook::reached(floor, neighbourhood, a);
@@ -98,8 +96,8 @@ impl Case {
     /// The same floor with its last cell blocked, and the outer corner of that cell as the other end: no move from it is
     /// open, so that the job has no route.
     pub fn without_route(&self) -> Case {
-        let mut map = self.map.clone();
-        map[self.side * self.side - 1] = 1;
+        let (mut map, last) = (self.map.clone(), self.side * self.side - 1);
+        map[last / 8] |= 1 << (last % 8);
         let b = (self.side + 1) * (self.side + 1) - 1;
         Case { side: self.side, map, job: Job { b: b as u32, ..self.job } }
     }

@@ -72,9 +72,9 @@ fn repeat(words: &[&str]) -> Option<()> {
 fn segment(words: &[&str]) -> Option<()> {
     let &[program, columns, rows, times] = words else { return None };
     let program = PROGRAMS.iter().find(|known| known.name == program)?;
-    let side = 127;
+    let side: usize = 127;
     let [columns, rows] = [number(columns)?, number(rows)?];
-    let map = vec![0; side * side];
+    let map = vec![0; (side * side).div_ceil(8)];
     let floor = Floor { width: side as u32, height: side as u32, map: &map };
     let end = (columns <= side && rows <= side).then_some((rows * (side + 1) + columns) as u32)?;
     for _ in 0..number(times)? {

@@ -6,6 +6,7 @@
 //! nothing cheaper and adds no count. A planner has whole masks.
 
 use crate::lurfanzi::Floor;
+use crate::shape;
 
 /// The bits of the cardinal moves.
 pub const CARDINAL: u8 = 0x55;
@@ -16,8 +17,48 @@ pub fn offsets(columns: usize) -> [isize; 8] {
     [1, c + 1, c, c - 1, -1, -c - 1, -c, -c + 1]
 }
 
-/// A row of cells with a blocked cell at either side.
+/// A row of cells, a byte each, with a blocked cell at either side.
 pub type Cells = [u8; 129];
+
+/// The bits of a byte as bytes, the lowest first.
+const fn spread() -> [[u8; 8]; 256] {
+    let mut table = [[0; 8]; 256];
+    let mut byte = 0;
+    while byte < 256 {
+        let mut k = 0;
+        while k < 8 {
+            table[byte][k] = (byte >> k & 1) as u8;
+            k += 1;
+        }
+        byte += 1;
+    }
+    table
+}
+
+static SPREAD: [[u8; 8]; 256] = spread();
+
+/// The cells of row y as bits, the first at the low end; past the row any bits.
+#[inline(always)]
+fn row_bits(floor: Floor, y: usize) -> u128 {
+    let first = y * floor.width as usize;
+    let (bytes, shift) = (&floor.map[first / 8..], first % 8);
+    let Some((low, rest)) = bytes.split_first_chunk::<16>() else {
+        return bytes.iter().rev().fold(0, |bits, &byte| bits << 8 | u128::from(byte)) >> shift;
+    };
+    // Shifted in two steps, since all 128 places at once are no shift.
+    let high = u128::from(rest.first().copied().unwrap_or(0)) << 1 << (127 - shift);
+    u128::from_le_bytes(*low) >> shift | high
+}
+
+/// Unpacks row y of the map.
+#[inline(always)]
+fn read_row(floor: Floor, y: usize, cells: &mut Cells) {
+    let width = floor.width as usize;
+    for (eight, byte) in cells[1..].chunks_exact_mut(8).zip(row_bits(floor, y).to_le_bytes()).take(width.div_ceil(8)) {
+        eight.copy_from_slice(&SPREAD[usize::from(byte)]);
+    }
+    cells[width + 1] = 1;
+}
 
 /// The half masks of one row of vertices, from the rows of cells above and below it.
 pub fn row_masks(above: &Cells, below: &Cells, masks: &mut [u8]) {
@@ -34,11 +75,11 @@ pub fn row_masks(above: &Cells, below: &Cells, masks: &mut [u8]) {
 /// Calls `take` with the number of each row of vertices and the cells above and below it, until it answers false; whether
 /// it never did.
 pub fn all_rows(floor: Floor, mut take: impl FnMut(usize, &Cells, &Cells) -> bool) -> bool {
-    let (width, height) = (floor.width as usize, floor.height as usize);
+    let height = floor.height as usize;
     let (mut above, mut below) = ([1; 129], [1; 129]);
     (0..=height).all(|y| {
         if y < height {
-            below[1..=width].copy_from_slice(&floor.map[y * width..][..width]);
+            read_row(floor, y, &mut below);
         } else {
             below = [1; 129];
         }
@@ -91,7 +132,7 @@ pub fn mask_at(floor: Floor, v: usize) -> u8 {
     // The cell whose lower right corner is in column i and row j.
     let cell = |i: usize, j: usize| {
         let inside = 1 <= i && i <= width && 1 <= j && j <= height;
-        if inside { floor.map[(j - 1) * width + i - 1] } else { 1 }
+        if inside { shape::cell(floor.map, (j - 1) * width + i - 1) } else { 1 }
     };
     let (mut above, mut below, mut mask) = ([1; 129], [1; 129], [0]);
     (above[0], above[1], below[0], below[1]) = (cell(x, y), cell(x + 1, y), cell(x, y + 1), cell(x + 1, y + 1));

@@ -1,18 +1,26 @@
-//! Refusals 1 to 5, 11 and 6, in this order, for all baselines; and pinches.
+//! Refusals 1 to 5, 11 and 6, in this order, for all baselines; cells of a packed map; and pinches.
 
 use crate::lurfanzi::{Floor, Job, Refusal, Sheet};
 
 pub fn of_floor(floor: Floor) -> Result<(), Refusal> {
     let (width, height) = (floor.width as usize, floor.height as usize);
     if !(1..=127).contains(&width) || !(1..=127).contains(&height) {
-        Err(Refusal::BadSize)
-    } else if floor.map.len() != width * height {
+        return Err(Refusal::BadSize);
+    }
+    let cells = width * height;
+    if floor.map.len() != cells.div_ceil(8) {
         Err(Refusal::BadMapLength)
-    } else if floor.map.iter().fold(0, |all, byte| all | byte) > 1 {
-        Err(Refusal::BadMapByte)
+    } else if cells % 8 != 0 && floor.map[cells / 8] >> (cells % 8) != 0 {
+        Err(Refusal::UnusedBit)
     } else {
         Ok(())
     }
+}
+
+/// 1 where the cell of a number is blocked, else 0.
+#[inline(always)]
+pub fn cell(map: &[u8], number: usize) -> u8 {
+    map[number / 8] >> (number % 8) & 1
 }
 
 pub fn of_end(floor: Floor, end: u32) -> Result<(), Refusal> {
@@ -30,8 +38,9 @@ pub fn is_pinch(floor: Floor, x: usize, y: usize) -> bool {
     if x == 0 || y == 0 || x >= width || y >= height {
         return false;
     }
-    let (above, below) = (&floor.map[(y - 1) * width + x - 1..][..2], &floor.map[y * width + x - 1..][..2]);
-    above[0] == below[1] && above[1] == below[0] && above[0] != above[1]
+    let first = (y - 1) * width + x - 1;
+    let [nw, ne, sw, se] = [first, first + 1, first + width, first + width + 1].map(|number| cell(floor.map, number));
+    nw == se && ne == sw && nw != ne
 }
 
 fn of_pinch(floor: Floor, end: u32) -> Result<(), Refusal> {

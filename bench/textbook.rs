@@ -35,7 +35,7 @@ impl<'a> Grid<'a> {
 
     fn is_blocked(&self, i: i32, j: i32) -> bool {
         let inside = 0 <= i && i < self.width && 0 <= j && j < self.height;
-        !inside || self.map[(j * self.width + i) as usize] != 0
+        !inside || shape::cell(self.map, (j * self.width + i) as usize) != 0
     }
 
     /// Whether exactly two of the four cells at a vertex are blocked, and they are diagonal to each other.

@@ -1,44 +1,82 @@
 //! The hand-tuned line of sight and thinning: a segment's cells as one run in each row, and the vertices on it.
 
 use crate::lurfanzi::{Floor, Refusal};
-use crate::shape::{self, is_pinch};
+use crate::shape::{self, cell, is_pinch};
 
-fn is_clear(run: &[u8]) -> bool {
-    if run.len() < 8 {
-        return run.iter().fold(0, |all, cell| all | cell) == 0;
-    }
-    let mut eights = run.chunks_exact(8);
-    eights.all(|eight| eight == [0; 8]) && eights.remainder().iter().all(|&cell| cell == 0)
+/// So many cells are read at once, wherever the first is in its byte.
+const AT_ONCE: usize = 56;
+
+/// At most 56 cells from a number on, as bits, the first at the low end.
+#[inline(always)]
+fn bits(map: &[u8], first: usize, count: usize) -> u64 {
+    let at = first / 8;
+    let word = if at + 8 <= map.len() {
+        // SAFETY: the eight bytes are the map's.
+        u64::from_le(unsafe { map.as_ptr().add(at).cast::<u64>().read_unaligned() })
+    } else {
+        last_bytes(&map[at..])
+    };
+    word >> (first % 8) & ((1 << count) - 1)
 }
 
-/// Whether no step along a grid line is between two blocked cells, and no vertex between two steps is a pinch: there a
-/// blocked cell of one side is followed by one of the other. A missing side is outside, and blocked.
-fn is_passable(one: Option<&[u8]>, other: Option<&[u8]>) -> bool {
-    match (one, other) {
-        (Some(one), Some(other)) => {
-            let meet = |a: &[u8], b: &[u8]| a.iter().zip(b).fold(0, |any, (a, b)| any | (a & b));
-            meet(one, other) | meet(&one[1..], other) | meet(one, &other[1..]) == 0
+/// Less than eight bytes.
+#[cold]
+fn last_bytes(bytes: &[u8]) -> u64 {
+    bytes.iter().rev().fold(0, |word, &byte| word << 8 | u64::from(byte))
+}
+
+#[inline(always)]
+fn is_clear(map: &[u8], mut first: usize, mut count: usize) -> bool {
+    while count > AT_ONCE {
+        if bits(map, first, AT_ONCE) != 0 {
+            return false;
         }
-        (Some(one), None) | (None, Some(one)) => is_clear(one),
-        (None, None) => false,
+        first += AT_ONCE;
+        count -= AT_ONCE;
+    }
+    bits(map, first, count) == 0
+}
+
+/// Whether no step along a grid line is between two blocked cells, one of the run above it and one of that below, and no
+/// vertex between two steps is a pinch: there a blocked cell of one side is followed by one of the other.
+fn is_passable(map: &[u8], mut above: usize, width: usize, mut count: usize) -> bool {
+    loop {
+        let part = count.min(AT_ONCE);
+        let (one, other) = (bits(map, above, part), bits(map, above + width, part));
+        if one & other | one >> 1 & other | one & other >> 1 != 0 {
+            return false;
+        }
+        if part == count {
+            return true;
+        }
+        // The last cells of this part are the first of the next.
+        above += part - 1;
+        count -= part - 1;
     }
 }
 
+/// Outside is blocked.
 fn sees_along_row(floor: Floor, y: usize, left: usize, right: usize) -> bool {
-    let (width, height) = (floor.width as usize, floor.height as usize);
-    let row = |j: usize| &floor.map[j * width + left..j * width + right];
-    is_passable((y > 0).then(|| row(y - 1)), (y < height).then(|| row(y)))
+    let (width, height, count) = (floor.width as usize, floor.height as usize, right - left);
+    if y == 0 || y == height {
+        return is_clear(floor.map, if y == 0 { left } else { (y - 1) * width + left }, count);
+    }
+    is_passable(floor.map, (y - 1) * width + left, width, count)
 }
 
 fn sees_along_column(floor: Floor, x: usize, top: usize, bottom: usize) -> bool {
-    let width = floor.width as usize;
+    let (width, map) = (floor.width as usize, floor.map);
+    if x == 0 || x == width {
+        let beside = if x == 0 { 0 } else { width - 1 };
+        return (top..bottom).all(|y| cell(map, y * width + beside) == 0);
+    }
     // The cells left and right of the step before: at most one of them is blocked.
-    let mut before = (0, 0);
-    floor.map[top * width..bottom * width].chunks_exact(width).all(|row| {
-        let here = (if x > 0 { row[x - 1] } else { 1 }, if x < width { row[x] } else { 1 });
-        let shut = here.0 & here.1 | before.0 & here.1 | here.0 & before.1;
+    let mut before = 0;
+    (top..bottom).all(|y| {
+        let here = bits(map, y * width + x - 1, 2);
+        let shut = here == 3 || here != 0 && before == 3 - here;
         before = here;
-        shut == 0
+        !shut
     })
 }
 
@@ -59,12 +97,12 @@ fn point(v: usize, columns: usize) -> (usize, usize) {
 fn sees_along_diagonal(map: &[u8], first: usize, step: usize, beside: usize, below: usize, count: usize) -> bool {
     let mut k = 0;
     for _ in 1..count {
-        if map[first + k] | (map[beside + k] & map[below + k]) != 0 {
+        if cell(map, first + k) | (cell(map, beside + k) & cell(map, below + k)) != 0 {
             return false;
         }
         k += step;
     }
-    map[first + k] == 0
+    cell(map, first + k) == 0
 }
 
 fn common_divisor(mut a: u32, mut b: u32) -> usize {
@@ -104,18 +142,18 @@ fn is_clear_between(floor: Floor, a: usize, b: usize) -> bool {
         return sees_along_column(floor, x0, y0, y1);
     }
     let (dx, dy) = (x0.abs_diff(x1), y1 - y0);
-    let cell = y0 * width + x0;
+    let corner = y0 * width + x0;
     if dx == dy {
         return if x0 < x1 {
-            sees_along_diagonal(floor.map, cell, width + 1, cell + 1, cell + width, dx)
+            sees_along_diagonal(floor.map, corner, width + 1, corner + 1, corner + width, dx)
         } else {
-            sees_along_diagonal(floor.map, cell - 1, width - 1, (cell - 1).wrapping_sub(1), cell - 1 + width, dx)
+            sees_along_diagonal(floor.map, corner - 1, width - 1, (corner - 1).wrapping_sub(1), corner - 1 + width, dx)
         };
     }
     // In each row the segment starts `from + rest / dy` columns beside x0.
     let (mut from, mut rest) = (0, 0);
     let (whole, part) = if dx < dy { (0, dx) } else { quotient(dx, dy) };
-    let open = floor.map[y0 * width..y1 * width].chunks_exact(width).all(|row| {
+    let open = (y0..y1).all(|y| {
         let first = from;
         from += whole;
         rest += part;
@@ -124,8 +162,8 @@ fn is_clear_between(floor: Floor, a: usize, b: usize) -> bool {
             from += 1;
         }
         let last = from + usize::from(rest > 0);
-        let run = if x0 < x1 { &row[x0 + first..x0 + last] } else { &row[x0 - last..x0 - first] };
-        is_clear(run)
+        let left = if x0 < x1 { x0 + first } else { x0 - last };
+        is_clear(floor.map, y * width + left, last - first)
     });
     open && !passes_pinch(floor, (x0, y0), (x1, y1))
 }

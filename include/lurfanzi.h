@@ -1,13 +1,17 @@
-/* Lurfanzi: verified route planning for carts on a floor of cells.
+/* Lurfanzi: verified route planning for carts on a floor of cells. A map has a BIT TO A CELL: cell c, counted row by
+ * row from the first, is bit c % 8, from the low end, of byte c / 8, and a set bit is a blocked cell. The unused high
+ * bits of the last byte are 0. So a map of width by height cells has (width * height + 7) / 8 bytes, at most 2,017.
+ * EVERY FUNCTION THAT TAKES A MAP TAKES IT PACKED SO, THE FIRMWARE'S QUESTION lurfanzi_sight TOO; the closures' base
+ * and working maps are packed so as well.
  *
  * Every function is total: any numbers and any bytes may be handed in. It ends, reads and writes nothing but the memory
  * it is lent, and answers with one of the numbers below. What each answer means, and what each lent number is
  * afterwards, is proved of the code for all inputs (crates/capi). The proofs do not cover this header; tests/c holds it
  * to the code.
  *
- * The floor. width and height are its sides in cells, 1 to 127; map has width * height bytes, row by row, 0 open and
- * 1 blocked. Byte i + j * width is the cell in column i and row j, between the corners (i, j) and (i + 1, j + 1). Every
- * cell outside the map is blocked. Vertices are the cell corners: the one in column x and row y has number
+ * The floor. width and height are its sides in cells, 1 to 127. Cell c = i + j * width is the one in column i and row
+ * j, between the corners (i, j) and (i + 1, j + 1), and map[c / 8] >> c % 8 & 1 is 1 where it is blocked. Every cell
+ * outside the map is blocked. Vertices are the cell corners: the one in column x and row y has number
  * x + y * (width + 1), and there are V = (width + 1) * (height + 1) of them.
  *
  * Sight. A vertex is a pinch when exactly two of its four cells are blocked and they are diagonal to each other; no
@@ -41,12 +45,23 @@
 extern "C" {
 #endif
 
+/* The number of this interface. It tells apart headers between which a call still compiles and means something else: a
+ * caller of a header without this number hands in maps with a byte to a cell, which would be refused with 2 and nothing
+ * else said. A caller states the number that it was written for:
+ *
+ *     #if LURFANZI_INTERFACE != 2
+ *     #error "written for packed maps"
+ *     #endif
+ */
+#define LURFANZI_INTERFACE 2
+
 /* The answers. A call gives the first refusal that applies, in the order in which its function lists them below. */
 enum {
     LURFANZI_OK = 0,
     LURFANZI_BAD_SIZE = 1,          /* a side is not 1 to 127 */
-    LURFANZI_BAD_MAP_LENGTH = 2,    /* the map has not width * height bytes */
-    LURFANZI_BAD_MAP_BYTE = 3,      /* a map byte is above 1 */
+    LURFANZI_BAD_MAP_LENGTH = 2,    /* the map has not width * height / 8 bytes, rounded up: at most 2,017 */
+    LURFANZI_UNUSED_BIT = 3,        /* an unused bit of the map's last byte is set; there is none where 8 divides
+                                       width * height */
     LURFANZI_BAD_NEIGHBOURHOOD = 4, /* the neighbourhood is not 4 or 8 */
     LURFANZI_BAD_END = 5,           /* an end is not below V */
     LURFANZI_BAD_SLICE_LENGTH = 6,  /* a lent slice has another length than asked */
@@ -78,7 +93,7 @@ enum {
 /* The cost where no open walk joins two vertices; it stands in d and e. */
 #define LURFANZI_UNREACHABLE UINT32_C(4294967295)
 
-/* Do the vertices a and b see each other?
+/* Do the vertices a and b see each other? THE MAP IS PACKED, A BIT TO A CELL, here as everywhere.
  *
  * Answers LURFANZI_SIGHT_YES or LURFANZI_SIGHT_NO, or refuses with 1, 2, 3 or 5, in this order. An end that is a pinch
  * is not refused. Writes nothing.
@@ -96,7 +111,7 @@ typedef struct {
  * answer      place
  * 0           0             nothing is in the way; lurfanzi_sight answers LURFANZI_SIGHT_YES exactly then
  * 101         a cell        of the blocked cells that the segment enters, the one least far in columns from a, of
- *                           equals least far in rows: map[place] is its byte
+ *                           equals least far in rows: place is its number c
  * 102         a vertex      a step of a segment along a grid line is shut: the vertex where the first one begins, going
  *                           from a
  * 103         a vertex      no blocked cell is entered and no step is shut, anywhere on the segment: of the pinches
@@ -241,8 +256,8 @@ uint8_t lurfanzi_strike(uint32_t width, uint32_t height, uint32_t slots[LURFANZI
 /* Writes the working map: a cell is blocked where it is in the base map or where any closure that the table holds
  * covers it. The other functions take it as the floor's map.
  *
- * base       width * height bytes, a map; read
- * map        as long as base: at answer 0 the working map; untouched at a refusal
+ * base       a map, packed; read
+ * map        as long as base: at answer 0 the working map, packed, its unused bits 0; untouched at a refusal
  *
  * Answers 0, or refuses with 1, with 2 or 3 for the base map, or with 6 where map_length is not base_length, in this
  * order. The table is read, and tested for nothing.

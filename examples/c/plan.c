@@ -3,11 +3,18 @@
  * that a cart needs. */
 #include <inttypes.h>
 #include <stdio.h>
+#include <string.h>
 #include "lurfanzi.h"
 
-enum { WIDTH = 7, HEIGHT = 5, COLUMNS = WIDTH + 1, VERTICES = COLUMNS * (HEIGHT + 1), NEIGHBOURHOOD = 8 };
+#if LURFANZI_INTERFACE != 2
+#error "written for packed maps"
+#endif
 
-static const uint8_t base[WIDTH * HEIGHT] = {
+enum { WIDTH = 7, HEIGHT = 5, COLUMNS = WIDTH + 1, VERTICES = COLUMNS * (HEIGHT + 1), NEIGHBOURHOOD = 8 };
+enum { CELLS = WIDTH * HEIGHT, MAP_BYTES = (CELLS + 7) / 8 };
+
+/* The cells of the base map, a byte each. */
+static const uint8_t cells[CELLS] = {
     0, 0, 0, 0, 0, 0, 0,
     0, 0, 0, 1, 0, 0, 0,
     0, 0, 0, 1, 0, 0, 0,
@@ -15,14 +22,24 @@ static const uint8_t base[WIDTH * HEIGHT] = {
     0, 0, 0, 1, 0, 0, 0,
 };
 
-/* The closures, none of them held, and the map with them on it. */
+/* The base map; the closures, none of them held; and the map with them on it. */
+static uint8_t base[MAP_BYTES];
 static uint32_t slots[LURFANZI_TABLE];
-static uint8_t map[WIDTH * HEIGHT];
+static uint8_t map[MAP_BYTES];
 
 /* The sheet, the working memory, and the kept positions. What they hold before a call does not matter. */
 static uint32_t d[VERTICES], e[VERTICES], work[4 * VERTICES];
 static uint64_t f[VERTICES], back[VERTICES];
 static uint16_t route[VERTICES], kept[VERTICES];
+
+/* Packs cells, given with a byte each, 0 open, into a map of (count + 7) / 8 bytes: cell c is bit c % 8, from the low
+ * end, of byte c / 8, and the unused bits are 0. */
+static void pack(const uint8_t *from, size_t count, uint8_t *to)
+{
+    memset(to, 0, (count + 7) / 8);
+    for (size_t c = 0; c < count; c++)
+        if (from[c] != 0) to[c / 8] |= (uint8_t)(1u << c % 8);
+}
 
 static uint32_t vertex(uint32_t x, uint32_t y)
 {
@@ -119,6 +136,7 @@ int main(void)
 {
     const uint32_t dock = vertex(0, 4), b = vertex(7, 5), c = vertex(7, 0), corner = vertex(4, 1);
 
+    pack(cells, CELLS, base);
     if (!draw_map() || !show_obstacle(dock, b) || !show_jobs(dock, b, c)) return 1;
 
     /* A wet floor of 2 by 2 cells, from column 4 and row 1 on. */

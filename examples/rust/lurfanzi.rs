@@ -3,10 +3,23 @@
 //! Every function is total, as in C: any numbers and any slices may be handed in, and a fault of theirs is an `Err`. A
 //! slice that a call writes is borrowed mutably, so that it overlaps no other slice of the call.
 
+/// The header's `LURFANZI_INTERFACE`: maps have a bit to a cell.
+pub const INTERFACE: u32 = 2;
+
 /// The cost where no open walk joins two vertices.
 pub const UNREACHABLE: u32 = u32::MAX;
 
-/// A floor: its sides in cells, and `width * height` bytes, row by row, 0 open and 1 blocked.
+/// The map of some cells, given row by row with a byte each, 0 open and any other number blocked: cell c is bit c % 8,
+/// from the low end, of byte c / 8, and the unused high bits of the last byte are 0.
+pub fn pack(cells: &[u8]) -> Vec<u8> {
+    let mut map = vec![0; cells.len().div_ceil(8)];
+    for (c, _) in cells.iter().enumerate().filter(|(_, &cell)| cell != 0) {
+        map[c / 8] |= 1 << (c % 8);
+    }
+    map
+}
+
+/// A floor: its sides in cells, and its map with a bit to a cell, `(width * height + 7) / 8` bytes, as `pack` makes it.
 #[derive(Clone, Copy, Debug)]
 pub struct Floor<'a> {
     pub width: u32,
@@ -91,7 +104,7 @@ pub struct Closures {
 pub enum Refusal {
     BadSize,
     BadMapLength,
-    BadMapByte,
+    UnusedBit,
     BadNeighbourhood,
     BadEnd,
     BadSliceLength,
@@ -112,7 +125,7 @@ impl Refusal {
         match number {
             1 => Refusal::BadSize,
             2 => Refusal::BadMapLength,
-            3 => Refusal::BadMapByte,
+            3 => Refusal::UnusedBit,
             4 => Refusal::BadNeighbourhood,
             5 => Refusal::BadEnd,
             6 => Refusal::BadSliceLength,
@@ -132,7 +145,7 @@ impl Refusal {
         match self {
             Refusal::BadSize => 1,
             Refusal::BadMapLength => 2,
-            Refusal::BadMapByte => 3,
+            Refusal::UnusedBit => 3,
             Refusal::BadNeighbourhood => 4,
             Refusal::BadEnd => 5,
             Refusal::BadSliceLength => 6,
@@ -153,8 +166,8 @@ impl std::fmt::Display for Refusal {
     fn fmt(&self, to: &mut std::fmt::Formatter<'_>) -> std::fmt::Result {
         let meaning = match self {
             Refusal::BadSize => "a side is not 1 to 127",
-            Refusal::BadMapLength => "the map has not width * height bytes",
-            Refusal::BadMapByte => "a map byte is above 1",
+            Refusal::BadMapLength => "the map has not width * height / 8 bytes, rounded up",
+            Refusal::UnusedBit => "an unused bit of the map is set",
             Refusal::BadNeighbourhood => "the neighbourhood is not 4 or 8",
             Refusal::BadEnd => "an end is not a vertex",
             Refusal::BadSliceLength => "a slice has another length than asked",
@@ -208,7 +221,7 @@ impl Closures {
         done(call::strike(self, slot))
     }
 
-    /// Writes the base map with the closures on it.
+    /// Writes the base map with the closures on it. Both are packed.
     pub fn working_map(&self, base: &[u8], map: &mut [u8]) -> Result<(), Refusal> {
         done(call::working_map(self, base, map))
     }
@@ -436,11 +449,12 @@ mod call {
 mod tests {
     use super::*;
 
-    const OPEN: Floor = Floor { width: 2, height: 1, map: &[0, 0] };
-    const SHUT: Floor = Floor { width: 2, height: 1, map: &[0, 1] };
+    const OPEN: Floor = Floor { width: 2, height: 1, map: &[0] };
+    /// Cell 1 is blocked.
+    const SHUT: Floor = Floor { width: 2, height: 1, map: &[2] };
     const JOB: Job = Job { neighbourhood: 8, a: 0, b: 5 };
-    /// Vertex 4 is a pinch.
-    const TOUCHING: Floor = Floor { width: 2, height: 2, map: &[1, 0, 0, 1] };
+    /// Cells 0 and 3 are blocked, and vertex 4 is a pinch.
+    const TOUCHING: Floor = Floor { width: 2, height: 2, map: &[9] };
 
     type Answers = (Result<Plan, Refusal>, Result<Verdict, Refusal>);
 
@@ -465,7 +479,7 @@ mod tests {
         let plan = Plan { cost: 985, total: 2, points: 3 };
         assert_eq!(plan_and_check(OPEN, JOB, 6, 24), (Ok(plan), Ok(Verdict::Route)));
         assert_eq!(plan_and_check(SHUT, JOB, 6, 24), (Err(Refusal::NoRoute), Ok(Verdict::NoRoute)));
-        let largest = Floor { width: 127, height: 127, map: &[0; 127 * 127] };
+        let largest = Floor { width: 127, height: 127, map: &[0; 2017] };
         let corners = Job { neighbourhood: 4, a: 0, b: 16_383 };
         assert_eq!(plan_and_check(largest, corners, 16_384, 65_536), (Err(Refusal::TooMany), Ok(Verdict::FalseSheet)));
     }
@@ -475,7 +489,9 @@ mod tests {
         refused(Floor { width: 0, ..OPEN }, JOB, 6, Refusal::BadSize);
         refused(Floor { height: u32::MAX, ..OPEN }, JOB, 6, Refusal::BadSize);
         refused(Floor { map: &[], ..OPEN }, JOB, 6, Refusal::BadMapLength);
-        refused(Floor { map: &[0, 2], ..OPEN }, JOB, 6, Refusal::BadMapByte);
+        refused(Floor { map: &[0, 0], ..OPEN }, JOB, 6, Refusal::BadMapLength);
+        refused(Floor { map: &[4], ..OPEN }, JOB, 6, Refusal::UnusedBit);
+        refused(Floor { map: &[128], ..OPEN }, JOB, 6, Refusal::UnusedBit);
         refused(OPEN, Job { neighbourhood: 260, ..JOB }, 6, Refusal::BadNeighbourhood);
         refused(OPEN, Job { a: 6, ..JOB }, 6, Refusal::BadEnd);
         refused(OPEN, Job { b: u32::MAX, ..JOB }, 6, Refusal::BadEnd);
@@ -564,7 +580,7 @@ mod tests {
         assert_eq!(obstacle(TOUCHING, 4, 4), Ok(Obstacle::Clear));
         assert_eq!(obstacle(TOUCHING, 8, 0), Ok(Obstacle::Cell(3)));
         assert_eq!(obstacle(SHUT, 6, 0), Err(Refusal::BadEnd));
-        assert_eq!(obstacle(Floor { map: &[0, 2], ..OPEN }, 0, 0), Err(Refusal::BadMapByte));
+        assert_eq!(obstacle(Floor { map: &[4], ..OPEN }, 0, 0), Err(Refusal::UnusedBit));
     }
 
     const CELL: Rectangle = Rectangle { column: 1, row: 0, columns: 1, rows: 1 };
@@ -572,18 +588,18 @@ mod tests {
     #[test]
     fn closed() {
         let mut table = Closures::new(2, 1);
-        let mut map = [9; 2];
+        let mut map = [0xFF];
         assert_eq!(table.post(CELL), Ok(0));
         assert_eq!(table.working_map(OPEN.map, &mut map), Ok(()));
-        assert_eq!(map, [0, 1]);
+        assert_eq!(map, [2]);
         assert_eq!(table.strike(0), Ok(()));
         assert_eq!(table, Closures::new(2, 1));
         assert_eq!(table.working_map(OPEN.map, &mut map), Ok(()));
-        assert_eq!(map, [0, 0]);
-        assert_eq!(table.working_map(&[0, 2], &mut map), Err(Refusal::BadMapByte));
-        assert_eq!(table.working_map(&[0], &mut map), Err(Refusal::BadMapLength));
-        assert_eq!(table.working_map(OPEN.map, &mut map[..1]), Err(Refusal::BadSliceLength));
-        assert_eq!(map, [0, 0]);
+        assert_eq!(map, [0]);
+        assert_eq!(table.working_map(&[4], &mut map), Err(Refusal::UnusedBit));
+        assert_eq!(table.working_map(&[0, 0], &mut map), Err(Refusal::BadMapLength));
+        assert_eq!(table.working_map(OPEN.map, &mut map[..0]), Err(Refusal::BadSliceLength));
+        assert_eq!(map, [0]);
     }
 
     #[test]
@@ -619,6 +635,28 @@ mod tests {
         assert_eq!(out, [0, 2, 0, 0]);
         assert_eq!(thin(TOUCHING, &[4, 4, 4, 5], &mut out, 4), Err(Refusal::NotJoined));
         assert_eq!(thin(TOUCHING, &[2, 6], &mut out[..2], 2), Err(Refusal::NotJoined));
+    }
+
+    /// Each cell alone, on floors with every number of unused bits: it is in the way across itself and across no other.
+    #[test]
+    fn packed() {
+        assert_eq!(pack(&[]), []);
+        assert_eq!(pack(&[1, 0, 0, 1]), TOUCHING.map);
+        assert_eq!(pack(&[0, 0, 0, 0, 0, 0, 0, 1, 1]), [128, 1]);
+        assert_eq!(pack(&[7; 127 * 127])[2015..], [255, 1]);
+        for width in 1..=16 {
+            for blocked in 0..2 * width {
+                let mut cells = vec![0; 2 * width as usize];
+                cells[blocked as usize] = 1;
+                let map = pack(&cells);
+                let floor = Floor { width, height: 2, map: &map };
+                for c in 0..2 * width {
+                    let corner = c + c / width;
+                    let found = if c == blocked { Obstacle::Cell(c) } else { Obstacle::Clear };
+                    assert_eq!(obstacle(floor, corner, corner + width + 2), Ok(found));
+                }
+            }
+        }
     }
 
     #[test]

@@ -6,14 +6,16 @@
 #[allow(dead_code)]
 mod lurfanzi;
 
-use lurfanzi::{check, costs, finish, obstacle, thin, Closures, Floor, Job, Obstacle, Rectangle, Refusal, SheetMut};
+use lurfanzi::{check, costs, finish, obstacle, pack, thin};
+use lurfanzi::{Closures, Floor, Job, Obstacle, Rectangle, Refusal, SheetMut};
 
 const WIDTH: u32 = 7;
 const HEIGHT: u32 = 5;
 const COLUMNS: u32 = WIDTH + 1;
 const NEIGHBOURHOOD: u32 = 8;
 
-const BASE: [u8; 35] = [
+/// The cells of the base map, a byte each.
+const CELLS: [u8; 35] = [
     0, 0, 0, 0, 0, 0, 0, //
     0, 0, 0, 1, 0, 0, 0, //
     0, 0, 0, 1, 0, 0, 0, //
@@ -76,7 +78,8 @@ fn show_jobs(floor: Floor, dock: u32, ends: &[u32]) -> Result<Vec<u32>, Refusal>
 
 fn main() -> Result<(), Refusal> {
     let (dock, ends, corner) = (vertex(0, 4), [vertex(7, 5), vertex(7, 0)], vertex(4, 1));
-    let base = Floor { width: WIDTH, height: HEIGHT, map: &BASE };
+    let base_map = pack(&CELLS);
+    let base = Floor { width: WIDTH, height: HEIGHT, map: &base_map };
     show_obstacle(base, dock, ends[0])?;
     let d = show_jobs(base, dock, &ends)?;
 
@@ -84,8 +87,8 @@ fn main() -> Result<(), Refusal> {
     let mut closures = Closures::new(WIDTH, HEIGHT);
     let slot = closures.post(Rectangle { column: 4, row: 1, columns: 2, rows: 2 })?;
     println!("posted in slot {slot}");
-    let mut map = BASE;
-    closures.working_map(&BASE, &mut map)?;
+    let mut map = base_map.clone();
+    closures.working_map(&base_map, &mut map)?;
     let wet = Floor { map: &map, ..base };
     show_obstacle(wet, corner, ends[0])?;
     let stale = show_job(wet, Job { neighbourhood: NEIGHBOURHOOD, a: dock, b: ends[0] }, &d);
@@ -94,7 +97,7 @@ fn main() -> Result<(), Refusal> {
 
     closures.strike(slot)?;
     println!("struck slot {slot}");
-    closures.working_map(&BASE, &mut map)?;
+    closures.working_map(&base_map, &mut map)?;
     let dry = Floor { map: &map, ..base };
     show_obstacle(dry, corner, ends[0])?;
     show_jobs(dry, dock, &ends)?;

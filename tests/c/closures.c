@@ -1,6 +1,7 @@
 /* Closures from C, with the 64 numbers of the table and both maps between guard bytes. The expected answers are worked
  * out by hand from the rules. A rectangle is written (first column, first row, columns, rows). On the floor of 3 by 2
- * cells the cells are 0 1 2 and 3 4 5 by rows, and cell 5 is blocked on the base map.
+ * cells the cells are 0 1 2 and 3 4 5 by rows, and cell 5 is blocked on the base map. The cells of an expected map are
+ * written with a byte each, and packed; a map that is lent is written as it is, a bit to a cell.
  */
 #include "lent.h"
 #include "lurfanzi.h"
@@ -55,27 +56,35 @@ static void strike(const char *where, table *t, uint32_t slot, uint8_t answer)
     give_back(&s);
 }
 
-/* Writes the working map over a slice of `length` bytes that hold 9; at a refusal it holds them still. */
+/* Writes the working map over slices of `length` bytes that hold anything; at a refusal they hold it still. At answer 0
+ * every bit is that of `wanted`, a packed map, the unused ones too. */
 static void working(
     const char *where, const table *t, const uint8_t *base, size_t base_length, size_t length,
     uint8_t answer, const uint8_t *wanted)
 {
-    lent s = lend_copy(t->slots, sizeof t->slots), b = lend_copy(base, base_length), m = lend(length, 9);
-    before_call(&s), before_call(&b), before_call(&m);
-    expect_answer(where, lurfanzi_working_map(t->width, t->height, s.p, b.p, base_length, m.p, length), answer);
-    expect_read_only(where, "the table", &s);
-    expect_read_only(where, "the base map", &b);
-    expect_guards(where, "the map", &m);
-    if (answer != 0) expect_untouched(where, "the map", &m);
-    else if (memcmp(m.p, wanted, length) != 0) fail(where, "the map", "is not the expected one");
-    give_back(&s), give_back(&b), give_back(&m);
+    const unsigned char fills[] = {0x00, 0x5A, 0xFF};
+    for (size_t k = 0; k < sizeof fills; k++) {
+        lent s = lend_copy(t->slots, sizeof t->slots), b = lend_copy(base, base_length), m = lend(length, fills[k]);
+        before_call(&s), before_call(&b), before_call(&m);
+        expect_answer(where, lurfanzi_working_map(t->width, t->height, s.p, b.p, base_length, m.p, length), answer);
+        expect_read_only(where, "the table", &s);
+        expect_read_only(where, "the base map", &b);
+        expect_guards(where, "the map", &m);
+        if (answer != 0) expect_untouched(where, "the map", &m);
+        else if (memcmp(m.p, wanted, length) != 0) fail(where, "the map", "is not the expected one");
+        give_back(&s), give_back(&b), give_back(&m);
+    }
 }
 
-static const uint8_t base[6] = {0, 0, 0, 0, 0, 1};
+/* Cell 5 is blocked: bit 5 of one byte, of which bits 6 and 7 are unused. */
+static const uint8_t base[1] = {32};
+static const uint8_t base_cells[6] = {0, 0, 0, 0, 0, 1};
 
 static void write_map(const char *where, const table *t, const uint8_t wanted[6])
 {
-    working(where, t, base, 6, 6, 0, wanted);
+    uint8_t map[1];
+    pack(wanted, 6, map);
+    working(where, t, base, 1, 1, 0, map);
 }
 
 /* Rectangles that are empty or leave the floor of 3 by 2 cells: 12, whatever the table holds. */
@@ -98,7 +107,7 @@ static void three_by_two(void)
 {
     table t = {3, 2, {0}};
     const rectangle corner = {0, 0, 1, 1};
-    write_map("nothing held", &t, base);
+    write_map("nothing held", &t, base_cells);
     /* Slots 0 and 1: column 0, which is cells 0 and 3, and cell 2. */
     post("column 0", &t, (rectangle){0, 0, 1, 2}, 0, 0);
     post("cell 2", &t, (rectangle){2, 0, 1, 1}, 0, 1);
@@ -122,27 +131,62 @@ static void three_by_two(void)
     post("slot 15", &t, (rectangle){0, 1, 1, 1}, 0, 15);
     write_map("sixteen held", &t, (const uint8_t[]){1, 0, 1, 1, 1, 1});
     for (uint32_t slot = 0; slot < 16; slot++) strike("every slot", &t, slot, 0);
-    write_map("all struck", &t, base);
+    write_map("all struck", &t, base_cells);
 }
 
 /* Refusals 2, 3 and 6 of the working map, in order. */
 static void refused_maps(void)
 {
     const table t = {3, 2, {0, 0, 3, 2}};
-    const uint8_t bad[7] = {0, 0, 2, 0, 0, 1, 0};
-    const size_t lengths[] = {0, 5, 7};
+    const uint8_t bad[6] = {32 | 64, 0, 0, 0, 0, 1};
+    const size_t lengths[] = {0, 2, 6};
     for (size_t k = 0; k < 3; k++) {
-        working("a base map of another length", &t, bad, lengths[k], 6, LURFANZI_BAD_MAP_LENGTH, NULL);
+        working("a base map of another length", &t, bad, lengths[k], 1, LURFANZI_BAD_MAP_LENGTH, NULL);
         working("both of another length", &t, bad, lengths[k], lengths[k], LURFANZI_BAD_MAP_LENGTH, NULL);
-        working("a bad byte, and a slice of another length", &t, bad, 6, lengths[k], LURFANZI_BAD_MAP_BYTE, NULL);
-        working("a slice of another length", &t, base, 6, lengths[k], LURFANZI_BAD_SLICE_LENGTH, NULL);
+        working("an unused bit, and a slice of another length", &t, bad, 1, lengths[k], LURFANZI_UNUSED_BIT, NULL);
+        working("a slice of another length", &t, base, 1, lengths[k], LURFANZI_BAD_SLICE_LENGTH, NULL);
     }
-    working("a slice longer by 256", &t, base, 6, 256 + 6, LURFANZI_BAD_SLICE_LENGTH, NULL);
-    working("a slice longer by 65536", &t, base, 6, 65536 + 6, LURFANZI_BAD_SLICE_LENGTH, NULL);
-    working("a bad byte", &t, bad, 6, 6, LURFANZI_BAD_MAP_BYTE, NULL);
-    for (int byte = 2; byte < 256; byte++) {
-        const uint8_t last[6] = {0, 0, 0, 0, 0, (uint8_t)byte};
-        working("any bad byte", &t, last, 6, 6, LURFANZI_BAD_MAP_BYTE, NULL);
+    working("a slice longer by 256", &t, base, 1, 256 + 1, LURFANZI_BAD_SLICE_LENGTH, NULL);
+    working("a slice longer by 65536", &t, base, 1, 65536 + 1, LURFANZI_BAD_SLICE_LENGTH, NULL);
+    for (int byte = 64; byte < 256; byte++) {
+        const uint8_t map[1] = {(uint8_t)byte};
+        working("any byte with an unused bit", &t, map, 1, 1, LURFANZI_UNUSED_BIT, NULL);
+    }
+}
+
+/* Floors with every number of unused bits. With nothing held the working map is the base map, and with the whole floor
+ * held it has every cell's bit set: the unused bits are 0 in both. A base map with an unused bit set, or longer or
+ * shorter by a byte, is refused. */
+static void every_length(void)
+{
+    static uint8_t open[MOST_BYTES + 1], all[MOST_BYTES], some[MOST_BYTES], last_cell[MOST_BYTES];
+    for (size_t k = 0; k < ANY_SIDES; k++) {
+        const uint32_t w = any_sides[k].width, h = any_sides[k].height;
+        const size_t length = map_length(w, h), last = length - 1;
+        const unsigned unused = first_unused(any_sides[k]);
+        const uint8_t used = (uint8_t)(0xFF >> (8 - unused));
+        memset(all, 0xFF, sizeof all), memset(some, 0x96, sizeof some), memset(last_cell, 0, sizeof last_cell);
+        all[last] &= used, some[last] &= used;
+        last_cell[last] = (uint8_t)(1u << (unused - 1));
+        const table none = {w, h, {0}}, whole = {w, h, {0, 0, w, h}}, one = {w, h, {w - 1, h - 1, 1, 1}};
+        const table beyond = {w, h, {w - 1, h - 1, MOST, MOST}}, larger = {w, h, {0, 0, MOST, MOST}};
+        working("nothing on an open floor", &none, open, length, length, 0, open);
+        working("nothing on a blocked floor", &none, all, length, length, 0, all);
+        working("nothing on any floor", &none, some, length, length, 0, some);
+        working("the whole floor", &whole, open, length, length, 0, all);
+        working("more than the floor", &larger, some, length, length, 0, all);
+        working("the last cell", &one, open, length, length, 0, last_cell);
+        working("the last cell and on", &beyond, open, length, length, 0, last_cell);
+        for (unsigned bit = unused; bit < 8; bit++) {
+            some[last] ^= (uint8_t)(1u << bit);
+            working("an unused bit", &whole, some, length, length, LURFANZI_UNUSED_BIT, NULL);
+            working("an unused bit, nothing held", &none, some, length, length + 1, LURFANZI_UNUSED_BIT, NULL);
+            some[last] ^= (uint8_t)(1u << bit);
+        }
+        working("a byte more", &whole, open, length + 1, length + 1, LURFANZI_BAD_MAP_LENGTH, NULL);
+        working("a byte less", &whole, all, length - 1, length - 1, LURFANZI_BAD_MAP_LENGTH, NULL);
+        working("a slice with a byte more", &whole, all, length, length + 1, LURFANZI_BAD_SLICE_LENGTH, NULL);
+        working("a slice with a byte less", &whole, all, length, length - 1, LURFANZI_BAD_SLICE_LENGTH, NULL);
     }
 }
 
@@ -166,20 +210,28 @@ static void bad_sides(void)
 
 static void largest_floor(void)
 {
-    static uint8_t open[127 * 127], wanted[127 * 127];
+    static const uint8_t open[MOST_BYTES];
+    static uint8_t cells[MOST_CELLS], wanted[MOST_BYTES];
     table t = {127, 127, {0}};
     post("the last cell", &t, (rectangle){126, 126, 1, 1}, 0, 0);
     post("right of the last cell", &t, (rectangle){127, 126, 1, 1}, LURFANZI_BAD_CLOSURE, 0);
     post("below the last cell", &t, (rectangle){126, 127, 1, 1}, LURFANZI_BAD_CLOSURE, 0);
     post("the first row", &t, (rectangle){0, 0, 127, 1}, 0, 1);
-    wanted[127 * 127 - 1] = 1;
-    memset(wanted, 1, 127);
+    cells[MOST_CELLS - 1] = 1;
+    memset(cells, 1, 127);
+    pack(cells, MOST_CELLS, wanted);
+    expect("the largest floor", "the last byte", wanted[2016], 1);
     working("the largest floor", &t, open, sizeof open, sizeof open, 0, wanted);
-    post("the largest closure", &t, (rectangle){0, 0, 127, 127}, 0, 2);
-    memset(wanted, 1, sizeof wanted);
+    post("columns 3 to 121 of row 64", &t, (rectangle){3, 64, 119, 1}, 0, 2);
+    memset(cells + 64 * 127 + 3, 1, 119);
+    pack(cells, MOST_CELLS, wanted);
+    working("columns 3 to 121 of row 64", &t, open, sizeof open, sizeof open, 0, wanted);
+    post("the largest closure", &t, (rectangle){0, 0, 127, 127}, 0, 3);
+    memset(cells, 1, sizeof cells);
+    pack(cells, MOST_CELLS, wanted);
     working("the largest closure", &t, open, sizeof open, sizeof open, 0, wanted);
     strike("the last cell", &t, 0, 0);
-    strike("the largest closure", &t, 2, 0);
+    strike("the largest closure", &t, 3, 0);
 }
 
 /* Tables that no calls have made. A slot is free where it has 0 columns, whatever its other numbers are; a held one
@@ -188,7 +240,7 @@ static void any_numbers(void)
 {
     const rectangle cell = {1, 0, 1, 1};
     table t = {3, 2, {MOST, MOST, 0, MOST, 7, 7, 0, 7}};
-    write_map("free slots that hold numbers", &t, base);
+    write_map("free slots that hold numbers", &t, base_cells);
     strike("a free slot that holds numbers", &t, 0, LURFANZI_SLOT_EMPTY);
     post("a free slot that holds numbers", &t, cell, 0, 0);
     post("the next of them", &t, cell, 0, 1);
@@ -199,16 +251,16 @@ static void any_numbers(void)
     write_map("closures that leave the floor", &t, (const uint8_t[]){0, 1, 0, 0, 1, 1});
     strike("a closure without rows", &t, 0, 0);
     strike("a closure that leaves the floor", &t, 2, 0);
-    write_map("the part of one on the floor", &t, base);
+    write_map("the part of one on the floor", &t, base_cells);
     post("the slots that were struck", &t, cell, 0, 0);
     post("the slots that were struck", &t, cell, 0, 2);
 
     /* Right of the floor, below it, and with sums of 2^32 and more. */
     t = (table){3, 2, {3, 0, 1, 2, 0, 2, 3, 1, MOST, 0, 2, 2, 0, MOST, 3, MOST, HALF, 0, HALF, 2}};
-    write_map("closures off the floor", &t, base);
+    write_map("closures off the floor", &t, base_cells);
 
     memset(t.slots, 0xFF, sizeof t.slots);
-    write_map("all ones", &t, base);
+    write_map("all ones", &t, base_cells);
     post("all ones", &t, cell, LURFANZI_SLOTS_FULL, 0);
     for (uint32_t slot = 0; slot < 16; slot++) {
         strike("all ones", &t, slot, 0);
@@ -226,6 +278,7 @@ int main(void)
     setbuf(stdout, NULL); /* so that a crash loses no line */
     three_by_two();
     refused_maps();
+    every_length();
     bad_sides();
     largest_floor();
     any_numbers();

@@ -18,12 +18,13 @@ _Static_assert(sizeof(lurfanzi_thin_result) == 16, "size of the thinning's resul
 _Static_assert(offsetof(lurfanzi_thin_result, kept) == 0, "place of kept");
 _Static_assert(offsetof(lurfanzi_thin_result, answer) == 8, "place of the thinning's answer");
 _Static_assert(LURFANZI_OK == 0 && LURFANZI_BAD_SIZE == 1 && LURFANZI_BAD_MAP_LENGTH == 2, "answers 0 to 2");
-_Static_assert(LURFANZI_BAD_MAP_BYTE == 3 && LURFANZI_BAD_NEIGHBOURHOOD == 4, "answers 3 and 4");
+_Static_assert(LURFANZI_UNUSED_BIT == 3 && LURFANZI_BAD_NEIGHBOURHOOD == 4, "answers 3 and 4");
 _Static_assert(LURFANZI_BAD_END == 5, "answer 5");
 _Static_assert(LURFANZI_BAD_SLICE_LENGTH == 6 && LURFANZI_NO_ROUTE == 7 && LURFANZI_TOO_MANY == 8, "answers 6 to 8");
 _Static_assert(LURFANZI_FALSE_SHEET == 9 && LURFANZI_NOT_JOINED == 10, "answers 9 and 10");
 _Static_assert(LURFANZI_PINCHED_END == 11, "answer 11");
 _Static_assert(LURFANZI_UNREACHABLE == 4294967295, "the cost of no walk");
+_Static_assert(LURFANZI_INTERFACE == 2, "maps have a bit to a cell");
 
 /* A job for planner or checker: every number of the call, and the sheet's slices. */
 enum { D, E, F, BACK, ROUTE, WORK, SLICES };
@@ -46,7 +47,7 @@ static size_t vertices(uint32_t width, uint32_t height)
 /* A job whose slices have the right lengths. */
 static job make_job(uint32_t width, uint32_t height, const uint8_t *map, uint32_t neighbourhood, uint32_t a, uint32_t b)
 {
-    job j = {width, height, neighbourhood, a, b, map, (size_t)width * height, {0}, 0};
+    job j = {width, height, neighbourhood, a, b, map, map_length(width, height), {0}, 0};
     for (int k = 0; k < SLICES; k++) j.length[k] = vertices(width, height) * (k == WORK ? 4 : 1);
     return j;
 }
@@ -133,8 +134,12 @@ static int is_pinch(const job *j, uint32_t v)
 {
     const uint32_t x = v % (j->width + 1), y = v / (j->width + 1);
     if (x == 0 || x == j->width || y == 0 || y == j->height) return 0;
-    const uint8_t *above = j->map + (y - 1) * j->width + x, *below = above + j->width;
-    return above[-1] == below[0] && above[0] == below[-1] && above[0] != below[0];
+    int blocked[4];
+    for (uint32_t k = 0; k < 4; k++) {
+        const uint32_t c = x - 1 + k % 2 + (y - 1 + k / 2) * j->width;
+        blocked[k] = j->map[c / 8] >> c % 8 & 1;
+    }
+    return blocked[0] == blocked[3] && blocked[1] == blocked[2] && blocked[0] != blocked[1];
 }
 
 /* What the costs answer where the whole job has this answer: they know neither b nor the other slices. */
@@ -229,7 +234,8 @@ static void expect_thin(const char *where, const trail *t, uint8_t wanted)
 
 enum { PLACES = 9 };
 
-/* A floor with its whole sheet. A number that the floor's text leaves out follows from the costs and the counts. */
+/* A floor with its whole sheet. Its map is one byte, in which cell c counts 2^c; those after it are not the map's. A
+ * number that the floor's text leaves out follows from the costs and the counts. */
 typedef struct {
     const char *name;
     uint32_t width, height;
@@ -253,22 +259,22 @@ static const worked floors[] = {
      3, {0, 1, 3}, 2, {0, 2}},
     {"floor c", 1, 1, {1}, 8, 0, 3, 7, 0, 0, {0, M, M, M}, {0}, {0}, {0}, 0, {0}, 0, {0}},
     {"floor d", 1, 1, {1}, 8, 0, 0, 0, 0, 1, {0, M, M, M}, {0, M, M, M}, {1}, {1}, 1, {0}, 1, {0}},
-    {"floor e", 2, 1, {0, 0}, 8, 0, 5, 0, 985, 2, {0, 408, 816, 408, 577, 985}, {985, 577, 408, 816, 408, 0},
+    {"floor e", 2, 1, {0}, 8, 0, 5, 0, 985, 2, {0, 408, 816, 408, 577, 985}, {985, 577, 408, 816, 408, 0},
      {1, 1, 0, 0, 1, 2}, {2, 1, 0, 0, 1, 1}, 3, {0, 1, 5}, 2, {0, 2}},
-    {"floor f", 2, 1, {0, 1}, 8, 0, 5, 7, 0, 0, {0, 408, M, 408, 577, M}, {0}, {0}, {0}, 0, {0}, 0, {0}},
-    {"floor g", 2, 2, {1, 0, 0, 1}, 8, 2, 6, 7, 0, 0, {M, 408, 0, M, M, 408, M, M, M}, {0}, {0}, {0}, 0, {0}, 0, {0}},
-    {"floor h", 2, 2, {0, 0, 0, 0}, 4, 0, 8, 0, 1632, 6, {0, 408, 816, 408, 816, 1224, 816, 1224, 1632},
+    {"floor f", 2, 1, {2}, 8, 0, 5, 7, 0, 0, {0, 408, M, 408, 577, M}, {0}, {0}, {0}, 0, {0}, 0, {0}},
+    {"floor g", 2, 2, {9}, 8, 2, 6, 7, 0, 0, {M, 408, 0, M, M, 408, M, M, M}, {0}, {0}, {0}, 0, {0}, 0, {0}},
+    {"floor h", 2, 2, {0}, 4, 0, 8, 0, 1632, 6, {0, 408, 816, 408, 816, 1224, 816, 1224, 1632},
      {1632, 1224, 816, 1224, 816, 408, 816, 408, 0}, {1, 1, 1, 1, 2, 3, 1, 3, 6}, {6, 3, 1, 3, 2, 1, 1, 1, 1},
      5, {0, 1, 4, 5, 8}, 2, {0, 4}},
     /* Not of the rules' letters: walked by f alone, the route would go from 1 to 5, where f is 2, and not to 2, where
      * it is 1; the traversal counts are 2 at both. */
-    {"three cells in a row", 3, 1, {0, 0, 0}, 4, 0, 7, 0, 1632, 4, {0, 408, 816, 1224, 408, 816, 1224, 1632},
+    {"three cells in a row", 3, 1, {0}, 4, 0, 7, 0, 1632, 4, {0, 408, 816, 1224, 408, 816, 1224, 1632},
      {1632, 1224, 816, 408, 1224, 816, 408, 0}, {1, 1, 1, 1, 1, 2, 3, 4}, {4, 3, 2, 1, 1, 1, 1, 1},
      5, {0, 1, 2, 6, 7}, 2, {0, 4}},
     /* Floor g within its cell 1: vertex 4 is no way round. */
-    {"round the pinch", 2, 2, {1, 0, 0, 1}, 4, 1, 5, 0, 816, 1, {M, 0, 408, M, M, 816, M, M, M},
+    {"round the pinch", 2, 2, {9}, 4, 1, 5, 0, 816, 1, {M, 0, 408, M, M, 816, M, M, M},
      {M, 816, 408, M, M, 0, M, M, M}, {0, 1, 1, 0, 0, 1}, {0, 1, 1, 0, 0, 1}, 3, {1, 2, 5}, 2, {0, 2}},
-    {"floor g mirrored", 2, 2, {0, 1, 1, 0}, 8, 0, 8, 7, 0, 0, {0, 408, M, 408, M, M, M, M, M}, {0}, {0}, {0},
+    {"floor g mirrored", 2, 2, {6}, 8, 0, 8, 7, 0, 0, {0, 408, M, 408, M, M, M, M, M}, {0}, {0}, {0},
      0, {0}, 0, {0}},
 };
 
@@ -398,7 +404,7 @@ static void check_worked(const worked *w)
 static trail trail_of(const worked *w)
 {
     const size_t v = vertices(w->width, w->height);
-    return (trail){w->width, w->height, w->map, (size_t)w->width * w->height, w->route, v, v, w->points};
+    return (trail){w->width, w->height, w->map, map_length(w->width, w->height), w->route, v, v, w->points};
 }
 
 static void thin_worked(const worked *w)
@@ -445,7 +451,7 @@ static void expect_zero_count(const char *where, const planned *p, int slice, si
 
 static void floor_j(void)
 {
-    static const uint8_t map[34 * 34];
+    static const uint8_t map[(34 * 34 + 7) / 8];
     job fits = make_job(33, 34, map, 4, 0, 34 * 35 - 1);
     planned p = plan("floor j, 33 by 34", &fits, 0xFF);
     expect_answer("floor j, 33 by 34", p.result.answer, 0);
@@ -529,7 +535,7 @@ static void every_list_of_costs(void)
     }
 }
 
-static const uint8_t largest[127 * 127 + 1];
+static const uint8_t largest[MOST_BYTES];
 
 /* Floor k: the largest floor, open. */
 static void floor_k(void)
@@ -588,15 +594,13 @@ static void limits_of_numbers(void)
     for (size_t length = 0; length <= 4; length++) {
         job j = job_of(e_floor);
         j.map_length = length;
-        if (length != 2) expect_refused("a bad map length", &j, LURFANZI_BAD_MAP_LENGTH);
+        if (length != 1) expect_refused("a bad map length", &j, LURFANZI_BAD_MAP_LENGTH);
     }
-    for (int cell = 0; cell < 2; cell++)
-        for (int byte = 2; byte < 256; byte++) {
-            uint8_t map[2] = {0, 0};
-            map[cell] = (uint8_t)byte;
-            job j = make_job(2, 1, map, 8, 0, 5);
-            expect_refused("a bad map byte", &j, LURFANZI_BAD_MAP_BYTE);
-        }
+    for (int byte = 4; byte < 256; byte++) {
+        const uint8_t map[1] = {(uint8_t)byte};
+        job j = make_job(2, 1, map, 8, 0, 5);
+        expect_refused("an unused bit", &j, LURFANZI_UNUSED_BIT);
+    }
     const uint32_t neighbourhoods[] = {0, 1, 2, 3, 5, 6, 7, 9, 12, 16, 260, 264, 65540, 4294967295u};
     for (size_t k = 0; k < sizeof neighbourhoods / sizeof neighbourhoods[0]; k++) {
         job j = job_of(e_floor);
@@ -620,6 +624,45 @@ static void limits_of_numbers(void)
     job back = job_of(e_floor);
     back.a = 5, back.b = 0;
     expect_plan("the last vertex as first end", &back, 0);
+}
+
+/* The thinning of vertex 0 alone answers so for the map of a job. */
+static void expect_thin_map(const char *where, const job *j, uint8_t wanted)
+{
+    static const uint16_t first[1] = {0};
+    const trail t = {j->width, j->height, j->map, j->map_length, first, 1, 1, 1};
+    expect_answer(where, thin(where, &t, NULL).answer, wanted);
+}
+
+/* Floors with every number of unused bits: the open map and the one with every cell's bit set are taken; each unused
+ * bit alone, and lengths off by one, are refused. From vertex 0 to itself. */
+static void limits_of_maps(void)
+{
+    static uint8_t open[MOST_BYTES + 1], all[MOST_BYTES + 1];
+    for (size_t k = 0; k < ANY_SIDES; k++) {
+        const uint32_t w = any_sides[k].width, h = any_sides[k].height;
+        const size_t length = map_length(w, h), last = length - 1;
+        const unsigned unused = first_unused(any_sides[k]);
+        memset(all, 0xFF, sizeof all);
+        all[last] = (uint8_t)(0xFF >> (8 - unused));
+        uint8_t *const maps[2] = {open, all};
+        for (int m = 0; m < 2; m++) {
+            job j = make_job(w, h, maps[m], 8, 0, 0);
+            expect_plan("a good map", &j, 0);
+            expect_answer("a good map", check("a good map", &j, anything), LURFANZI_FALSE_SHEET);
+            expect_thin_map("a good map", &j, 0);
+            for (unsigned bit = unused; bit < 8; bit++) {
+                maps[m][last] ^= (uint8_t)(1u << bit);
+                expect_refused("an unused bit", &j, LURFANZI_UNUSED_BIT);
+                expect_thin_map("an unused bit", &j, LURFANZI_UNUSED_BIT);
+                maps[m][last] ^= (uint8_t)(1u << bit);
+            }
+            for (j.map_length = length - 1; j.map_length <= length + 1; j.map_length += 2) {
+                expect_refused("a map of another length", &j, LURFANZI_BAD_MAP_LENGTH);
+                expect_thin_map("a map of another length", &j, LURFANZI_BAD_MAP_LENGTH);
+            }
+        }
+    }
 }
 
 /* Each slice one place short, one place long, empty, and longer by a number that a narrow type would lose. */
@@ -650,15 +693,15 @@ static void limits_of_slices(void)
 /* Of two faults the one that comes first in this order is answered. The job is on floor g, from 2 to 5. */
 static const uint8_t order[] = {1, 2, 3, 4, 5, LURFANZI_PINCHED_END, 6};
 enum { FAULTS = sizeof order };
-static const uint8_t touching[5] = {1, 0, 0, 1};
+static const uint8_t touching[2] = {9};
 
 /* Of the ends one is off the floor at 5, and the other the pinch at 11. */
 static void spoil(job *j, uint8_t fault, int turned)
 {
-    static const uint8_t bad_byte[5] = {1, 0, 2, 1};
+    static const uint8_t stray[2] = {9 | 16};
     if (fault == 1) j->height = 128;
-    if (fault == 2) j->map_length = 5;
-    if (fault == 3) j->map = bad_byte;
+    if (fault == 2) j->map_length = 2;
+    if (fault == 3) j->map = stray;
     if (fault == 4) j->neighbourhood = 6;
     if (fault == 5) *(turned ? &j->a : &j->b) = 9;
     if (fault == LURFANZI_PINCHED_END) *(turned ? &j->b : &j->a) = 4;
@@ -731,7 +774,7 @@ static void pinched_ends(void)
         expect_refused("a pinched end, and one off the floor", &j, LURFANZI_BAD_END);
     }
     const worked alone = {
-        "the pinch alone", 2, 2, {1, 0, 0, 1}, 8, 4, 4, 0, 0, 1, {M, M, M, M, 0, M, M, M, M},
+        "the pinch alone", 2, 2, {9}, 8, 4, 4, 0, 0, 1, {M, M, M, M, 0, M, M, M, M},
         {M, M, M, M, 0, M, M, M, M}, {0, 0, 0, 0, 1}, {0, 0, 0, 0, 1}, 1, {4}, 1, {0}};
     const void *const sheet[5] = {alone.d, alone.e, alone.f, alone.back, alone.route};
     job j = job_of(&alone);
@@ -747,7 +790,7 @@ static void pinched_ends(void)
 typedef struct {
     const char *name;
     uint32_t side;
-    uint8_t map[16];
+    uint8_t map[2];
     size_t places, n;
     uint16_t list[7];
     size_t kept;
@@ -766,19 +809,19 @@ static const thinned lists[] = {
     {"one vertex twice", 1, {1}, 2, 2, {0, 0}, 2, {0, 1}},
     {"the first of two", 1, {0}, 2, 1, {3, 0}, 1, {0}},
     {"V past n", 1, {0}, 2, 1, {0, 4}, 1, {0}},
-    {"one pinch", 2, {1, 0, 0, 1}, 1, 1, {4}, 1, {0}},
-    {"a pinch three times", 2, {1, 0, 0, 1}, 4, 3, {4, 4, 4, 5}, 2, {0, 2}},
-    /* 4 by 4 with cells (1, 1) and (2, 2) blocked: from (3, 1) to (1, 3), vertices 8 and 16, the segment passes the
-     * pinch (2, 2). Vertex 18, at (3, 3), is beside both cells. */
-    {"round a pinch", 4, {0, 0, 0, 0, 0, 1, 0, 0, 0, 0, 1}, 3, 3, {8, 18, 16}, 3, {0, 1, 2}},
-    {"round a pinch and back", 4, {0, 0, 0, 0, 0, 1, 0, 0, 0, 0, 1}, 5, 5, {16, 18, 8, 9, 4}, 3, {0, 1, 4}},
+    {"one pinch", 2, {9}, 1, 1, {4}, 1, {0}},
+    {"a pinch three times", 2, {9}, 4, 3, {4, 4, 4, 5}, 2, {0, 2}},
+    /* 4 by 4 with cells (1, 1) and (2, 2), 5 and 10, blocked: from (3, 1) to (1, 3), vertices 8 and 16, the segment
+     * passes the pinch (2, 2). Vertex 18, at (3, 3), is beside both cells. */
+    {"round a pinch", 4, {1 << 5, 1 << (10 - 8)}, 3, 3, {8, 18, 16}, 3, {0, 1, 2}},
+    {"round a pinch and back", 4, {1 << 5, 1 << (10 - 8)}, 5, 5, {16, 18, 8, 9, 4}, 3, {0, 1, 4}},
 };
 
 static void thinned_lists(void)
 {
     for (size_t k = 0; k < sizeof lists / sizeof lists[0]; k++) {
         const thinned *l = &lists[k];
-        const trail t = {l->side, l->side, l->map, (size_t)l->side * l->side, l->list, l->places, l->places, l->n};
+        const trail t = {l->side, l->side, l->map, map_length(l->side, l->side), l->list, l->places, l->places, l->n};
         uint16_t kept[7];
         lurfanzi_thin_result r = thin(l->name, &t, kept);
         expect_answer(l->name, r.answer, 0);
@@ -792,8 +835,8 @@ static void limits_of_thinning(void)
 {
     static const uint16_t zeros[16385];
     const uint16_t list[7] = {0, 1, 5, 4, 65535, 6, 65535};
-    const uint8_t open[2] = {0, 0}, wall[2] = {0, 1}, bad[2] = {0, 2};
-    const trail good = {2, 1, open, 2, list, 7, 7, 3};
+    const uint8_t open[2] = {0}, wall[1] = {2}, bad[1] = {4};
+    const trail good = {2, 1, open, 1, list, 7, 7, 3};
     uint16_t kept[7];
     trail t;
 
@@ -811,7 +854,7 @@ static void limits_of_thinning(void)
     }
     /* The slice that is used whole, with n = V places. */
     const uint16_t whole[6] = {0, 1, 2, 5, 4, 3};
-    t = (trail){2, 1, open, 2, whole, 6, 6, 6};
+    t = (trail){2, 1, open, 1, whole, 6, 6, 6};
     expect_thin("n as long as the list", &t, 0);
     const size_t counts[] = {0, 7, 65536 + 3, (size_t)4294967296 + 3, SIZE_MAX};
     for (size_t k = 0; k < sizeof counts / sizeof counts[0]; k++) {
@@ -821,17 +864,17 @@ static void limits_of_thinning(void)
     t = good, t.n = 5;
     expect_thin("the number 65535 in the list", &t, LURFANZI_NOT_JOINED);
     const uint16_t at_v[2] = {5, 6};
-    t = (trail){2, 1, open, 2, at_v, 2, 2, 2};
+    t = (trail){2, 1, open, 1, at_v, 2, 2, 2};
     expect_thin("V in the list", &t, LURFANZI_NOT_JOINED);
     const uint16_t apart[2] = {0, 5};
-    t = (trail){2, 1, wall, 2, apart, 2, 2, 2};
+    t = (trail){2, 1, wall, 1, apart, 2, 2, 2};
     expect_thin("two that do not see each other", &t, LURFANZI_NOT_JOINED);
     const uint16_t pinched[][3] = {{2, 6, 6}, {2, 4, 5}, {4, 2, 1}, {4, 4, 5}, {5, 4, 4}, {1, 7, 7}};
     for (size_t k = 0; k < sizeof pinched / sizeof pinched[0]; k++) {
-        t = (trail){2, 2, touching, 4, pinched[k], 3, 3, 3};
+        t = (trail){2, 2, touching, 1, pinched[k], 3, 3, 3};
         expect_thin("two with a pinch on the way", &t, LURFANZI_NOT_JOINED);
     }
-    t = (trail){2, 1, open, 2, NULL, 0, 0, 1};
+    t = (trail){2, 1, open, 1, NULL, 0, 0, 1};
     expect_thin("an empty list, with n = 1", &t, LURFANZI_NOT_JOINED);
 
     const uint32_t sizes[] = {0, 128, 257, 258, 4294967295u};
@@ -841,27 +884,29 @@ static void limits_of_thinning(void)
         t = good, t.height = sizes[k];
         expect_thin("a bad height", &t, LURFANZI_BAD_SIZE);
     }
-    t = good, t.map_length = 1;
+    t = good, t.map_length = 0;
     expect_thin("a short map", &t, LURFANZI_BAD_MAP_LENGTH);
+    t = good, t.map_length = 2;
+    expect_thin("a long map", &t, LURFANZI_BAD_MAP_LENGTH);
     t = good, t.map = bad;
-    expect_thin("a bad map byte", &t, LURFANZI_BAD_MAP_BYTE);
+    expect_thin("an unused bit", &t, LURFANZI_UNUSED_BIT);
     const size_t outputs[] = {0, 6, 8, 256 + 7, 65536 + 7};
     for (size_t k = 0; k < sizeof outputs / sizeof outputs[0]; k++) {
         t = good, t.out_length = outputs[k];
         expect_thin("an output of another length", &t, LURFANZI_BAD_SLICE_LENGTH);
     }
     static uint16_t longest[16384];
-    t = (trail){2, 1, open, 2, zeros, 16384, 16384, 16384};
+    t = (trail){2, 1, open, 1, zeros, 16384, 16384, 16384};
     lurfanzi_thin_result r = thin("the longest list", &t, longest);
     expect_answer("the longest list", r.answer, 0);
     expect("the longest list", "kept", r.kept, 2);
     for (size_t place = 0; place < 16384; place++)
         expect("the longest list", "a place", longest[place], place == 1 ? 16383 : 0);
-    t = (trail){2, 1, open, 2, zeros, 16385, 16385, 1};
+    t = (trail){2, 1, open, 1, zeros, 16385, 16385, 1};
     expect_thin("a list that is too long", &t, LURFANZI_BAD_SLICE_LENGTH);
-    t = (trail){2, 1, open, 2, NULL, 0, 0, 0};
+    t = (trail){2, 1, open, 1, NULL, 0, 0, 0};
     expect_thin("an empty list", &t, LURFANZI_NOT_JOINED);
-    t = (trail){2, 1, open, 2, NULL, 0, 1, 1};
+    t = (trail){2, 1, open, 1, NULL, 0, 1, 1};
     expect_thin("an empty list, with an output", &t, LURFANZI_BAD_SLICE_LENGTH);
     t = (trail){0, 0, NULL, 0, NULL, 0, 0, 0};
     expect_thin("nothing at all", &t, LURFANZI_BAD_SIZE);
@@ -869,22 +914,22 @@ static void limits_of_thinning(void)
 
 static void spoil_trail(trail *t, uint8_t fault)
 {
-    static const uint8_t bad_byte[3] = {0, 2, 0};
+    static const uint8_t stray[2] = {4};
     if (fault == 1) t->width = 0;
-    if (fault == 2) t->map_length = 3;
-    if (fault == 3) t->map = bad_byte;
+    if (fault == 2) t->map_length = 2;
+    if (fault == 3) t->map = stray;
     if (fault == 6) t->out_length = 5;
     if (fault == 10) t->n = 5;
 }
 
 static void order_of_thinning_refusals(void)
 {
-    static const uint8_t open[3];
+    static const uint8_t open[2];
     static const uint16_t list[4] = {0, 1, 5};
     const uint8_t faults[] = {1, 2, 3, 6, 10};
     for (size_t first = 0; first < 5; first++)
         for (size_t second = first; second < 5; second++) {
-            trail t = {2, 1, open, 2, list, 4, 4, 3};
+            trail t = {2, 1, open, 1, list, 4, 4, 3};
             spoil_trail(&t, faults[second]);
             spoil_trail(&t, faults[first]);
             expect_thin("two faults of a list", &t, faults[first]);
@@ -901,6 +946,7 @@ int main(void)
     floor_j();
     floor_k();
     limits_of_numbers();
+    limits_of_maps();
     limits_of_slices();
     order_of_refusals();
     order_of_costs_refusals();

@@ -1,5 +1,5 @@
-/* What the C tests share: failures that are counted, and slices that are lent between guard bytes. After a call the
- * guards and all that the call may not write are compared byte for byte with what they were.
+/* What the C tests share: failures that are counted, packed maps, and slices that are lent between guard bytes. After a
+ * call the guards and all that the call may not write are compared byte for byte with what they were.
  */
 #ifndef LENT_H
 #define LENT_H
@@ -30,6 +30,39 @@ static inline void expect_answer(const char *where, uint8_t answer, uint8_t want
 {
     expect(where, "the answer", answer, wanted);
     if (answer == wanted) provoked[wanted]++;
+}
+
+/* A map has a bit to a cell; the largest has 2,017 bytes, with 7 unused bits. */
+enum { MOST_CELLS = 127 * 127, MOST_BYTES = 2017 };
+
+static inline size_t map_length(uint32_t width, uint32_t height)
+{
+    return ((size_t)width * height + 7) / 8;
+}
+
+/* Packs cells that are written with a byte each: cell c is bit c % 8, from the low end, of byte c / 8. */
+static inline void pack(const uint8_t *cells, size_t count, uint8_t *map)
+{
+    memset(map, 0, (count + 7) / 8);
+    for (size_t c = 0; c < count; c++) map[c / 8] |= (uint8_t)(cells[c] << c % 8);
+}
+
+/* Floors with every number of unused bits, of one byte and of more. */
+typedef struct {
+    uint32_t width, height;
+} sides;
+
+static const sides any_sides[] = {
+    {1, 1}, {2, 1}, {1, 3}, {2, 2}, {5, 1}, {3, 2}, {7, 1}, {4, 2}, {3, 3}, {5, 2}, {11, 1}, {4, 3},
+    {13, 1}, {7, 2}, {5, 3}, {4, 4}, {3, 11}, {127, 2}, {127, 127},
+};
+enum { ANY_SIDES = sizeof any_sides / sizeof any_sides[0] };
+
+/* The first unused bit of the last byte, 8 where there is none. */
+static inline unsigned first_unused(sides s)
+{
+    const unsigned left = s.width * s.height % 8;
+    return left == 0 ? 8 : left;
 }
 
 /* A slice lent to a call: its bytes between two guards, a copy of both guards and bytes, and the pointer that is handed

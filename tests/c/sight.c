@@ -1,5 +1,6 @@
 /* The sight question and what is in the way, from C, with the map between guard bytes. The expected answers are read
- * off the rules: floors f, g, i and l are worked there by hand.
+ * off the rules: floors f, g, i and l are worked there by hand. Cells are written with a byte each and packed for the
+ * call; a map that is to be refused is written as it is lent.
  */
 #include "lent.h"
 #include "lurfanzi.h"
@@ -28,34 +29,41 @@ static void expect_obstacle(
     give_back(&m);
 }
 
-static void expect_clear(const char *where, uint32_t w, uint32_t h, const uint8_t *map, uint32_t a, uint32_t b)
+/* The same for cells, from a to b and from b to a. */
+static void expect_both_ways(
+    const char *where, uint32_t w, uint32_t h, const uint8_t *cells, uint32_t a, uint32_t b,
+    uint8_t answer, uint32_t from_a, uint32_t from_b)
 {
-    expect_obstacle(where, w, h, map, (size_t)w * h, a, b, LURFANZI_SIGHT_YES, 0);
-    expect_obstacle(where, w, h, map, (size_t)w * h, b, a, LURFANZI_SIGHT_YES, 0);
+    uint8_t map[MOST_BYTES];
+    pack(cells, (size_t)w * h, map);
+    expect_obstacle(where, w, h, map, map_length(w, h), a, b, answer, from_a);
+    expect_obstacle(where, w, h, map, map_length(w, h), b, a, answer, from_b);
+}
+
+static void expect_clear(const char *where, uint32_t w, uint32_t h, const uint8_t *cells, uint32_t a, uint32_t b)
+{
+    expect_both_ways(where, w, h, cells, a, b, LURFANZI_SIGHT_YES, 0, 0);
 }
 
 static void expect_cells(
-    const char *where, uint32_t w, uint32_t h, const uint8_t *map, uint32_t a, uint32_t b,
+    const char *where, uint32_t w, uint32_t h, const uint8_t *cells, uint32_t a, uint32_t b,
     uint32_t from_a, uint32_t from_b)
 {
-    expect_obstacle(where, w, h, map, (size_t)w * h, a, b, LURFANZI_BLOCKED_CELL, from_a);
-    expect_obstacle(where, w, h, map, (size_t)w * h, b, a, LURFANZI_BLOCKED_CELL, from_b);
+    expect_both_ways(where, w, h, cells, a, b, LURFANZI_BLOCKED_CELL, from_a, from_b);
 }
 
 static void expect_steps(
-    const char *where, uint32_t w, uint32_t h, const uint8_t *map, uint32_t a, uint32_t b,
+    const char *where, uint32_t w, uint32_t h, const uint8_t *cells, uint32_t a, uint32_t b,
     uint32_t from_a, uint32_t from_b)
 {
-    expect_obstacle(where, w, h, map, (size_t)w * h, a, b, LURFANZI_SHUT_STEP, from_a);
-    expect_obstacle(where, w, h, map, (size_t)w * h, b, a, LURFANZI_SHUT_STEP, from_b);
+    expect_both_ways(where, w, h, cells, a, b, LURFANZI_SHUT_STEP, from_a, from_b);
 }
 
 static void expect_pinches(
-    const char *where, uint32_t w, uint32_t h, const uint8_t *map, uint32_t a, uint32_t b,
+    const char *where, uint32_t w, uint32_t h, const uint8_t *cells, uint32_t a, uint32_t b,
     uint32_t from_a, uint32_t from_b)
 {
-    expect_obstacle(where, w, h, map, (size_t)w * h, a, b, LURFANZI_PINCH, from_a);
-    expect_obstacle(where, w, h, map, (size_t)w * h, b, a, LURFANZI_PINCH, from_b);
+    expect_both_ways(where, w, h, cells, a, b, LURFANZI_PINCH, from_a, from_b);
 }
 
 static void expect_refused(
@@ -203,35 +211,100 @@ static void shut_steps(void)
     expect_steps("two shut steps of a column line", 2, 4, upright, 1, 13, 4, 13);
 }
 
+/* Each bit of a map alone: it is the cell of its number, in the way across itself and across no other. */
+static void every_bit(void)
+{
+    for (size_t k = 0; k < ANY_SIDES; k++) {
+        const uint32_t w = any_sides[k].width, h = any_sides[k].height, cells = w * h;
+        const uint32_t step = cells > 300 ? 97 : 1; /* fewer of the largest */
+        for (uint32_t blocked = 0; blocked < cells; blocked += step) {
+            uint8_t map[MOST_BYTES] = {0};
+            map[blocked / 8] = (uint8_t)(1u << blocked % 8);
+            for (uint32_t c = 0; c < cells; c += step) {
+                const uint32_t corner = c + c / w, across = corner + w + 2;
+                const uint8_t answer = c == blocked ? LURFANZI_BLOCKED_CELL : LURFANZI_SIGHT_YES;
+                const uint32_t place = c == blocked ? c : 0;
+                expect_obstacle("one bit", w, h, map, map_length(w, h), corner, across, answer, place);
+            }
+        }
+    }
+}
+
+/* Refusal 3: each unused bit of the last byte, alone and on a map whose other bits are all set. */
+static void unused_bits(void)
+{
+    for (size_t k = 0; k < ANY_SIDES; k++) {
+        const uint32_t w = any_sides[k].width, h = any_sides[k].height, v = (w + 1) * (h + 1);
+        const size_t length = map_length(w, h), last = length - 1;
+        const unsigned unused = first_unused(any_sides[k]);
+        uint8_t none[MOST_BYTES] = {0}, all[MOST_BYTES];
+        memset(all, 0xFF, sizeof all);
+        all[last] = (uint8_t)(0xFF >> (8 - unused));
+        expect_obstacle("no bit set", w, h, none, length, 0, v - 1, LURFANZI_SIGHT_YES, 0);
+        expect_obstacle("every cell's bit set", w, h, all, length, 0, 0, LURFANZI_SIGHT_YES, 0);
+        for (unsigned bit = unused; bit < 8; bit++) {
+            const uint8_t set = (uint8_t)(1u << bit);
+            none[last] |= set, all[last] |= set;
+            expect_refused("an unused bit", w, h, none, length, 0, 0, LURFANZI_UNUSED_BIT);
+            expect_refused("an unused bit, and a bad end", w, h, none, length, v, 0, LURFANZI_UNUSED_BIT);
+            expect_refused("an unused bit beside all others", w, h, all, length, 0, v - 1, LURFANZI_UNUSED_BIT);
+            none[last] ^= set, all[last] ^= set;
+        }
+    }
+}
+
+/* Refusal 2: lengths off by one either way, with every bit of the map set; and a byte to a cell. */
+static void map_lengths(void)
+{
+    static uint8_t map[MOST_CELLS];
+    for (size_t k = 0; k < ANY_SIDES; k++) {
+        const uint32_t w = any_sides[k].width, h = any_sides[k].height, v = (w + 1) * (h + 1);
+        const size_t length = map_length(w, h), others[] = {0, length - 1, length + 1, (size_t)w * h, 256 + length};
+        for (int fill = 0; fill < 256; fill += 255) {
+            memset(map, fill, sizeof map);
+            for (size_t other = 0; other < 5; other++) {
+                if (others[other] == length) continue; /* one cell */
+                expect_refused("a bad map length", w, h, map, others[other], 0, 0, LURFANZI_BAD_MAP_LENGTH);
+                expect_refused("a bad length and end", w, h, map, others[other], v, 0, LURFANZI_BAD_MAP_LENGTH);
+            }
+        }
+    }
+}
+
 /* Floor l: sizes, map lengths and ends at their limits; numbers that would pass if cut down to 8 or 16 bits. */
 static void floor_l(void)
 {
-    static uint8_t map[127 * 127 + 1];
+    static uint8_t cells[MOST_CELLS], map[MOST_BYTES + 1];
     const uint8_t cell[1] = {0};
     const uint32_t sizes[] = {0, 128, 257, 65537, 4294967295u};
     for (size_t k = 0; k < sizeof sizes / sizeof sizes[0]; k++) {
         expect_refused("a bad width", sizes[k], 1, cell, 1, 0, 0, LURFANZI_BAD_SIZE);
         expect_refused("a bad height", 1, sizes[k], cell, 1, 0, 0, LURFANZI_BAD_SIZE);
     }
+    static uint8_t too_large[2048];
+    expect_refused("a map of 128 by 128", 128, 128, too_large, 2048, 0, 0, LURFANZI_BAD_SIZE);
     expect_refused("a null map on a bad size", 0, 0, NULL, 0, 0, 0, LURFANZI_BAD_SIZE);
     expect_refused("a null map of length 0", 1, 1, NULL, 0, 0, 0, LURFANZI_BAD_MAP_LENGTH);
-    expect_clear("the largest floor", 127, 127, map, 0, 16383);
-    expect_refused("one byte short", 127, 127, map, 127 * 127 - 1, 0, 16383, LURFANZI_BAD_MAP_LENGTH);
-    expect_refused("one byte more", 127, 127, map, 127 * 127 + 1, 0, 16383, LURFANZI_BAD_MAP_LENGTH);
-    map[127 * 127 - 1] = 2;
-    expect_refused("a byte above 1", 127, 127, map, 127 * 127, 0, 16384, LURFANZI_BAD_MAP_BYTE);
-    map[127 * 127 - 1] = 1;
-    expect_cells("the last cell of the largest floor", 127, 127, map, 0, 16383, 16128, 16128);
-    expect_steps("the last step of the largest floor", 127, 127, map, 127, 16383, 16255, 16383);
-    map[127 * 127 - 1] = 0;
+    expect_clear("the largest floor", 127, 127, cells, 0, 16383);
+    expect_refused("one byte short", 127, 127, map, 2016, 0, 16383, LURFANZI_BAD_MAP_LENGTH);
+    expect_refused("one byte more", 127, 127, map, 2018, 0, 16383, LURFANZI_BAD_MAP_LENGTH);
+    for (unsigned bit = 1; bit < 8; bit++) {
+        map[2016] = (uint8_t)(1u << bit);
+        expect_refused("an unused bit of the largest map", 127, 127, map, 2017, 0, 16384, LURFANZI_UNUSED_BIT);
+    }
+    map[2016] = 0;
+    cells[127 * 127 - 1] = 1;
+    expect_cells("the last cell of the largest floor", 127, 127, cells, 0, 16383, 16128, 16128);
+    expect_steps("the last step of the largest floor", 127, 127, cells, 127, 16383, 16255, 16383);
+    cells[127 * 127 - 1] = 0;
     /* Two cells that touch at (126, 126), beside the diagonal. */
-    map[125 * 127 + 126] = map[126 * 127 + 125] = 1;
-    expect_pinches("the last pinch of the largest floor", 127, 127, map, 0, 16383, 16254, 16254);
-    map[125 * 127 + 126] = map[126 * 127 + 125] = 0;
+    cells[125 * 127 + 126] = cells[126 * 127 + 125] = 1;
+    expect_pinches("the last pinch of the largest floor", 127, 127, cells, 0, 16383, 16254, 16254);
+    cells[125 * 127 + 126] = cells[126 * 127 + 125] = 0;
     const uint32_t ends[] = {16384, 65536, 65536 + 5, 4294967295u};
     for (size_t k = 0; k < sizeof ends / sizeof ends[0]; k++) {
-        expect_refused("a bad first end", 127, 127, map, 127 * 127, ends[k], 0, LURFANZI_BAD_END);
-        expect_refused("a bad second end", 127, 127, map, 127 * 127, 0, ends[k], LURFANZI_BAD_END);
+        expect_refused("a bad first end", 127, 127, map, 2017, ends[k], 0, LURFANZI_BAD_END);
+        expect_refused("a bad second end", 127, 127, map, 2017, 0, ends[k], LURFANZI_BAD_END);
     }
     expect_clear("the last vertex of 1 by 1", 1, 1, cell, 3, 0);
     expect_refused("V of 1 by 1", 1, 1, cell, 1, 4, 0, LURFANZI_BAD_END);
@@ -246,6 +319,9 @@ int main(void)
     four_cells();
     pinches();
     shut_steps();
+    every_bit();
+    unused_bits();
+    map_lengths();
     floor_l();
     const uint8_t answers[] = {
         0, 1, 2, 3, 5, LURFANZI_SIGHT_NO, LURFANZI_BLOCKED_CELL, LURFANZI_SHUT_STEP, LURFANZI_PINCH};

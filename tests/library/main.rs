@@ -152,11 +152,11 @@ fn answer<T>(result: Result<T, Refusal>) -> u8 {
 
 impl Driver {
     fn new() -> Driver {
-        let (v, longest) = (16_384, 16_392);
+        let (v, longest, longest_map) = (16_384, 16_392, 2_056);
         let slices = Slices { d: vec![0; v], e: vec![0; v], f: vec![0; v], back: vec![0; v], route: vec![0; v] };
         let ground = Ground { width: 0, height: 0, map: Vec::new() };
         let (work, list, out) = (vec![0; 4 * v], vec![0; longest], vec![0; longest]);
-        Driver { ground, slices, points: 0, work, list, out, slots: [0; 64], working: vec![0; longest] }
+        Driver { ground, slices, points: 0, work, list, out, slots: [0; 64], working: vec![0; longest_map] }
     }
 
     fn line(&mut self, record: &Record) -> io::Result<String> {

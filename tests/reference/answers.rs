@@ -1,8 +1,8 @@
 //! Runs a job stream and writes the expected text.
 
 use crate::closures::{Rectangle, Table};
-use crate::floor::Floor;
 use crate::format::{self, Damage, Digest, Record};
+use crate::packed::{self, PackedFloor};
 use crate::sheet::{self, Handed, Lent, Request, Solver};
 use crate::sight::{self, Obstacle};
 use crate::thin;
@@ -100,6 +100,8 @@ fn pairs_of(record: &Record) -> impl Iterator<Item = (u64, u64)> + '_ {
 }
 
 struct Runner {
+    /// The floor as it is handed in, and what the solver works on.
+    packed: PackedFloor,
     solver: Solver,
     buffers: Buffers,
 }
@@ -125,8 +127,13 @@ impl Runner {
 
     fn floor(&mut self, record: &Record) -> String {
         let (width, height) = (record.words[0], record.words[1]);
-        self.solver = Solver::new(Floor::new(width.into(), height.into(), record.payload.clone()));
+        self.take_floor(PackedFloor::new(width.into(), height.into(), record.payload.clone()));
         format!("floor {width} {height} {} {}", record.payload.len(), digest8(&record.payload))
+    }
+
+    fn take_floor(&mut self, packed: PackedFloor) {
+        self.solver = Solver::new(packed.floor());
+        self.packed = packed;
     }
 
     fn costs(&mut self, record: &Record) -> String {
@@ -243,7 +250,7 @@ impl Runner {
             Ok(Obstacle::Pinch(number)) => format!(" p{number}"),
             Err(refusal) => format!(" {refusal}"),
         };
-        format!("obstacle {}{}", digest8(&floor.cells), pairs_of(record).map(word).collect::<String>())
+        format!("obstacle {}{}", digest8(&self.packed.map), pairs_of(record).map(word).collect::<String>())
     }
 
     fn table(&mut self, record: &Record) -> String {
@@ -272,15 +279,15 @@ impl Runner {
         let at = &mut self.buffers;
         fill8(&mut at.working, record.words[1]);
         let working = &mut at.working[..record.word(0)];
-        let mut base = self.solver.floor.clone();
+        let mut base = self.packed.clone();
         if record.words[2] == 1 {
-            base.cells.clone_from(&record.payload);
+            base.map.clone_from(&record.payload);
         }
-        let written = at.table.working_map(&base, working);
-        let cells = working.to_vec();
-        let digests = (digest32(&at.table.numbers), digest8(&base.cells), digest8(&at.working));
+        let written = packed::working_map(&at.table, &base, working);
+        let map = working.to_vec();
+        let digests = (digest32(&at.table.numbers), digest8(&base.map), digest8(&at.working));
         if written.is_ok() && record.words[3] == 1 {
-            self.solver = Solver::new(Floor { cells, ..base });
+            self.take_floor(PackedFloor { map, ..base });
         }
         format!("working {} {} {} {}", written.err().unwrap_or(0), digests.0, digests.1, digests.2)
     }
@@ -288,7 +295,8 @@ impl Runner {
 
 /// The text for a whole stream, or None where a record is cut short.
 pub fn run(mut input: &[u8]) -> Option<String> {
-    let mut runner = Runner { solver: Solver::new(Floor::open(0, 0)), buffers: Buffers::new() };
+    let packed = PackedFloor::new(0, 0, Vec::new());
+    let mut runner = Runner { solver: Solver::new(packed.floor()), packed, buffers: Buffers::new() };
     let mut text = String::new();
     loop {
         let record = Record::read(&mut input)?;

@@ -2,26 +2,27 @@
 //! tables that hold any numbers.
 
 use crate::closures::{Rectangle, Table, NUMBERS, SLOTS};
-use crate::floor::{self, Floor};
+use crate::floor;
 use crate::format;
 use crate::jobs::Maker;
+use crate::packed::{self, PackedFloor};
 use crate::sheet::Solver;
 
 /// The base map of a working record: the floor's, or one of its own.
-enum Base {
+pub enum Base {
     Floor,
     Own(Vec<u8>),
 }
 
 /// Single records; the maker's table follows them.
 impl Maker {
-    fn table_record(&mut self, table: Table) {
+    pub fn table_record(&mut self, table: Table) {
         let bytes = table.numbers.iter().flat_map(|number| number.to_le_bytes()).collect();
         self.record(format::TABLE, &[], bytes);
         self.table = table;
     }
 
-    fn post_record(&mut self, r: Rectangle) {
+    pub fn post_record(&mut self, r: Rectangle) {
         self.record(format::POST, &[r.column, r.row, r.columns, r.rows], Vec::new());
         let floor = &self.solver.floor;
         let _ = self.table.post(floor.width, floor.height, r);
@@ -33,7 +34,7 @@ impl Maker {
         let _ = self.table.strike(floor.width, floor.height, slot);
     }
 
-    fn working_record(&mut self, base: Base, length: usize, taken: bool) {
+    pub fn working_record(&mut self, base: Base, length: usize, taken: bool) {
         let seed = self.random.next() as u32;
         let (own, bytes) = match base {
             Base::Floor => (0, Vec::new()),
@@ -153,16 +154,17 @@ impl Maker {
 
     /// Working slices and base maps with faults, one or two at a time.
     fn bad_working(&mut self) {
-        let cells = self.solver.floor.cells.clone();
-        let length = cells.len();
+        let map = self.map.clone();
+        let length = map.len();
         let other = self.random.pick(&[0, length - 1, length + 1, 2 * length]).min(format::WORKING_ROOM);
         self.working_record(Base::Floor, other, true);
-        let mut bad_byte = cells.clone();
-        let place = self.random.index(length);
-        bad_byte[place] = self.random.within(2, 255) as u8;
+        // One unused bit, or all from it on. Where the map has none, the last cell is blocked.
+        let mut stray = map.clone();
+        let place = 7 - self.random.below(self.unused_bits().max(1));
+        stray[length - 1] |= if self.random.percent(50) { 1 << place } else { u8::MAX << place };
         let slice = self.random.pick(&[length, other]);
-        self.working_record(Base::Own(bad_byte.clone()), slice, true);
-        let mut bad_length = if self.random.percent(50) { cells } else { bad_byte };
+        self.working_record(Base::Own(stray.clone()), slice, false);
+        let mut bad_length = if self.random.percent(50) { map } else { stray };
         if self.random.percent(50) {
             bad_length.push(0);
         } else {
@@ -173,7 +175,7 @@ impl Maker {
     }
 
     pub fn closures_on_good_floor(&mut self) {
-        let length = self.solver.floor.cells.len();
+        let length = self.map.len();
         self.table_record(Table::empty());
         self.working_record(Base::Floor, length, false);
         self.any_calls(if self.is_large() { 8 } else { 16 });
@@ -200,12 +202,14 @@ impl Maker {
             let inner = self.inner_rectangle(width, height);
             self.post_record(Rectangle { columns: inner.columns.min(3), rows: inner.rows.min(2), ..inner });
         }
-        let base = self.solver.floor.clone();
-        let mut cells = vec![0; base.cells.len()];
-        self.working_record(Base::Floor, cells.len(), true);
-        let written = self.table.working_map(&base, &mut cells);
+        let base = PackedFloor::of(&self.solver.floor);
+        let mut map = vec![0; base.map.len()];
+        let written = packed::working_map(&self.table, &base, &mut map);
         assert_eq!(written, Ok(()), "the floor is good");
-        self.solver = Solver::new(Floor { cells, ..base });
+        self.working_record(Base::Floor, map.len(), true);
+        let floor = PackedFloor { map, ..base };
+        self.solver = Solver::new(floor.floor());
+        self.map = floor.map;
         self.sight_pairs(8);
         let request = self.any_request();
         self.job(request, 2);
@@ -217,15 +221,16 @@ impl Maker {
         let pairs = self.small_pairs();
         self.pairs_record(format::OBSTACLE, &pairs);
         let floor = &self.solver.floor;
-        let length = floor.cells.len();
-        let cells = floor.width.saturating_mul(floor.height).min(format::MAP_ROOM as u64) as usize;
+        let length = self.map.len();
+        let cells = floor.width.saturating_mul(floor.height).min(8 * format::MAP_ROOM as u64) as usize;
+        let blocked = packed::pack(&vec![1; cells]);
         self.table_record(Table::empty());
         self.any_calls(4);
         self.working_record(Base::Floor, length, true);
         let filled = self.any_table();
         self.table_record(filled);
         self.any_calls(4);
-        self.working_record(Base::Own(vec![1; cells]), cells, false);
+        self.working_record(Base::Own(blocked.clone()), blocked.len(), false);
         self.working_record(Base::Own(Vec::new()), 0, true);
     }
 }

@@ -91,20 +91,14 @@ impl Table {
         Ok(())
     }
 
-    /// Writes the base map with the closures on it. Refusals 1, 2, 3 and 6 leave
-    /// the working slice.
-    pub fn working_map(&self, base: &Floor, working: &mut [u8]) -> Result<(), u8> {
+    /// The cells of a base map with the closures on it, or refusal 1, 2 or 3.
+    pub fn working_cells(&self, base: &Floor) -> Result<Vec<u8>, u8> {
         if let Some(fault) = base.shape_fault() {
             return Err(fault);
         }
-        if working.len() != base.cells.len() {
-            return Err(6);
-        }
         let held = self.held();
-        for (place, (i, j)) in working.iter_mut().zip(cells(base.width, base.height)) {
-            let closed = held.values().any(|rectangle| rectangle.has(i, j));
-            *place = u8::from(closed || base.is_blocked(i as i64, j as i64));
-        }
-        Ok(())
+        let closed = |i: u64, j: u64| held.values().any(|rectangle| rectangle.has(i, j));
+        let blocked = |(i, j): (u64, u64)| u8::from(closed(i, j) || base.is_blocked(i as i64, j as i64));
+        Ok(cells(base.width, base.height).map(blocked).collect())
     }
 }

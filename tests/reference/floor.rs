@@ -1,4 +1,4 @@
-//! The floor: cells row by row, vertices at the cell corners.
+//! The floor: cells row by row, a byte each, 0 open and 1 blocked; vertices at the cell corners.
 
 /// Whether refusal 1 does not apply.
 pub fn sides_are_good(width: u64, height: u64) -> bool {
@@ -10,19 +10,25 @@ pub struct Floor {
     pub width: u64,
     pub height: u64,
     pub cells: Vec<u8>,
+    /// Refusal 1, 2 or 3 of the map that it was read from.
+    pub fault: Option<u8>,
 }
 
 impl Floor {
     pub fn new(width: u64, height: u64, cells: Vec<u8>) -> Floor {
-        Floor { width, height, cells }
+        Floor { width, height, cells, fault: None }
     }
 
     pub fn open(width: u64, height: u64) -> Floor {
         Floor::new(width, height, vec![0; (width * height) as usize])
     }
 
-    /// Refusal 1, 2 or 3, the first that applies.
+    /// Refusal 1, 2 or 3, the first that applies: that of its map; of cells that came without one, as the program's
+    /// do, 3 for one above 1.
     pub fn shape_fault(&self) -> Option<u8> {
+        if self.fault.is_some() {
+            return self.fault;
+        }
         if !sides_are_good(self.width, self.height) {
             return Some(1);
         }

@@ -17,11 +17,11 @@ pub const FINISH: u8 = 12;
 pub const WORDS: usize = 14;
 pub const HEADER_SIZE: usize = 64;
 pub const PAYLOAD_ROOM: usize = 16_384;
-pub const MAP_ROOM: usize = 16_129;
+pub const MAP_ROOM: usize = 2_056;
 pub const SHEET_ROOM: usize = 16_384;
 pub const WORK_ROOM: usize = 65_536;
 pub const LIST_ROOM: usize = 16_392;
-pub const WORKING_ROOM: usize = 16_392;
+pub const WORKING_ROOM: usize = 2_056;
 pub const MOST_DAMAGES: usize = 4;
 
 #[derive(Clone, Debug)]

@@ -7,6 +7,7 @@ use crate::floor::Floor;
 use crate::format::{self, Damage, Record};
 use crate::graph::{self, Distances};
 use crate::layouts::{self, Kind, KINDS};
+use crate::packed::PackedFloor;
 use crate::random::Random;
 use crate::sheet::{Request, Sheet, Solver, Truth, NO_WALK};
 use crate::{sight, stream};
@@ -30,26 +31,32 @@ pub struct Maker {
     given: Random,
     /// For pinches: their records change nothing of the others.
     corners: Random,
+    /// For faults of maps: their records change nothing of the others.
+    bits: Random,
     /// Whether numbers may pass 8 bits (sides, neighbourhood) and 16 bits (ends, n).
     wide: bool,
+    /// The floor's map as the records leave it, and what the solver has of it.
+    pub map: Vec<u8>,
     pub solver: Solver,
     /// The table as the records leave it.
     pub table: Table,
 }
 
-/// The stream for a number of floors.
+/// The stream for a number of floors, and some more for each W·H modulo 8.
 pub fn make(seed: u64, count: u64, wide: bool) -> Vec<u8> {
     let [random, aside, given] = [seed, !seed, seed ^ u64::from(u32::MAX)].map(Random::new);
-    let corners = Random::new(!seed ^ u64::from(u32::MAX));
+    let [corners, bits] = [!seed ^ u64::from(u32::MAX), seed.reverse_bits()].map(Random::new);
     let (solver, table) = (Solver::new(Floor::open(1, 1)), Table::empty());
-    let mut maker = Maker { out: Vec::new(), random, aside, given, corners, wide, solver, table };
-    let mut floors = fixed_floors(&mut maker.random);
-    floors.truncate(count as usize);
+    let (out, map) = (Vec::new(), vec![0]);
+    let mut maker = Maker { out, random, aside, given, corners, bits, wide, map, solver, table };
+    let fixed = fixed_floors(&mut maker.random).into_iter().take(count as usize);
+    let mut floors: Vec<_> = fixed.map(|(floor, requests)| (PackedFloor::of(&floor), requests)).collect();
     for k in floors.len() as u64..count {
         let floor = maker.any_floor(k);
-        let requests = corner_requests(&floor);
+        let requests = corner_requests(&floor.floor());
         floors.push((floor, requests));
     }
+    floors.extend(maker.floors_by_unused_bits().iter().map(|floor| (PackedFloor::of(floor), Vec::new())));
     for (floor, requests) in floors {
         maker.floor(floor, &requests);
     }
@@ -116,7 +123,7 @@ impl Maker {
     }
 
     /// The k-th floor: mostly small, some long and narrow, some of bad shape.
-    fn any_floor(&mut self, k: u64) -> Floor {
+    fn any_floor(&mut self, k: u64) -> PackedFloor {
         let mut kind = KINDS[k as usize % KINDS.len()];
         let random = &mut self.random;
         let (width, height) = match k % 20 {
@@ -130,43 +137,47 @@ impl Maker {
                 (random.within(20, 80), random.within(20, 80))
             }
         };
-        layouts::make(kind, &mut self.random, width, height)
+        PackedFloor::of(&layouts::make(kind, &mut self.random, width, height))
     }
 
-    fn bad_floor(&mut self, k: u64) -> Floor {
+    fn bad_floor(&mut self, k: u64) -> PackedFloor {
         let (width, height) = (self.random.within(1, 12), self.random.within(1, 12));
-        let mut floor = layouts::make(Kind::Sparse, &mut self.random, width, height);
-        let last = floor.cells.len() - 1;
+        let mut floor = PackedFloor::of(&layouts::make(Kind::Sparse, &mut self.random, width, height));
+        let open = |width, height, length| PackedFloor::new(width, height, vec![0; length]);
         match k % if self.wide { 20 } else { 16 } {
             0 => floor.width = 0,
             1 => floor.height = 0,
-            2 => return Floor::new(0, 0, Vec::new()),
-            3 => return Floor::open(128, 1),
-            4 => return Floor::open(1, 128),
-            5 => return Floor::new(128, 128, vec![0; format::MAP_ROOM]),
-            6 => return Floor::new(255, 3, vec![9; 765]),
-            7 => floor.cells.push(0),
-            8 => drop(floor.cells.pop()),
-            9 => floor.cells.clear(),
-            10 => floor.cells[0] = 2,
-            11 => floor.cells[last] = 255,
-            12 => floor.cells[last / 2] = 129,
-            13 => floor.cells.extend([2, 2]),
-            14 => return Floor::new(127, 127, vec![0; format::MAP_ROOM - 1]),
-            15 => return Floor::new(0, 200, vec![3]),
+            2 => return open(0, 0, 0),
+            3 => return open(128, 1, 16),
+            4 => return open(1, 128, 16),
+            5 => return open(128, 128, 2048),
+            6 => return PackedFloor::new(255, 3, vec![9; 96]),
+            7 => floor.map.push(0),
+            8 => drop(floor.map.pop()),
+            9 => floor.map.clear(),
+            10 => return PackedFloor::new(2, 1, vec![4]),
+            11 => return PackedFloor::new(5, 3, vec![0, 128]),
+            12 => return PackedFloor::new(11, 7, vec![255; 10]),
+            13 => floor.map.extend([2, 2]),
+            14 => return open(127, 127, 2016),
+            15 => return PackedFloor::new(0, 200, vec![3]),
             16 => floor.width += 1 << 16,
             17 => floor.height += 1 << 8,
-            18 => return Floor::new(1 << 31, 2, Vec::new()),
-            _ => return Floor::new(u32::MAX.into(), u32::MAX.into(), vec![0]),
+            18 => return open(1 << 31, 2, 0),
+            _ => return open(u32::MAX.into(), u32::MAX.into(), 1),
         }
         floor
     }
 
-    fn floor(&mut self, floor: Floor, requests: &[Request]) {
-        let words = [floor.width as u32, floor.height as u32];
-        self.record(format::FLOOR, &words, floor.cells.clone());
-        let is_good = floor.shape_fault().is_none();
-        self.solver = Solver::new(floor);
+    pub fn floor_record(&mut self, floor: PackedFloor) {
+        self.record(format::FLOOR, &[floor.width as u32, floor.height as u32], floor.map.clone());
+        self.solver = Solver::new(floor.floor());
+        self.map = floor.map;
+    }
+
+    fn floor(&mut self, floor: PackedFloor, requests: &[Request]) {
+        let is_good = floor.fault().is_none();
+        self.floor_record(floor.clone());
         if is_good {
             self.good_operations(requests);
             self.pinch_operations();
@@ -181,6 +192,9 @@ impl Maker {
             self.closures_on_bad_floor();
         }
         self.use_aside();
+        if is_good {
+            self.map_faults(&floor);
+        }
     }
 
     /// Exchanges two generators.
@@ -194,6 +208,10 @@ impl Maker {
 
     pub fn use_corners(&mut self) {
         std::mem::swap(&mut self.random, &mut self.corners);
+    }
+
+    pub fn use_bits(&mut self) {
+        std::mem::swap(&mut self.random, &mut self.bits);
     }
 
     pub fn is_large(&self) -> bool {

@@ -5,11 +5,12 @@ use crate::floor::Floor;
 use crate::graph::{self, Graph};
 use crate::layouts::{self, KINDS};
 use crate::natural::Natural;
+use crate::packed::{self, PackedFloor};
 use crate::random::Random;
 use crate::sheet::{self, Request, Solver, NO_WALK};
 use crate::sight::{self, Obstacle, Point};
 use crate::vectors::{self, Tally};
-use crate::{answers, count, jobs, thin};
+use crate::{answers, count, format, jobs, thin};
 use std::collections::BTreeMap;
 
 pub fn run(tally: &mut Tally) {
@@ -17,11 +18,13 @@ pub fn run(tally: &mut Tally) {
     clipping(tally);
     obstacles(tally);
     closures(tally);
+    packing(tally);
     tiny_floors(tally);
     checker_on_damage(tally);
     costs_by_local_law(tally);
     thinning(tally);
     streams(tally);
+    streams_of_maps(tally);
 }
 
 fn naturals(tally: &mut Tally) {
@@ -170,9 +173,44 @@ fn closures(tally: &mut Tally) {
                 painted[(j * 5 + r.column) as usize..][..r.columns as usize].fill(1);
             }
         }
-        let mut working = vec![9; 20];
-        tally.equal("working map", table.working_map(&base, &mut working), Ok(()));
-        tally.holds("cells of the working map", working == painted);
+        tally.holds("cells of the working map", table.working_cells(&base).as_ref() == Ok(&painted));
+        let mut working = vec![255; 3];
+        let written = packed::working_map(&table, &PackedFloor::of(&base), &mut working);
+        tally.equal("working map", written, Ok(()));
+        tally.holds("bits of the working map", PackedFloor::new(5, 4, working).floor().cells == painted);
+    }
+}
+
+/// A map is a number, its first byte the lowest, and cell c counts 2^c in it: 3 applies from 2^(W·H) on. A floor is
+/// read back from its map, and every map without a fault from its floor.
+fn packing(tally: &mut Tally) {
+    let number = |map: &[u8]| map.iter().rev().fold(0, |high, &byte| 256 * high + u32::from(byte));
+    for (width, height) in [(1, 1), (7, 1), (4, 2), (3, 3), (2, 5), (1, 11), (12, 1), (13, 1), (2, 7), (5, 3), (4, 4)] {
+        let cells = width * height;
+        let mut agree = true;
+        for (bits, floor) in (0..).zip(all_floors(width, height)) {
+            let map = PackedFloor::of(&floor).map;
+            agree &= number(&map) == bits && map.len() as u64 == (cells + 7) / 8;
+            agree &= PackedFloor::new(width, height, map).floor().cells == floor.cells;
+        }
+        tally.holds("a map as a number", agree);
+        let length = (cells as usize).div_ceil(8);
+        let refused = (0..1u32 << (8 * length)).step_by(if length == 1 { 1 } else { 37 }).all(|bits| {
+            let map = bits.to_le_bytes()[..length].to_vec();
+            let packed = PackedFloor::new(width, height, map.clone());
+            let fault = if bits >> cells == 0 { None } else { Some(3) };
+            packed.fault() == fault && (fault.is_some() || PackedFloor::of(&packed.floor()).map == map)
+        });
+        tally.holds("3 from 2^(W·H) on", refused);
+    }
+    let mut random = Random::new(6);
+    for kind in KINDS {
+        let floor = layouts::make(kind, &mut random, 127, 127);
+        let map = PackedFloor::of(&floor).map;
+        tally.equal("the largest map", map.len(), 2017);
+        let bit = |c: usize| map[c / 8] & (1 << (c % 8)) != 0;
+        tally.holds("the bits of the largest map", (0..127 * 127).all(|c| bit(c) == (floor.cells[c] == 1)));
+        tally.equal("the last byte of the largest map", map[2016], floor.cells[127 * 127 - 1]);
     }
 }
 
@@ -346,5 +384,35 @@ fn streams(tally: &mut Tally) {
     let sights: String = text.lines().filter_map(|line| line.strip_prefix("sight ")).collect();
     for answer in ['y', 'n', '1', '2', '3', '5'] {
         tally.holds(&format!("sight answers {answer}"), sights.contains(answer));
+    }
+}
+
+/// The maps of a stream: for each W·H modulo 8 good ones, each unused bit alone, and lengths off by one either way; as
+/// floors and as base maps of closures.
+fn streams_of_maps(tally: &mut Tally) {
+    let stream = jobs::make(6, 30, false);
+    let mut input = stream.as_slice();
+    let (mut floors, mut bases): (Vec<PackedFloor>, Vec<PackedFloor>) = (Vec::new(), Vec::new());
+    while let Some(record) = format::Record::read(&mut input) {
+        if record.operation == format::FLOOR {
+            floors.push(PackedFloor::new(record.words[0].into(), record.words[1].into(), record.payload));
+        } else if record.operation == format::WORKING && record.words[2] == 1 {
+            let floor = &floors[floors.len() - 1];
+            bases.push(PackedFloor::new(floor.width, floor.height, record.payload));
+        }
+    }
+    for maps in [floors, bases] {
+        for left in 0..8 {
+            let those: Vec<&PackedFloor> = maps.iter().filter(|map| map.width * map.height % 8 == left).collect();
+            let good = |map: &PackedFloor| (map.width * map.height).div_ceil(8) as usize;
+            let has = |condition: &dyn Fn(&PackedFloor) -> bool| those.iter().any(|map| condition(map));
+            tally.holds("a good map", has(&|map| map.fault().is_none()));
+            tally.holds("a byte less", has(&|map| map.fault() == Some(2) && map.map.len() + 1 == good(map)));
+            tally.holds("a byte more", has(&|map| map.fault() == Some(2) && map.map.len() == good(map) + 1));
+            for bit in (left..8).filter(|_| left > 0) {
+                let set = |map: &PackedFloor| map.map[good(map) - 1] >> left;
+                tally.holds("an unused bit", has(&|map| map.fault() == Some(3) && set(map) == 1 << (bit - left)));
+            }
+        }
     }
 }

@@ -4,6 +4,7 @@
 use crate::closures::{Rectangle, Table};
 use crate::floor::Floor;
 use crate::natural::{binomial, Natural};
+use crate::packed::{self, PackedFloor};
 use crate::sheet::{self, Handed, Lent, PlanAnswer, Request, Sheet, Solver, NO_WALK};
 use crate::sight::{self, Obstacle};
 use crate::{boundary, program, self_checks, stream, thin};
@@ -39,6 +40,7 @@ pub fn run() -> bool {
     small_sight(&mut tally);
     named_obstacles(&mut tally);
     posted_closures(&mut tally);
+    packed_maps(&mut tally);
     costs_handed_in(&mut tally);
     pinched_ends(&mut tally);
     pinches_on_segments(&mut tally);
@@ -325,10 +327,7 @@ fn posted_closures(tally: &mut Tally) {
     let base = Floor::new(3, 2, vec![0, 0, 0, 0, 0, 1]);
     let mut table = Table::empty();
     let rectangle = |column, row, columns, rows| Rectangle { column, row, columns, rows };
-    let map = |table: &Table| {
-        let mut cells = vec![9; 6];
-        table.working_map(&base, &mut cells).map(|()| cells)
-    };
+    let map = |table: &Table| table.working_cells(&base);
     tally.equal("request 1, empty", map(&table), Ok(vec![0, 0, 0, 0, 0, 1]));
     tally.equal("request 1, column 0", table.post(3, 2, rectangle(0, 0, 1, 2)), Ok(0));
     tally.equal("request 1, cell 2", table.post(3, 2, rectangle(2, 0, 1, 1)), Ok(1));
@@ -349,7 +348,72 @@ fn posted_closures(tally: &mut Tally) {
     tally.equal("request 1, 12 before 13", table.post(3, 2, rectangle(3, 0, 1, 1)), Err(12));
     tally.equal("request 1, 1 before 12", table.post(0, 2, rectangle(0, 0, 0, 0)), Err(1));
     tally.equal("request 1, 1 before 14", table.strike(3, 128, 16), Err(1));
-    tally.equal("request 1, 6", table.working_map(&base, &mut [9; 5]), Err(6));
+    for length in [0, 2] {
+        let mut working = vec![9; length];
+        tally.equal("request 1, 6", packed::working_map(&table, &PackedFloor::of(&base), &mut working), Err(6));
+        tally.equal("request 1, 6, untouched", working, vec![9; length]);
+    }
+}
+
+/// Document 02, request 6: cell c in byte c/8, at bit c mod 8 from the low end, the unused high bits 0.
+fn packed_maps(tally: &mut Tally) {
+    let map = |width: u64, height: u64, blocked: &[usize]| {
+        let mut floor = Floor::open(width, height);
+        blocked.iter().for_each(|&c| floor.cells[c] = 1);
+        PackedFloor::of(&floor).map
+    };
+    tally.equal("floor c", map(1, 1, &[0]), vec![1]);
+    tally.equal("floor f", map(2, 1, &[1]), vec![2]);
+    tally.equal("floor g", map(2, 2, &[0, 3]), vec![9]);
+    tally.equal("eight cells", map(4, 2, &[0, 7]), vec![129]);
+    tally.equal("nine cells", map(3, 3, &[7, 8]), vec![128, 1]);
+    tally.equal("the last of sixteen", map(16, 1, &[15]), vec![0, 128]);
+    tally.equal("cell 10 of 3 by 5", map(3, 5, &[10]), vec![0, 4]);
+    tally.equal("all of 3 by 5", map(3, 5, &(0..15).collect::<Vec<_>>()), vec![255, 127]);
+    let fault = |width, height, map: &[u8]| PackedFloor::new(width, height, map.to_vec()).fault();
+    let refused = [
+        (fault(2, 2, &[9]), None),
+        (fault(2, 2, &[15]), None),
+        (fault(2, 2, &[16]), Some(3)),
+        (fault(2, 2, &[128]), Some(3)),
+        (fault(4, 2, &[255]), None),
+        (fault(3, 3, &[255, 1]), None),
+        (fault(3, 3, &[0, 2]), Some(3)),
+        (fault(2, 2, &[]), Some(2)),
+        (fault(2, 2, &[255, 0]), Some(2)),
+        (fault(2, 2, &[1, 0, 0, 1]), Some(2)),
+        (fault(4, 2, &[0, 0]), Some(2)),
+        (fault(3, 3, &[0]), Some(2)),
+        (fault(3, 3, &[0, 0, 0]), Some(2)),
+        (fault(0, 2, &[1]), Some(1)),
+        (fault(128, 128, &[0; 2048]), Some(1)),
+        (fault(127, 127, &[0; 2016]), Some(2)),
+        (fault(127, 127, &[0; 2017]), None),
+        (fault(127, 127, &[0; 2018]), Some(2)),
+        (fault(127, 127, &[255; 2017]), Some(3)),
+    ];
+    for (k, (found, expected)) in refused.into_iter().enumerate() {
+        tally.equal(&format!("request 6, map {k}"), found, expected);
+    }
+    packed_closures(tally);
+}
+
+/// The working map's unused bits are 0, and its base map is refused as a floor's is.
+fn packed_closures(tally: &mut Tally) {
+    let mut table = Table::empty();
+    let working = |table: &Table, base: &[u8], length: usize| {
+        let mut working = vec![255; length];
+        packed::working_map(table, &PackedFloor::new(3, 3, base.to_vec()), &mut working).map(|()| working)
+    };
+    tally.equal("request 6, empty", working(&table, &[16, 1], 2), Ok(vec![16, 1]));
+    tally.equal("request 6, row 2", table.post(3, 3, Rectangle { column: 0, row: 2, columns: 3, rows: 1 }), Ok(0));
+    tally.equal("request 6, one held", working(&table, &[16, 0], 2), Ok(vec![208, 1]));
+    tally.equal("request 6, all", table.post(3, 3, Rectangle { column: 0, row: 0, columns: 3, rows: 3 }), Ok(1));
+    tally.equal("request 6, all held", working(&table, &[0, 0], 2), Ok(vec![255, 1]));
+    tally.equal("request 6, 3", working(&table, &[0, 2], 2), Err(3));
+    tally.equal("request 6, 3 before 6", working(&table, &[0, 128], 3), Err(3));
+    tally.equal("request 6, 2 before 3", working(&table, &[0, 2, 0], 3), Err(2));
+    tally.equal("request 6, 6", working(&table, &[0, 1], 9), Err(6));
 }
 
 /// Document 01, j and k.
@@ -388,8 +452,10 @@ fn bad_shapes(tally: &mut Tally) {
     for (width, height) in [(0, 1), (1, 0), (128, 1), (1, 128)] {
         tally.equal("l sizes", plan(&Floor::open(width, height), 4, 0, 0).answer, refusal(1));
     }
-    let short = Floor::new(2, 2, vec![0; 3]);
-    tally.equal("l short map", plan(&short, 4, 0, 0).answer, refusal(2));
+    for map in [vec![], vec![0; 2], vec![0; 4]] {
+        let floor = PackedFloor::new(2, 2, map).floor();
+        tally.equal("l map length", plan(&floor, 4, 0, 0).answer, refusal(2));
+    }
     let open = Floor::open(3, 2);
     tally.equal("l end V - 1", plan(&open, 8, 0, 11).answer.answer, 0);
     let refused = plan(&open, 8, 0, 12);
@@ -398,7 +464,11 @@ fn bad_shapes(tally: &mut Tally) {
     let refused = plan(&open, 8, 12, 0);
     tally.equal("l start V", refused.answer, refusal(5));
     tally.holds("l untouched", refused.sheet.d.iter().chain(&refused.work).all(|&x| x == 9));
-    tally.equal("byte above 1", plan(&Floor::new(1, 1, vec![2]), 5, 9, 9).answer, refusal(3));
+    let stray = PackedFloor::new(1, 1, vec![2]).floor();
+    tally.equal("unused bit", plan(&stray, 5, 9, 9).answer, refusal(3));
+    tally.equal("unused bit, checked", check(&stray, 5, 9, 9, &Sheet::zeros(3)), 3);
+    tally.equal("unused bit, thinned", thin::thin(&stray, &[9], &mut [], 0), (3, 0));
+    tally.equal("unused bit, sight", sight::question(&stray, 9, 9), Err(3));
     tally.equal("neighbourhood before ends", plan(&open, 5, 12, 12).answer, refusal(4));
     tally.equal("slice length", check(&open, 8, 0, 11, &Sheet::zeros(11)), 6);
     tally.equal("thinning no list", thin::thin(&open, &[], &mut [], 0), (10, 0));
