@@ -142,12 +142,14 @@ pub extern "C" fn lurfanzi_finish(
     f: &mut [u64],
     back: &mut [u64],
     route: &mut [u16],
+    next: &mut [u16],
     work: &mut [u32],
 ) -> PlanResult
     ensures { λ r. ⌜ FinishesTo width height (now (map .entry)) neighbourhood a b (now (d .entry))
-        (slicesOf (now (e .entry)) (now (f .entry)) (now (back .entry)) (now (route .entry)) (now (work .entry)))
-        r
-        (slicesOf (now (e .exit)) (now (f .exit)) (now (back .exit)) (now (route .exit)) (now (work .exit))) ⌝ }
+        (slicesOf (now (e .entry)) (now (f .entry)) (now (back .entry)) (now (route .entry))
+        (now (next .entry)) (now (work .entry))) r
+        (slicesOf (now (e .exit)) (now (f .exit)) (now (back .exit)) (now (route .exit))
+        (now (next .exit)) (now (work .exit))) ⌝ }
 {
     let p = planner::finish(
         width as usize,
@@ -161,6 +163,7 @@ pub extern "C" fn lurfanzi_finish(
         f,
         back,
         route,
+        next,
         work,
     );
     PlanResult {
@@ -185,10 +188,12 @@ pub extern "C" fn lurfanzi_check(
     f: &[u64],
     back: &[u64],
     route: &[u16],
+    next: &[u16],
     n: usize,
 ) -> u8
     ensures { λ r. ⌜ r ≡ checkNumber (checkAnswer width height (now (map .entry)) neighbourhood a b
-        (sheetOf (now (d .entry)) (now (e .entry)) (now (f .entry)) (now (back .entry)) (now (route .entry)) n)) ⌝ }
+        (sheetOf (now (d .entry)) (now (e .entry)) (now (f .entry)) (now (back .entry)) (now (route .entry))
+        (now (next .entry)) n)) ⌝ }
 {
     checker::check_number(checker::check(
         width as usize,
@@ -202,6 +207,7 @@ pub extern "C" fn lurfanzi_check(
         f,
         back,
         route,
+        next,
         n,
     ))
 }

@@ -5,6 +5,7 @@
 --   routeTest-local, noRouteTest-local == the tests of a whole sheet are `localRoute` and `localNoRoute`
 --   counts-fit                   == where they pass, the traversal counts fit 64 bits
 --   route-.., noRoute-..         == what the code finds in turn, said of `routeTest` and `noRouteTest`
+--   vertices-uncounted, nexts-alone, points-alone == what the tests do not look at
 use Prim.Native.Nat.{ℕ, _^_, _<_}
 use mathlib.Core.Path.{_≡_, refl, sym, _∙_}
 use mathlib.Core.Bool.{Bool, true, false, _&&_, not}
@@ -19,13 +20,14 @@ use Rattle.basics.proofs.Bounded.{every-all, every-at}
 use Rattle.paths.specs.Graph.{Graph, Lawful}
 use Rattle.paths.specs.Distance.{unreachable}
 use Rattle.paths.specs.Sheet.{Sheet, sheetOf}
-use Rattle.paths.specs.Local.{rightCost, rightCosts, countAt, rightCounts, entry, localOn, localNumbers}
-use Rattle.paths.specs.Local.{Shaped, localRoute, blankAt, localNoRoute}
+use Rattle.paths.specs.Local.{rightCost, rightCosts, countAt, rightCounts, entry, localOn, localNext, localNumbers}
+use Rattle.paths.specs.Local.{Shaped, rightNext, localRoute, blankAt, localNoRoute}
 use Rattle.paths.proofs.SheetTest.{numbers-true, numbers-fit}
 use Rattle.neighbours.specs.Least.{rightCostIn}
 use Rattle.neighbours.specs.Choice.{Counted}
 use Rattle.neighbours.proofs.Incoming.{costs-in}
-use Rattle.checker.specs.Tests.{countsTest, vertexTest, verticesTest, pointsTest, routeTest, noRouteTest}
+use Rattle.checker.specs.Tests.{chosenOf, walkOf, countsTest, vertexTest, verticesTest, nextsTest, pointsTest}
+use Rattle.checker.specs.Tests.{routeTest, noRouteTest}
 use Rattle.checker.proofs.Chains.{fails, holds, fact-fails, fact-holds}
 
 -- ---- one vertex, and every vertex
@@ -107,7 +109,7 @@ module _ (g : Graph) (a b : ℕ) (s : Sheet) where
   -- ---- whole sheets
 
   pub routeTest-local : Lawful g → routeTest g a b s ≡ localRoute g a b s
-  unfolding routeTest localRoute pointsTest
+  unfolding routeTest localRoute nextsTest pointsTest
   routeTest-local L = iff-eq (routeTest g a b s) (localRoute g a b s) there back
     where
       there : routeTest g a b s ≡ true → localRoute g a b s ≡ true
@@ -187,11 +189,18 @@ module _ (g : Graph) (a b : ℕ) (s : Sheet) where
             fact-holds (lt-ltb _ _ near) (fact-holds (eq-eqb _ _ start) (fact-holds (eq-eqb _ _ end) (fails all _ f)))
 
         module _ (f : not k ≡ false) where
-          pub route-points : {p : Bool} → p ≡ pointsTest g a b s → p ≡ routeTest g a b s
-          unfolding routeTest
-          route-points q =
-              fact-holds (lt-ltb _ _ near) (fact-holds (eq-eqb _ _ start)
-              (fact-holds (eq-eqb _ _ end) (holds all f q)))
+          module _ {x : Bool} (nexts : x ≡ nextsTest g b s) where
+            pub route-nexts : not x ≡ true → false ≡ routeTest g a b s
+            unfolding routeTest
+            route-nexts t =
+                fact-holds (lt-ltb _ _ near) (fact-holds (eq-eqb _ _ start)
+                (fact-holds (eq-eqb _ _ end) (holds all f (fails nexts _ t))))
+
+            pub route-points : not x ≡ false → {p : Bool} → p ≡ pointsTest (g .size) a b s → p ≡ routeTest g a b s
+            unfolding routeTest
+            route-points t q =
+                fact-holds (lt-ltb _ _ near) (fact-holds (eq-eqb _ _ start)
+                (fact-holds (eq-eqb _ _ end) (holds all f (holds nexts t q))))
 
           pub counts-fit : Lawful g → a < g .size → b < g .size → Shaped (g .size) s → entry (s .f) b < 2 ^ 64
               → Counted (length (s .d)) (s .f) (s .b)
@@ -225,8 +234,20 @@ module _ (g : Graph) (a b : ℕ) (s : Sheet) where
       noRoute-vertices start q =
           fact-holds (eq-eqb _ _ far) (fact-holds (eq-eqb _ _ none) (fact-holds (eq-eqb _ _ start) q))
 
--- The tests of the vertices do not look at the point count.
-pub vertices-uncounted : (d e f back route : List ℕ) (n : ℕ) (j : Bool) (g : Graph) (a b : ℕ)
-    → verticesTest j g a b (sheetOf d e f back route 0) ≡ verticesTest j g a b (sheetOf d e f back route n)
-unfolding verticesTest vertexTest countsTest localOn blankAt
-vertices-uncounted d e f back route n j g a b = refl
+-- What the tests do not look at: those of the vertices the point count, those of the next vertices the route too, and
+-- that of the route the costs and counts.
+module _ (d e f back route next : List ℕ) (n : ℕ) where
+  pub vertices-uncounted : (j : Bool) (g : Graph) (a b : ℕ)
+      → verticesTest j g a b (sheetOf d e f back route next 0) ≡ verticesTest j g a b (sheetOf d e f back route next n)
+  unfolding verticesTest vertexTest countsTest localOn blankAt
+  vertices-uncounted j g a b = refl
+
+  pub nexts-alone : (g : Graph) (b : ℕ)
+      → nextsTest g b (chosenOf d e f back next) ≡ nextsTest g b (sheetOf d e f back route next n)
+  unfolding nextsTest rightNext localOn localNext
+  nexts-alone g b = refl
+
+  pub points-alone : (v a b : ℕ)
+      → pointsTest v a b (walkOf route next n) ≡ pointsTest v a b (sheetOf d e f back route next n)
+  unfolding pointsTest
+  points-alone v a b = refl

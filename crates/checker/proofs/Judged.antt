@@ -1,13 +1,13 @@
 -- What the checker finds of a whole job in turn, said of `judged`.
 use Prim.Native.Nat.{ℕ, _^_, _<_}
 use mathlib.Core.Path.{_≡_, sym, _∙_}
-use mathlib.Core.Bool.{Bool, true, false, _&&_, not}
+use mathlib.Core.Bool.{Bool, true, false, not}
 use mathlib.Core.List.{List}
 use borrow.Author.Tests.{eqb-true, not-true, not-false}
 use lib.Dec.{eqb}
 use lib.ListN.{length}
 use Rattle.basics.specs.Bounded.{pick}
-use Rattle.basics.proofs.Bools.{and-left, and-right}
+use Rattle.basics.proofs.Bools.{all-six}
 use Rattle.floor.specs.Floor.{floorOf, vertices}
 use Rattle.floor.specs.declared.Refusal.the-variants.{SliceLength, FalseSheet}
 use Rattle.moves.specs.declared.Rows.{Rows}
@@ -34,22 +34,22 @@ sized-shaped g s t =
     let F = eqb (length (s .f)) n in
     let B = eqb (length (s .b)) n in
     let R = eqb (length (s .route)) n in
-    let t1 = and-left (D && E && F && B) R t in
-    let t2 = and-left (D && E && F) B t1 in
-    let t3 = and-left (D && E) F t2 in
+    let X = eqb (length (s .next)) n in
+    let r = all-six D E F B R X t in
     record {
-      d = eqb-true (length (s .d)) n (and-left D E t3);
-      e = eqb-true (length (s .e)) n (and-right D E t3);
-      f = eqb-true (length (s .f)) n (and-right (D && E) F t2);
-      b = eqb-true (length (s .b)) n (and-right (D && E && F) B t1);
-      route = eqb-true (length (s .route)) n (and-right (D && E && F && B) R t);
+      d = eqb-true (length (s .d)) n (r .0);
+      e = eqb-true (length (s .e)) n (r .1);
+      f = eqb-true (length (s .f)) n (r .2);
+      b = eqb-true (length (s .b)) n (r .3);
+      route = eqb-true (length (s .route)) n (r .4);
+      next = eqb-true (length (s .next)) n (r .5);
     }
 
-module _ (w h : ℕ) (l : List ℕ) (r : Rows) (a b : ℕ) (d e f back route : List ℕ) (n : ℕ) (v : ℕ)
+module _ (w h : ℕ) (l : List ℕ) (r : Rows) (a b : ℕ) (d e f back route next : List ℕ) (n : ℕ) (v : ℕ)
     (count : v ≡ vertices w h) {k : Bool}
-    (sized : k ≡ sheetSized v (sheetOf d e f back route 0)) where
+    (sized : k ≡ sheetSized v (sheetOf d e f back route next 0)) where
   abbrev s : Sheet
-  s = sheetOf d e f back route n
+  s = sheetOf d e f back route next n
 
   abbrev g : Graph
   g = floorGraph (floorOf w h l) r

@@ -2,7 +2,7 @@
 --
 --   vertices-leaving   == the test of every vertex
 --   pinches-far        == where it holds, every pinch is unreached
---   next-leaving       == the next vertex, where every pinch is unreached
+--   right-leaving      == the test of a next vertex, where every pinch is unreached
 use Prim.Native.Nat.{ℕ, _+_, _<_, _≤_}
 use mathlib.Core.Path.{_≡_, sym, ap, _∙_}
 use mathlib.Core.Bool.{Bool, true, false, _&&_, and-false}
@@ -10,17 +10,16 @@ use mathlib.Core.List.{List}
 use native.Mathlib.Omega.{arith}
 use borrow.Author.Tests.{ne-eqb}
 use lib.Dec.{ltb, eqb}
-use Rattle.basics.specs.Bounded.{every}
-use Rattle.basics.proofs.Bools.{iff-eq, and-intro, and-left, and-right}
+use Rattle.basics.proofs.Bools.{iff-eq, and-left}
 use Rattle.basics.proofs.Bounded.{every-all, every-at}
 use Rattle.floor.specs.Floor.{Floor, floorOf, vertices}
 use Rattle.moves.specs.declared.Rows.{Rows}
 use Rattle.moves.proofs.Table.{listed-lawful}
 use Rattle.paths.specs.Graph.{Graph}
 use Rattle.paths.specs.Distance.{unreachable}
-use Rattle.paths.specs.Route.{onShortest, nextVertex}
+use Rattle.paths.specs.Route.{onShortest}
 use Rattle.paths.specs.Sheet.{Sheet}
-use Rattle.paths.specs.Local.{countAt, entry, localOn, localNext, blankAt}
+use Rattle.paths.specs.Local.{entry, localOn, localNext, rightNext, blankAt}
 use Rattle.grid.specs.Grid.{floorGraph}
 use Rattle.grid.specs.Leaving.{leavingGraph}
 use Rattle.grid.specs.Known.{GoodJob}
@@ -115,10 +114,16 @@ module _ {w h : ℕ} {l : List ℕ} {r : Rows} {a b : ℕ} (J : GoodJob w h l r 
   pub pinches-far : verticesTest true g a b s ≡ true → PinchesFar f (s .d)
   pinches-far t = record { at = far-of from-start D (λ v i. right-all g t v i .d) }
 
-  pub next-leaving : PinchesFar f (s .d) → D b < unreachable → {q : Graph} {v : ℕ} → v < vertices w h → D v ≤ unreachable
-      → Agrees q k v → nextVertex q (onShortest D E b) D (traversalOf (s .f) (s .b)) v ≡ localNext g b s v
-  unfolding localNext localOn onShortest
-  next-leaving far near {q} {v} i small same =
-      nextVertex-agrees same D (localOn b s) (traversalOf (s .f) (s .b))
-      ∙ sym (next-half from-goal D (far .at) v i small (localOn b s) (traversalOf (s .f) (s .b)) (λ u e.
-      ap (λ c. ltb (D b) unreachable && c) (ne-eqb (D u + E u) (D b) (λ t. omega arith)) ∙ and-false (ltb (D b) unreachable)))
+  module _ (far : PinchesFar f (s .d)) (near : D b < unreachable) {q : Graph} {v : ℕ} (i : v < vertices w h)
+      (small : D v ≤ unreachable) (same : Agrees q k v) where
+    next-leaving : localNext q b s v ≡ localNext g b s v
+    unfolding localNext localOn onShortest
+    next-leaving =
+        nextVertex-agrees same D (localOn b s) (traversalOf (s .f) (s .b))
+        ∙ sym (next-half from-goal D (far .at) v i small (localOn b s) (traversalOf (s .f) (s .b)) (λ u e.
+        ap (λ c. ltb (D b) unreachable && c) (ne-eqb (D u + E u) (D b) (λ t. omega arith))
+        ∙ and-false (ltb (D b) unreachable)))
+
+    pub right-leaving : rightNext q b s v ≡ rightNext g b s v
+    unfolding rightNext
+    right-leaving = rw next-leaving

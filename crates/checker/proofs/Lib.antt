@@ -5,6 +5,8 @@ pub mod Counts
 pub mod Vertex
 pub mod Posed
 pub mod Passes
+pub mod Choices
+pub mod Blank
 pub mod Points
 pub mod Verdict
 pub mod Judged

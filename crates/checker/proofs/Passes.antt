@@ -2,13 +2,13 @@
 --
 --   vertexTest-agrees    == the test of a vertex reads only the moves from it
 --   vertices-rows        == the test of every vertex is that of every row
---   column-readable      == the moves from the vertex in column x can be read
+--   column-mask          == the mask of the vertex in column x is that of the moves that leave it
+--   column-readable      == the moves from that vertex can be read
 --   column-stops, -keeps == a flag that the vertices of a row before column x pass, after the test of one more
-use Prim.Native.Nat.{ℕ, zero, suc, _+_, _*_, _<_}
-use mathlib.Core.Path.{_≡_, sym, ap, _∙_}
-use mathlib.Core.Bool.{Bool, true, false, _&&_, not, and-assoc}
+use Prim.Native.Nat.{ℕ, suc, _+_, _<_}
+use mathlib.Core.Path.{_≡_, sym, _∙_}
+use mathlib.Core.Bool.{Bool, true, false, not}
 use mathlib.Core.List.{List}
-use native.Mathlib.Omega.{arith}
 use lib.ListN.{length}
 use Rattle.basics.specs.Bounded.{every}
 use Rattle.basics.proofs.Bounded.{every-rows}
@@ -46,8 +46,8 @@ pub vertices-rows : (w h : ℕ) (l : List ℕ) (r : Rows) (j : Bool) (a b : ℕ)
 unfolding verticesTest
 vertices-rows w h l r j a b s = sym (every-rows (suc h) (suc w) (vertexTest j (leavingGraph (floorOf w h l) r) a b s))
 
--- What the loop finds of the vertex in column x, said of the graph of the moves that leave: a flag falls where a test fails, and stays
--- where it holds.
+-- What the loop finds of the vertex in column x, said of the graph of the moves that leave: a flag falls where a test
+-- fails, and stays where it holds.
 module _ {w h : ℕ} {l : List ℕ} {r : Rows} {a b : ℕ} {s : Sheet} (p : Posed w h l r a b s) {m : List ℕ}
     (S : Shifts w m) {x y mask v : ℕ} (o : OnFloor w h x y) (k : mask ≡ leavingMask (floorOf w h l) x y)
     (numbered : v ≡ number w x y) where
@@ -57,16 +57,16 @@ module _ {w h : ℕ} {l : List ℕ} {r : Rows} {a b : ℕ} {s : Sheet} (p : Pose
   inside : number w x y < vertices w h
   inside = number-lt w h x y (o .column) (o .row)
 
-  leaving-at : MaskAt leaves (floorOf w h l) (number w x y) mask
-  leaving-at = mask-number (floorOf w h l) x y (o .column) k
+  pub column-mask : MaskAt leaves (floorOf w h l) (number w x y) mask
+  column-mask = mask-number (floorOf w h l) x y (o .column) k
 
   pub column-readable : Readable (length (s .d)) r m mask v
-  column-readable = rw numbered (posed-readable p S inside leaving-at)
+  column-readable = rw numbered (posed-readable p S inside column-mask)
 
   module _ (j : Bool) {old new : Bool} (before : old ≡ every x (columnTest j g a b s w y))
       (is : new ≡ vertexTest j (maskGraph (length (s .d)) r m mask) a b s v) where
     on-floor : new ≡ columnTest j g a b s w y x
-    on-floor = rw numbered at is ∙ vertexTest-agrees (posed-agrees p S inside leaving-at) j a b s
+    on-floor = rw numbered at is ∙ vertexTest-agrees (posed-agrees p S inside column-mask) j a b s
 
     pub column-stops : not new ≡ true → false ≡ every (x + 1) (columnTest j g a b s w y)
     column-stops = flag-stops (columnTest j g a b s w y) x on-floor

@@ -1,7 +1,7 @@
 -- What a sheet posed with a good job has, and what the code knows at a vertex of its floor.
 --
 --   posed-uncounted          == the point count is no part of it
---   posed-goal               == the goal is as good an end as the start
+--   posed-chosen             == nor are the route and the start, where the next vertices are tested
 --   posed-readable, -agrees  == the moves that leave a vertex can be read by its mask, and lead where those of the floor
 --                               lead
 --   posed-shaped             == the slices are all as long as that of the costs from a
@@ -22,19 +22,37 @@ use Rattle.grid.proofs.Jobs.{goal-alone}
 use Rattle.neighbours.specs.Reading.{maskGraph, Readable}
 use Rattle.neighbours.proofs.Agree.{Agrees}
 use Rattle.neighbours.proofs.Shown.{Shows, mask-shows}
-use Rattle.checker.specs.Tests.{Posed}
+use Rattle.checker.specs.Tests.{chosenOf, Posed}
 
-pub posed-uncounted : {w h : ℕ} {l : List ℕ} {r : Rows} {a b n : ℕ} {d e f back route : List ℕ}
-    → Posed w h l r a b (sheetOf d e f back route n) → Posed w h l r a b (sheetOf d e f back route 0)
-posed-uncounted p = record {
-  job = p .job;
-  shape = record { d = p .shape .d; e = p .shape .e; f = p .shape .f; b = p .shape .b; route = p .shape .route };
-}
+module _ {w h : ℕ} {l : List ℕ} {r : Rows} {a b n : ℕ} {d e f back route next : List ℕ}
+    (p : Posed w h l r a b (sheetOf d e f back route next n)) where
+  pub posed-uncounted : Posed w h l r a b (sheetOf d e f back route next 0)
+  posed-uncounted = record {
+    job = p .job;
+    shape = record {
+      d = p .shape .d;
+      e = p .shape .e;
+      f = p .shape .f;
+      b = p .shape .b;
+      route = p .shape .route;
+      next = p .shape .next;
+    };
+  }
+
+  pub posed-chosen : Posed w h l r b b (chosenOf d e f back next)
+  posed-chosen = record {
+    job = goal-alone (p .job);
+    shape = record {
+      d = p .shape .d;
+      e = p .shape .e;
+      f = p .shape .f;
+      b = p .shape .b;
+      route = p .shape .next;
+      next = p .shape .next;
+    };
+  }
 
 module _ {w h : ℕ} {l : List ℕ} {r : Rows} {a b : ℕ} {s : Sheet} (p : Posed w h l r a b s) where
-  pub posed-goal : Posed w h l r b b s
-  posed-goal = record { job = goal-alone (p .job); shape = p .shape }
-
   pub posed-shaped : Shaped (length (s .d)) s
   posed-shaped = record {
     d = refl;
@@ -42,6 +60,7 @@ module _ {w h : ℕ} {l : List ℕ} {r : Rows} {a b : ℕ} {s : Sheet} (p : Pose
     f = p .shape .f ∙ sym (p .shape .d);
     b = p .shape .b ∙ sym (p .shape .d);
     route = p .shape .route ∙ sym (p .shape .d);
+    next = p .shape .next ∙ sym (p .shape .d);
   }
 
   module _ {m : List ℕ} (S : Shifts w m) {mask v : ℕ} (i : v < vertices w h) (o : MaskAt leaves (floorOf w h l) v mask) where

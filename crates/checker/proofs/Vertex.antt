@@ -95,7 +95,7 @@ module _ (j : Bool) (a b : ℕ) (s : Sheet) {r : Rows} {shifts : List ℕ} {clas
     unfolding vertexTest
     vertex-cost t = rw without (fails cost _ t)
 
-    pub vertex-blank : not k ≡ false → {p : Bool} → p ≡ blankAt (blankOf (s .e) (s .f) (s .b) (s .route)) v
+    pub vertex-blank : not k ≡ false → {p : Bool} → p ≡ blankAt (blankOf (s .e) (s .f) (s .b) (s .route) (s .next)) v
         → p ≡ vertexTest j g a b s v
     unfolding vertexTest blankAt
     vertex-blank t q = rw without (holds cost t q)

@@ -1,6 +1,6 @@
 -- Document 01, "The checker uses 1 to 6 and then .. 0 .. exactly when n and every slice are the true route sheet, 7 ..
--- exactly when they are the true no-route sheet, and 9 .. for every other sheet"; by request 5 of document 02 it uses 11
--- too, after 5 and before 6.
+-- exactly when they are the true no-route sheet, and 9 .. for every other sheet"; by request 5 of document 02 it uses
+-- 11 too, after 5 and before 6, and by request 7 the next vertices are a slice of the sheet.
 --
 --   verdict g a b s      == the answer to the sheet s of the job from a to b on graph g
 --   sheetSized v s       == refusal 6 does not apply: each slice of the sheet s has v places
@@ -32,7 +32,7 @@ verdict g a b s =
 unfoldable pub sheetSized : ℕ → Sheet → Bool
 sheetSized v s =
     eqb (length (s .d)) v && eqb (length (s .e)) v && eqb (length (s .f)) v && eqb (length (s .b)) v
-    && eqb (length (s .route)) v
+    && eqb (length (s .route)) v && eqb (length (s .next)) v
 
 abbrev pub judged : ℕ → ℕ → List ℕ → ℕ → ℕ → Sheet → Job → Checked
 judged w h map a b s (Fit rows) =

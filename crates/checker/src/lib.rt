@@ -1,6 +1,8 @@
 // The checker: accepts exactly the true sheets, with no memory to write in. `back` is document 01's slice b.
+mod nexts; // nexts.rt: the test of the next vertices
 mod route; // route.rt: the test of the route
 mod vertices; // vertices.rt: the tests of costs and counts
+mod zeros; // zeros.rt: places that must be 0
 
 ghost use mathlib.Core.Path.{_≡_};
 ghost use Rattle.floor.specs.Floor.{floorOf};
@@ -46,12 +48,14 @@ fn is_route(
     f: &[u64],
     back: &[u64],
     route: &[u16],
+    next: &[u16],
     n: usize,
 ) -> bool
     requires { ⌜ Posed w h (now map) rows (a .0) (b .0)
-        (sheetOf (now d) (now e) (now f) (now back) (now route) n) ⌝ }
+        (sheetOf (now d) (now e) (now f) (now back) (now route) (now next) n) ⌝ }
     ensures { λ r. ⌜ r ≡ routeTest (floorGraph (floorOf w h (now (map .entry))) rows) (a .0) (b .0)
-        (sheetOf (now (d .entry)) (now (e .entry)) (now (f .entry)) (now (back .entry)) (now (route .entry)) n) ⌝ }
+        (sheetOf (now (d .entry)) (now (e .entry)) (now (f .entry)) (now (back .entry)) (now (route .entry))
+        (now (next .entry)) n) ⌝ }
 {
     let start = a.0;
     let goal = b.0;
@@ -64,10 +68,13 @@ fn is_route(
     if e[goal] != 0 {
         return false;
     }
-    if !vertices::vertices_right(w, h, map, rows, true, a, b, d, e, f, back, route) {
+    if !vertices::vertices_right(w, h, map, rows, true, a, b, d, e, f, back, route, next) {
         return false;
     }
-    route::route_right(w, h, map, rows, a, b, d, e, f, back, route, n)
+    if !nexts::nexts_right(w, h, map, rows, b, d, e, f, back, next) {
+        return false;
+    }
+    route::route_right(a, b, route, next, n)
 }
 
 // The sheet is the true no-route sheet.
@@ -83,12 +90,14 @@ fn is_no_route(
     f: &[u64],
     back: &[u64],
     route: &[u16],
+    next: &[u16],
     n: usize,
 ) -> bool
     requires { ⌜ Posed w h (now map) rows (a .0) (b .0)
-        (sheetOf (now d) (now e) (now f) (now back) (now route) n) ⌝ }
+        (sheetOf (now d) (now e) (now f) (now back) (now route) (now next) n) ⌝ }
     ensures { λ r. ⌜ r ≡ noRouteTest (floorGraph (floorOf w h (now (map .entry))) rows) (a .0) (b .0)
-        (sheetOf (now (d .entry)) (now (e .entry)) (now (f .entry)) (now (back .entry)) (now (route .entry)) n) ⌝ }
+        (sheetOf (now (d .entry)) (now (e .entry)) (now (f .entry)) (now (back .entry)) (now (route .entry))
+        (now (next .entry)) n) ⌝ }
 {
     let start = a.0;
     let goal = b.0;
@@ -101,13 +110,22 @@ fn is_no_route(
     if d[start] != 0 {
         return false;
     }
-    vertices::vertices_right(w, h, map, rows, false, a, b, d, e, f, back, route)
+    vertices::vertices_right(w, h, map, rows, false, a, b, d, e, f, back, route, next)
 }
 
 // Refusal 6 does not apply: each slice of the sheet has v places.
-fn sheet_sized(v: usize, d: &[u32], e: &[u32], f: &[u64], back: &[u64], route: &[u16]) -> bool
+fn sheet_sized(
+    v: usize,
+    d: &[u32],
+    e: &[u32],
+    f: &[u64],
+    back: &[u64],
+    route: &[u16],
+    next: &[u16],
+) -> bool
     ensures { λ r. ⌜ r ≡ sheetSized v
-        (sheetOf (now (d .entry)) (now (e .entry)) (now (f .entry)) (now (back .entry)) (now (route .entry)) 0) ⌝ }
+        (sheetOf (now (d .entry)) (now (e .entry)) (now (f .entry)) (now (back .entry)) (now (route .entry))
+        (now (next .entry)) 0) ⌝ }
 {
     if d.len() != v {
         return false;
@@ -121,7 +139,10 @@ fn sheet_sized(v: usize, d: &[u32], e: &[u32], f: &[u64], back: &[u64], route: &
     if back.len() != v {
         return false;
     }
-    route.len() == v
+    if route.len() != v {
+        return false;
+    }
+    next.len() == v
 }
 
 // The answer to a job whose floor, neighbourhood and ends have a good shape.
@@ -137,29 +158,31 @@ fn judge(
     f: &[u64],
     back: &[u64],
     route: &[u16],
+    next: &[u16],
     n: usize,
 ) -> Checked
     requires { ⌜ GoodJob w h (now map) rows (a .0) (b .0) ⌝ }
     ensures { λ r. ⌜ r ≡ judged w h (now (map .entry)) (a .0) (b .0)
-        (sheetOf (now (d .entry)) (now (e .entry)) (now (f .entry)) (now (back .entry)) (now (route .entry)) n)
+        (sheetOf (now (d .entry)) (now (e .entry)) (now (f .entry)) (now (back .entry)) (now (route .entry))
+        (now (next .entry)) n)
         (Fit rows) ⌝ }
 {
     let v = floor::vertex_count(w, h);
-    if !sheet_sized(v, d, e, f, back, route) {
+    if !sheet_sized(v, d, e, f, back, route, next) {
         return Checked::Refused(Refusal::SliceLength);
     }
-    if is_route(w, h, map, rows, a, b, d, e, f, back, route, n) {
+    if is_route(w, h, map, rows, a, b, d, e, f, back, route, next, n) {
         return Checked::Route;
     }
-    if is_no_route(w, h, map, rows, a, b, d, e, f, back, route, n) {
+    if is_no_route(w, h, map, rows, a, b, d, e, f, back, route, next, n) {
         return Checked::NoRoute;
     }
     Checked::Refused(Refusal::FalseSheet)
 }
 
 // Checks a sheet that any planner filled, for the job from a to b on the floor of width w and height h with the
-// neighbourhood of number nb: the slices d, e, f, b and the route, and its point count n. Nothing is required of any of
-// them, and nothing is written.
+// neighbourhood of number nb: the slices d, e, f, b, the route and the next vertices, and its point count n. Nothing is
+// required of any of them, and nothing is written.
 pub fn check(
     w: usize,
     h: usize,
@@ -172,10 +195,12 @@ pub fn check(
     f: &[u64],
     back: &[u64],
     route: &[u16],
+    next: &[u16],
     n: usize,
 ) -> Checked
     ensures { λ r. ⌜ r ≡ checkAnswer w h (now (map .entry)) nb a b
-        (sheetOf (now (d .entry)) (now (e .entry)) (now (f .entry)) (now (back .entry)) (now (route .entry)) n) ⌝ }
+        (sheetOf (now (d .entry)) (now (e .entry)) (now (f .entry)) (now (back .entry)) (now (route .entry))
+        (now (next .entry)) n) ⌝ }
 {
     let job = grid::job_of(w, h, map, nb, a, b);
     match job {
@@ -191,6 +216,7 @@ pub fn check(
             f,
             back,
             route,
+            next,
             n,
         ),
         Job::Unfit(r) => Checked::Refused(r),

@@ -74,10 +74,11 @@ fn counts_right(
 }
 
 // The numbers of v beside its cost from a are those of a no-route sheet: 0.
-fn blank_at(e: &[u32], f: &[u64], back: &[u64], route: &[u16], v: usize) -> bool
-    requires { ⌜ (v < length (now e)) × (v < length (now f)) × (v < length (now back)) × (v < length (now route)) ⌝ }
+fn blank_at(e: &[u32], f: &[u64], back: &[u64], route: &[u16], next: &[u16], v: usize) -> bool
+    requires { ⌜ (v < length (now e)) × (v < length (now f)) × (v < length (now back)) × (v < length (now route))
+        × (v < length (now next)) ⌝ }
     ensures { λ r. ⌜ r ≡ blankAt
-        (blankOf (now (e .entry)) (now (f .entry)) (now (back .entry)) (now (route .entry))) v ⌝ }
+        (blankOf (now (e .entry)) (now (f .entry)) (now (back .entry)) (now (route .entry)) (now (next .entry))) v ⌝ }
 {
     if e[v] != 0 {
         return false;
@@ -88,7 +89,10 @@ fn blank_at(e: &[u32], f: &[u64], back: &[u64], route: &[u16], v: usize) -> bool
     if back[v] != 0 {
         return false;
     }
-    route[v] == 0
+    if route[v] != 0 {
+        return false;
+    }
+    next[v] == 0
 }
 
 // The numbers of v are right, by the kind of the sheet, with a route where `joined` holds. A sheet without one has the
@@ -106,12 +110,14 @@ fn vertex_right(
     f: &[u64],
     back: &[u64],
     route: &[u16],
+    next: &[u16],
     v: usize,
 ) -> bool
     requires { ⌜ Readable (length (now d)) rows (now shifts) mask v × Classes rows classes × (b < length (now d))
-        × Shaped (length (now d)) (sheetOf (now d) (now e) (now f) (now back) (now route) 0) ⌝ }
+        × Shaped (length (now d)) (sheetOf (now d) (now e) (now f) (now back) (now route) (now next) 0) ⌝ }
     ensures { λ r. ⌜ r ≡ vertexTest joined (maskGraph (length (now (d .entry))) rows (now (shifts .entry)) mask) a b
-        (sheetOf (now (d .entry)) (now (e .entry)) (now (f .entry)) (now (back .entry)) (now (route .entry)) 0) v ⌝ }
+        (sheetOf (now (d .entry)) (now (e .entry)) (now (f .entry)) (now (back .entry)) (now (route .entry))
+        (now (next .entry)) 0) v ⌝ }
 {
     if joined {
         if !neighbours::costs_right(shifts, classes, mask, a, b, d, e, v) {
@@ -122,11 +128,11 @@ fn vertex_right(
     if !neighbours::cost_right(shifts, classes, mask, a, d, v) {
         return false;
     }
-    blank_at(e, f, back, route, v)
+    blank_at(e, f, back, route, next, v)
 }
 
-// The numbers of the vertices of row y are right, by the moves that leave each. Each is looked at, also after one that is false: a way out of the
-// loop makes every turn slower.
+// The numbers of the vertices of row y are right, by the moves that leave each. Each is looked at, also after one that
+// is false: a way out of the loop makes every turn slower.
 fn row_right(
     w: usize,
     h: usize,
@@ -140,13 +146,15 @@ fn row_right(
     f: &[u64],
     back: &[u64],
     route: &[u16],
+    next: &[u16],
     windows: [u32; 16],
     y: usize,
 ) -> bool
-    requires { ⌜ Posed w h (now map) rows a b (sheetOf (now d) (now e) (now f) (now back) (now route) 0) × (y ≤ h)
-        × WindowsTo 16 windows ⌝ }
+    requires { ⌜ Posed w h (now map) rows a b
+        (sheetOf (now d) (now e) (now f) (now back) (now route) (now next) 0) × (y ≤ h) × WindowsTo 16 windows ⌝ }
     ensures { λ r. ⌜ r ≡ rowTest joined (leavingGraph (floorOf w h (now (map .entry))) rows) a b
-        (sheetOf (now (d .entry)) (now (e .entry)) (now (f .entry)) (now (back .entry)) (now (route .entry)) 0) w y ⌝ }
+        (sheetOf (now (d .entry)) (now (e .entry)) (now (f .entry)) (now (back .entry)) (now (route .entry))
+        (now (next .entry)) 0) w y ⌝ }
 {
     let shifts = offsets::shifts_of(w);
     let classes = offsets::classes_of(rows);
@@ -167,6 +175,7 @@ fn row_right(
             f,
             back,
             route,
+            next,
             first + x,
         ) {
             right = false;
@@ -191,11 +200,13 @@ pub fn vertices_right(
     f: &[u64],
     back: &[u64],
     route: &[u16],
+    next: &[u16],
 ) -> bool
     requires { ⌜ Posed w h (now map) rows (a .0) (b .0)
-        (sheetOf (now d) (now e) (now f) (now back) (now route) 0) ⌝ }
+        (sheetOf (now d) (now e) (now f) (now back) (now route) (now next) 0) ⌝ }
     ensures { λ r. ⌜ r ≡ verticesTest joined (floorGraph (floorOf w h (now (map .entry))) rows) (a .0) (b .0)
-        (sheetOf (now (d .entry)) (now (e .entry)) (now (f .entry)) (now (back .entry)) (now (route .entry)) 0) ⌝ }
+        (sheetOf (now (d .entry)) (now (e .entry)) (now (f .entry)) (now (back .entry)) (now (route .entry))
+        (now (next .entry)) 0) ⌝ }
 {
     let start = a.0;
     let goal = b.0;
@@ -214,6 +225,7 @@ pub fn vertices_right(
             f,
             back,
             route,
+            next,
             windows,
             y,
         ) {

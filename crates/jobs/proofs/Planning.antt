@@ -89,16 +89,18 @@ unfolding costsSized
 costs-sized {v} d work p q = rw (eq-eqb (length d) v p, eq-eqb (length work) (4 * v) q)
 
 -- Other slices of the same lengths serve as well.
-pub full-on : {v : ℕ} {d e f b route work e' f' b' route' work' : List ℕ} → FullSlices v d e f b route work
+pub full-on : {v : ℕ} {d e f b route next work e' f' b' route' next' work' : List ℕ}
+    → FullSlices v d e f b route next work
     → length e' ≡ length e → length f' ≡ length f → length b' ≡ length b → length route' ≡ length route
-    → length work' ≡ length work → FullSlices v d e' f' b' route' work'
-full-on L p q r s t = record {
+    → length next' ≡ length next → length work' ≡ length work → FullSlices v d e' f' b' route' next' work'
+full-on L p q r s x t = record {
   sheet = record {
     d = L .sheet .d;
     e = p ∙ L .sheet .e;
     f = q ∙ L .sheet .f;
     b = r ∙ L .sheet .b;
     route = s ∙ L .sheet .route;
+    next = x ∙ L .sheet .next;
   };
   work-len = t ∙ L .work-len;
 }

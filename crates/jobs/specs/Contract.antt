@@ -52,7 +52,7 @@ pub record SmallFloor (w h : ℕ) (map : List ℕ) : Type 0 where
   pub high : h ≤ 31
 
 pub record JobSlices (v : ℕ) (d : List ℕ) (s : Slices) (kept : List ℕ) : Type 0 where
-  pub full : FullSlices v d (s .e) (s .f) (s .b) (s .route) (s .work)
+  pub full : FullSlices v d (s .e) (s .f) (s .b) (s .route) (s .next) (s .work)
   pub kept-len : length kept ≡ v
 
 abbrev pub roomOf : ℕ → ℕ

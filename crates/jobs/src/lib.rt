@@ -66,20 +66,21 @@ fn plan_job(
     f: &mut [u64],
     back: &mut [u64],
     route: &mut [u16],
+    next: &mut [u16],
     work: &mut [u32],
 ) -> Planned
-    requires { ⌜ FullSlices (vertices w h) (now d) (now e) (now f) (now back) (now route) (now work) ⌝ }
+    requires { ⌜ FullSlices (vertices w h) (now d) (now e) (now f) (now back) (now route) (now next) (now work) ⌝ }
     ensures { λ r. ⌜ JobPlanned w h (now (map .entry)) job r (now (route .exit)) ⌝ }
 {
     let nb = job.neighbourhood;
     let a = job.start;
     let b = job.end;
-    let first = planner::finish(w, h, map, nb, a, b, d, e, f, back, route, work);
+    let first = planner::finish(w, h, map, nb, a, b, d, e, f, back, route, next, work);
     if planner::plan_number(first) != FALSE_COSTS {
         return first;
     }
     planner::fill_costs(w, h, map, nb, a, d, work);
-    planner::finish(w, h, map, nb, a, b, d, e, f, back, route, work)
+    planner::finish(w, h, map, nb, a, b, d, e, f, back, route, next, work)
 }
 
 // The lines of a job, written at the start of `out`; answers how many bytes they are.
@@ -96,17 +97,18 @@ pub fn job_text(
     f: &mut [u64],
     back: &mut [u64],
     route: &mut [u16],
+    next: &mut [u16],
     work: &mut [u32],
     kept: &mut [u16],
     out: &mut [u8],
 ) -> usize
     requires { ⌜ Ready w h (now map) (now d)
-        (slicesOf (now e) (now f) (now back) (now route) (now work)) (now kept) (now out) ⌝ }
+        (slicesOf (now e) (now f) (now back) (now route) (now next) (now work)) (now kept) (now out) ⌝ }
     ensures { λ r. ⌜ Told w h (now (map .entry)) job (now (kept .entry)) (now (out .entry)) r
         (now (kept .exit)) (now (out .exit)) ⌝ }
 {
     let number = job.number;
-    let answer = plan_job(w, h, map, job, d, e, f, back, route, work);
+    let answer = plan_job(w, h, map, job, d, e, f, back, route, next, work);
     match answer {
         Planned::Refused(r) => lines::put_refused(out, 0, number, floor::refusal_number(r)),
         Planned::Found {
@@ -140,18 +142,19 @@ pub fn take_turn(
     f: &mut [u64],
     back: &mut [u64],
     route: &mut [u16],
+    next: &mut [u16],
     work: &mut [u32],
     kept: &mut [u16],
     out: &mut [u8],
 ) -> Turn
     requires { ⌜ (1 ≤ c .due) × Ready w h (now map) (now d)
-        (slicesOf (now e) (now f) (now back) (now route) (now work)) (now kept) (now out) ⌝ }
+        (slicesOf (now e) (now f) (now back) (now route) (now next) (now work)) (now kept) (now out) ⌝ }
     ensures { λ r. ⌜ TurnTold (now (s .entry)) w h (now (map .entry)) c r (now (out .exit)) ⌝ }
 {
     match c.step(s) {
-        Record::Job(j, next) => {
-            let n = job_text(w, h, map, j, d, e, f, back, route, work, kept, out);
-            Turn::More(n, next)
+        Record::Job(j, past) => {
+            let n = job_text(w, h, map, j, d, e, f, back, route, next, work, kept, out);
+            Turn::More(n, past)
         }
         Record::Bad(k) => Turn::Last(lines::put_bad(out, 0, k)),
         Record::End => Turn::Last(0),

@@ -1,21 +1,28 @@
 -- A loop over the candidates for the next vertex that keeps the best, and what a move's far end has to meet to be one.
 --
 --   BestScan T c n k r x   == r is the best of the first k candidates of n, as the code answers it, and x its count
-use Prim.Native.Nat.{ℕ, _+_, _≤_, _<_}
-use mathlib.Core.Path.{_≡_, refl, sym, ap, _∙_}
-use mathlib.Core.Bool.{Bool, true, false, _&&_}
+--   OffScan d e goal i v n == n is 0 only where the vertices from i to v are not on the way
+--   off-start, -more, -end == so it is at the start and after the test of one more was added; what it says at the end
+use Prim.Native.Nat.{ℕ, suc, _+_, _≤_, _<_}
+use mathlib.Core.Path.{_≡_, refl, sym, ap, _∙_, subst}
+use mathlib.Core.Bool.{Bool, true, false, _&&_, not, and-false}
+use mathlib.Core.Logic.{⊎-elim}
+use mathlib.Core.List.{List}
 use mathlib.Core.Option.{Option, none, some}
 use native.Mathlib.Omega.{arith}
 use native.Mathlib.Numerals.{add-one}
-use borrow.Author.Tests.{lt-ltb, le-ltb, eq-eqb, ne-eqb}
-use lib.Dec.{eqb}
+use borrow.Author.Tests.{lt-ltb, le-ltb, eq-eqb, ne-eqb, eqb-true, not-false}
+use lib.Dec.{ltb, eqb}
+use Rattle.basics.specs.Bounded.{pick}
+use Rattle.basics.proofs.Order.{le-or-lt}
 use Rattle.basics.proofs.Options.{none-some}
 use Rattle.paths.specs.Graph.{Graph}
 use Rattle.paths.specs.Distance.{unreachable}
 use Rattle.paths.specs.Route.{onShortest, candidate, better, best}
+use Rattle.paths.specs.Local.{entry}
 use Rattle.neighbours.specs.declared.Next.{Next}
 use Rattle.neighbours.specs.declared.Next.the-variants.{To, Stuck}
-use Rattle.neighbours.specs.Choice.{followsBy, nextFrom}
+use Rattle.neighbours.specs.Choice.{OffWay, followsBy, nextFrom}
 use Rattle.neighbours.proofs.Steps.{next-stuck, next-to}
 
 abbrev pub toVertex : ℕ → Next
@@ -95,6 +102,41 @@ module _ (D E : ℕ → ℕ) (b v : ℕ) where
   pub onShortest-sum : D b < unreachable → eqb (D v + E v) (D b) ≡ onShortest D E b v
   unfolding onShortest
   onShortest-sum l = rw (lt-ltb (D b) unreachable l)
+
+pub record OffScan (d e : List ℕ) (goal i v n : ℕ) : Type 0 where
+  pub from : i ≤ v
+  pub few : n + i ≤ v
+  pub off : n ≡ 0 → OffWay d e goal i v
+
+uneven : (d e : List ℕ) (goal v : ℕ) (t : Bool) → t ≡ eqb (entry d v + entry e v) (entry d goal)
+    → _≡_ {A = ℕ} (pick t 1 0) 0 → onShortest (entry d) (entry e) goal v ≡ false
+unfolding onShortest
+uneven d e goal v true q z = absurd (omega arith)
+uneven d e goal v false q z = rw (sym q) (and-false (ltb (entry d goal) unreachable))
+
+module _ {d e : List ℕ} {goal i : ℕ} where
+  pub off-start : OffScan d e goal i i 0
+  off-start = record { from = omega arith; few = omega arith; off = λ z. record { at = λ v l h. absurd (omega arith) } }
+
+  pub off-more : {v n : ℕ} → OffScan d e goal i v n → (x y z k : ℕ) → x ≡ entry d v → y ≡ entry e v → z ≡ entry d goal
+      → k ≡ pick (eqb (x + y) z) 1 0 → k ≤ 1 → OffScan d e goal i (v + 1) (n + k)
+  off-more {v} {n} s x y z k p q r one small = record {
+    from = omega (arith, s .from);
+    few = omega (arith, s .few);
+    off = λ t. record {
+      at = λ u l h. ⊎-elim
+          (λ lt. s .off (omega arith) .at u l lt)
+          (λ ge.
+          let same : v ≡ u = omega arith in
+          subst (λ w. onShortest (entry d) (entry e) goal w ≡ false) same
+          (uneven d e goal v (eqb (x + y) z) (rw (p, q, r)) (sym one ∙ omega arith))) (le-or-lt (suc u) v);
+    };
+  }
+
+  pub off-end : {v n : ℕ} (j : ℕ) → OffScan d e goal i v n → j ≤ v → not (eqb n 0) ≡ false → OffWay d e goal i j
+  off-end {v} {n} j s past t = record {
+    at = λ u l h. s .off (eqb-true n 0 (not-false (eqb n 0) t)) .at u l (omega arith);
+  }
 
 module _ (on : ℕ → Bool) (D : ℕ → ℕ) (v w c : ℕ) where
   pub follows-uneven : (D w ≡ D v + c → ⊥) → false ≡ followsBy on D v w c

@@ -3,13 +3,14 @@
 --
 --   Choosing r s mask d e goal v   == the moves from v can be read, and the slices of costs have v and the goal
 --   Counted n f b                  == the slices of counts have n places, and the traversal counts fit 64 bits
+--   OffWay d e goal i j            == the vertices from i to j are not on the way to the goal
 --   followsBy on D v w c           == what `candidate` tests of the far end w of a move that costs c
 --   candidateOf, traversalOf       == `candidate` and the traversal count, by the slices
 --   nextOf r s mask d e f b goal v == `nextVertex`, by the slices
 --   nextFrom o                     == the next vertex as the code answers it
-use Prim.Native.Nat.{ℕ, _+_, _*_, _^_, _<_}
+use Prim.Native.Nat.{ℕ, _+_, _*_, _^_, _≤_, _<_}
 use mathlib.Core.Path.{_≡_}
-use mathlib.Core.Bool.{Bool, _&&_}
+use mathlib.Core.Bool.{Bool, false, _&&_}
 use mathlib.Core.List.{List}
 use mathlib.Core.Option.{Option, none, some}
 use lib.Dec.{eqb}
@@ -33,6 +34,9 @@ pub record Counted (n : ℕ) (f b : List ℕ) : Type 0 where
   pub f-len : length f ≡ n
   pub b-len : length b ≡ n
   pub fit : (v : ℕ) → v < n → traversalOf f b v < 2 ^ 64
+
+pub record OffWay (d e : List ℕ) (goal i j : ℕ) : Type 0 where
+  pub at : (v : ℕ) → i ≤ v → v < j → onShortest (entry d) (entry e) goal v ≡ false
 
 unfoldable pub followsBy : (ℕ → Bool) → (ℕ → ℕ) → ℕ → ℕ → ℕ → Bool
 followsBy on D v w c = on w && eqb (D w) (D v + c)

@@ -5,9 +5,10 @@
 // each row changes a vertex number, as `offsets::shifts_of` has it; and the mask of the vertex's open moves. The shifts are
 // lent, since an array passed by value would be copied at each vertex.
 ghost use mathlib.Core.Path.{_≡_};
-ghost use mathlib.Core.Bool.{_&&_, true};
-ghost use Prim.Native.Nat.{_<_, _^_};
+ghost use mathlib.Core.Bool.{_&&_, true, false};
+ghost use Prim.Native.Nat.{_<_, _≤_, _^_};
 ghost use lib.ListN.{length};
+ghost use Rattle.basics.specs.Bounded.{pick};
 ghost use Rattle.moves.specs.Moves.{moves, rowAt, moveAt};
 ghost use Rattle.moves.specs.Table.{lawfulRows};
 ghost use Rattle.offsets.specs.Offsets.{Movable, shiftedBy, endOf};
@@ -15,7 +16,7 @@ ghost use Rattle.paths.specs.Route.{onShortest};
 ghost use Rattle.paths.specs.Local.{entry, inflow};
 ghost use Rattle.neighbours.specs.Reading.{readStep, maskGraph, Readable, sumOf};
 ghost use Rattle.neighbours.specs.Least.{endAt, lesserOf, leastBy, rightBy, rightNear, ClassLent, Near};
-ghost use Rattle.neighbours.specs.Choice.{Choosing, Counted, followsBy, traversalOf, nextOf, nextFrom};
+ghost use Rattle.neighbours.specs.Choice.{Choosing, Counted, OffWay, followsBy, traversalOf, nextOf, nextFrom};
 use floor::Vertex;
 use moves::Rows;
 use offsets::Class;
@@ -204,6 +205,30 @@ pub fn on_way(d: &[u32], e: &[u32], goal: usize, v: usize) -> bool
         return false;
     }
     cost_at(d, v) + cost_at(e, v) == cost_at(d, goal)
+}
+
+// A test as a number that can be added.
+fn one_if(b: bool) -> usize
+    ensures { λ r. ⌜ (r ≡ pick b 1 0) × (r ≤ 1) ⌝ }
+{
+    if b {
+        return 1;
+    }
+    0
+}
+
+// Whether any of the vertices from first to past may be on the way to the goal: no is certain. Each is looked at and
+// the test is added up, so that nothing branches on it and several are looked at at a time.
+pub fn any_on_way(d: &[u32], e: &[u32], goal: usize, first: usize, past: usize) -> bool
+    requires { ⌜ (goal < length (now d)) × (past ≤ length (now d)) × (length (now e) ≡ length (now d)) ⌝ }
+    ensures { λ r. ⌜ (r ≡ false → OffWay (now (d .entry)) (now (e .entry)) goal first past) ⌝ }
+{
+    let whole = cost_at(d, goal);
+    let mut n: usize = 0;
+    for v in first..past {
+        n += one_if(cost_at(d, v) + cost_at(e, v) == whole);
+    }
+    n != 0
 }
 
 // Whether the route may go from v to w by a move that costs c: w is on the way and costs just the move more than v.

@@ -15,6 +15,7 @@ pub mod CountTest
 pub mod Choice
 pub mod Follow
 pub mod Route
+pub mod NextNumbers
 pub mod RouteTest
 pub mod Sheets
 pub mod SheetTest

@@ -5,11 +5,10 @@
 --   next-arrives      == the rule comes to b within as many points as there are vertices, by whatever counts T it chooses
 --   next-walk         == what it follows is a cheapest walk
 --   route-arrives, route-walk, route-length, route-begins, route-inside == the central route
---   route-same        == the route by lists of the true numbers is the central route
 use Prim.Native.Nat.{ℕ, zero, suc, _≤_, _<_}
 use mathlib.Core.Path.{_≡_, sym, subst}
 use mathlib.Core.Logic.{⊎-elim}
-use mathlib.Core.Bool.{Bool, true}
+use mathlib.Core.Bool.{true}
 use mathlib.Core.Option.{Option, some}
 use mathlib.Core.List.{List, [], _∷_}
 use native.Mathlib.Omega.{arith}
@@ -24,9 +23,9 @@ use Rattle.paths.proofs.Costs.{Tight, distance-tight}
 use Rattle.paths.proofs.Bound.{nearer, nearer-falls, nearer-lt}
 use Rattle.paths.proofs.Reverse.{distance-sym}
 use Rattle.paths.proofs.Way.{way-cases, way-start, way-forth, way-even}
-use Rattle.paths.proofs.Choice.{Candidate, Next, candidate-at, best-some, next-cases, next-inside, next-same}
+use Rattle.paths.proofs.Choice.{Candidate, Next, candidate-at, best-some, next-cases, next-inside}
 use Rattle.paths.proofs.Follow.{Arrives, end, on, follow-end, follow-on, follow-length, follow-inside}
-use Rattle.paths.proofs.Follow.{follow-cong, arrives-begins, arrives-pos}
+use Rattle.paths.proofs.Follow.{arrives-begins, arrives-pos}
 
 module _ (g : Graph) (L : Lawful g) (a b : ℕ) (in-a : a < g .size) (in-b : b < g .size) where
   abbrev D : ℕ → ℕ
@@ -145,14 +144,3 @@ module _ (g : Graph) (L : Lawful g) (a b : ℕ) (in-a : a < g .size) (in-b : b <
   route-inside i l =
       follow-inside _ b (g .size) (λ v w j e. next-inside g L (onWay g a b) D (traversals g a b) v w j e)
       (g .size) a i in-a l
-
-  -- The route by lists of the true numbers.
-  module _ (on′ : ℕ → Bool) (D′ T′ : ℕ → ℕ) (same-on : (v : ℕ) → v < g .size → on′ v ≡ onWay g a b v)
-      (same-D : (v : ℕ) → v < g .size → D′ v ≡ distance g a v)
-      (same-T : (v : ℕ) → v < g .size → T′ v ≡ traversals g a b v) where
-    pub route-same : follow (nextVertex g on′ D′ T′) b (g .size) a ≡ centralRoute g a b
-    unfolding centralRoute
-    route-same =
-        follow-cong (nextVertex g on′ D′ T′) (next (traversals g a b)) b (g .size)
-        (next-same g L on′ (onWay g a b) D′ D T′ (traversals g a b) same-on same-D same-T)
-        (λ v w j e. next-inside g L (onWay g a b) D (traversals g a b) v w j e) (g .size) a in-a

@@ -20,43 +20,42 @@ use Rattle.basics.proofs.Order.{le-or-lt, eq-or-ne}
 use Rattle.basics.proofs.Bools.{and-intro, and-left, and-right}
 use Rattle.basics.proofs.Bounded.{every-all, every-at, pick-yes, pick-no}
 use Rattle.basics.proofs.Lists.{getD-padded, getD-padded-past, padded-of}
-use Rattle.paths.specs.Graph.{Graph}
 use Rattle.paths.specs.Route.{follow}
 use Rattle.paths.specs.Local.{is-there, rightPoint, rightRoute, entry}
 use Rattle.paths.proofs.Neighbours.{is-there-cases, is-there-at}
 use Rattle.paths.proofs.Follow.{Arrives, end, on, follow-end, follow-on, follow-length, follow-inside}
 use Rattle.paths.proofs.Follow.{arrives-begins, arrives-pos}
 
-module _ (g : Graph) (next : ℕ → Option ℕ) (b n : ℕ) (R : ℕ → ℕ) where
+module _ (size : ℕ) (next : ℕ → Option ℕ) (b n : ℕ) (R : ℕ → ℕ) where
   -- ---- one place
 
   -- Of a place among the points: it holds a vertex, and b at the last alone.
   inner : ℕ → Bool
   inner i = pick (eqb (R i) b) (eqb (suc i) n) (ltb (suc i) n && is-there (next (R i)) (λ w. eqb w (R (suc i))))
 
-  point-inner : (i : ℕ) → i < n → rightPoint g next b n R i ≡ true → inner i ≡ true
+  point-inner : (i : ℕ) → i < n → rightPoint size next b n R i ≡ true → inner i ≡ true
   unfolding rightPoint inner
   point-inner i l e =
-      and-right (ltb (R i) (g .size)) _ (sym (pick-yes (ltb i n) _ _ (lt-ltb i n l)) ∙ e)
+      and-right (ltb (R i) size) _ (sym (pick-yes (ltb i n) _ _ (lt-ltb i n l)) ∙ e)
 
-  inner-point : (i : ℕ) → i < n → R i < g .size → inner i ≡ true → rightPoint g next b n R i ≡ true
+  inner-point : (i : ℕ) → i < n → R i < size → inner i ≡ true → rightPoint size next b n R i ≡ true
   unfolding rightPoint inner
   inner-point i l h e =
       pick-yes (ltb i n) _ _ (lt-ltb i n l)
-      ∙ and-intro (ltb (R i) (g .size)) _ (lt-ltb (R i) (g .size) h) e
+      ∙ and-intro (ltb (R i) size) _ (lt-ltb (R i) size h) e
 
-  pub point-inside : (i : ℕ) → i < n → rightPoint g next b n R i ≡ true → R i < g .size
+  pub point-inside : (i : ℕ) → i < n → rightPoint size next b n R i ≡ true → R i < size
   unfolding rightPoint
   point-inside i l e =
-      ltb-true (R i) (g .size)
-      (and-left (ltb (R i) (g .size)) _ (sym (pick-yes (ltb i n) _ _ (lt-ltb i n l)) ∙ e))
+      ltb-true (R i) size
+      (and-left (ltb (R i) size) _ (sym (pick-yes (ltb i n) _ _ (lt-ltb i n l)) ∙ e))
 
-  pub point-last : (i : ℕ) → i < n → rightPoint g next b n R i ≡ true → R i ≡ b → suc i ≡ n
+  pub point-last : (i : ℕ) → i < n → rightPoint size next b n R i ≡ true → R i ≡ b → suc i ≡ n
   unfolding inner
   point-last i l e q =
       eqb-true (suc i) n (sym (pick-yes (eqb (R i) b) _ _ (eq-eqb (R i) b q)) ∙ point-inner i l e)
 
-  pub point-on : (i : ℕ) → i < n → rightPoint g next b n R i ≡ true → (R i ≡ b → ⊥)
+  pub point-on : (i : ℕ) → i < n → rightPoint size next b n R i ≡ true → (R i ≡ b → ⊥)
       → (suc i < n) × (next (R i) ≡ some (R (suc i)))
   unfolding inner
   point-on i l e ne =
@@ -64,17 +63,17 @@ module _ (g : Graph) (next : ℕ → Option ℕ) (b n : ℕ) (R : ℕ → ℕ) w
       let s = is-there-cases (next (R i)) (λ w. eqb w (R (suc i))) (and-right (ltb (suc i) n) _ r) in
       (ltb-true (suc i) n (and-left (ltb (suc i) n) _ r), s .1 ∙ ap some (eqb-true (s .0) (R (suc i)) (s .2)))
 
-  pub point-past : (i : ℕ) → n ≤ i → rightPoint g next b n R i ≡ true → R i ≡ 0
+  pub point-past : (i : ℕ) → n ≤ i → rightPoint size next b n R i ≡ true → R i ≡ 0
   unfolding rightPoint
   point-past i l e = eqb-true (R i) 0 (sym (pick-no (ltb i n) _ (eqb (R i) 0) (le-ltb i n l)) ∙ e)
 
-  last-point : (i : ℕ) → suc i ≡ n → R i < g .size → R i ≡ b → rightPoint g next b n R i ≡ true
+  last-point : (i : ℕ) → suc i ≡ n → R i < size → R i ≡ b → rightPoint size next b n R i ≡ true
   unfolding inner
   last-point i l h q =
       inner-point i (omega arith) h (pick-yes (eqb (R i) b) _ _ (eq-eqb (R i) b q) ∙ eq-eqb (suc i) n l)
 
-  on-point : (i : ℕ) → suc i < n → R i < g .size → (R i ≡ b → ⊥) → next (R i) ≡ some (R (suc i))
-      → rightPoint g next b n R i ≡ true
+  on-point : (i : ℕ) → suc i < n → R i < size → (R i ≡ b → ⊥) → next (R i) ≡ some (R (suc i))
+      → rightPoint size next b n R i ≡ true
   unfolding inner
   on-point i l h ne e =
       inner-point i (omega arith) h
@@ -82,7 +81,7 @@ module _ (g : Graph) (next : ℕ → Option ℕ) (b n : ℕ) (R : ℕ → ℕ) w
       ∙ and-intro (ltb (suc i) n) _ (lt-ltb (suc i) n l)
       (is-there-at (next (R i)) _ (R (suc i)) e (eq-eqb (R (suc i)) (R (suc i)) refl)))
 
-  past-point : (i : ℕ) → n ≤ i → R i ≡ 0 → rightPoint g next b n R i ≡ true
+  past-point : (i : ℕ) → n ≤ i → R i ≡ 0 → rightPoint size next b n R i ≡ true
   unfolding rightPoint
   past-point i l e = pick-no (ltb i n) _ (eqb (R i) 0) (le-ltb i n l) ∙ eq-eqb (R i) 0 e
 
@@ -104,7 +103,7 @@ module _ (g : Graph) (next : ℕ → Option ℕ) (b n : ℕ) (R : ℕ → ℕ) w
   getD-cut i (suc k) (suc j) l = getD-cut (suc i) k j (omega arith) ∙ ap R (omega arith)
 
   -- Right points are what the rule follows.
-  follow-cut : ((j : ℕ) → j < n → rightPoint g next b n R j ≡ true) → (k f i : ℕ) → i + suc k ≡ n → suc k ≤ f
+  follow-cut : ((j : ℕ) → j < n → rightPoint size next b n R j ≡ true) → (k f i : ℕ) → i + suc k ≡ n → suc k ≤ f
       → follow next b f (R i) ≡ cut i (suc k)
   unfolding cut
   follow-cut all k zero i e le = absurd (omega arith)
@@ -118,9 +117,9 @@ module _ (g : Graph) (next : ℕ → Option ℕ) (b n : ℕ) (R : ℕ → ℕ) w
       ∙ ap (λ l. R i ∷ l) (follow-cut all k f (suc i) (omega arith) (omega arith))) (eq-or-ne (R i) b)
 
   -- And what the rule follows to b is right points.
-  module _ (inside : (i : ℕ) → i < n → R i < g .size) where
+  module _ (inside : (i : ℕ) → i < n → R i < size) where
     first-point : (i k f v w : ℕ) → i + suc k ≡ n → (v ≡ b → ⊥) → next v ≡ some w → Arrives next b f w
-        → R i ∷ cut (suc i) k ≡ v ∷ follow next b f w → rightPoint g next b n R i ≡ true
+        → R i ∷ cut (suc i) k ≡ v ∷ follow next b f w → rightPoint size next b n R i ≡ true
     unfolding cut
     first-point i zero f v w e ne q r c = absurd (omega (arith, arrives-pos r, ap length c))
     first-point i (suc k) f v w e ne q r c =
@@ -129,7 +128,7 @@ module _ (g : Graph) (next : ℕ → Option ℕ) (b n : ℕ) (R : ℕ → ℕ) w
         on-point i (omega arith) (inside i (omega arith)) (λ h. ne (sym p ∙ h)) (ap next p ∙ q ∙ ap some (sym s))
 
     cut-follow : {f v : ℕ} → Arrives next b f v → (i k : ℕ) → i + k ≡ n → cut i k ≡ follow next b f v
-        → (j : ℕ) → i ≤ j → j < n → rightPoint g next b n R j ≡ true
+        → (j : ℕ) → i ≤ j → j < n → rightPoint size next b n R j ≡ true
     unfolding cut
     cut-follow r i zero e c j le lt = absurd (omega arith)
     cut-follow (end {f} {v} q) i (suc k) e c j le lt =
@@ -145,67 +144,67 @@ module _ (g : Graph) (next : ℕ → Option ℕ) (b n : ℕ) (R : ℕ → ℕ) w
 -- ---- a list of points
 
 -- The list r and the number n are the route from a by the rule.
-pub record IsRoute (g : Graph) (next : ℕ → Option ℕ) (a b n : ℕ) (r : List ℕ) : Type 0 where
-  pub points : r ≡ padded (g .size) (follow next b (g .size) a)
-  pub count : n ≡ length (follow next b (g .size) a)
+pub record IsRoute (size : ℕ) (next : ℕ → Option ℕ) (a b n : ℕ) (r : List ℕ) : Type 0 where
+  pub points : r ≡ padded size (follow next b size a)
+  pub count : n ≡ length (follow next b size a)
 
-module _ (g : Graph) (next : ℕ → Option ℕ) (a b n : ℕ) (r : List ℕ) (shape : length r ≡ g .size) where
-  pub route-true : rightRoute g next a b n (entry r) ≡ true → IsRoute g next a b n r
+module _ (size : ℕ) (next : ℕ → Option ℕ) (a b n : ℕ) (r : List ℕ) (shape : length r ≡ size) where
+  pub route-true : rightRoute size next a b n (entry r) ≡ true → IsRoute size next a b n r
   unfolding rightRoute
   route-true e =
       let e1 = and-right (ltb 0 n) _ e in
-      let e2 = and-right (leb n (g .size)) _ e1 in
+      let e2 = and-right (leb n size) _ e1 in
       let pos = ltb-true 0 n (and-left (ltb 0 n) _ e) in
-      let fits = leb-true n (g .size) (and-left (leb n (g .size)) _ e1) in
+      let fits = leb-true n size (and-left (leb n size) _ e1) in
       let start = eqb-true (entry r 0) a (and-left (eqb (entry r 0) a) _ e2) in
-      let all = every-at (g .size) (rightPoint g next b n (entry r)) (and-right (eqb (entry r 0) a) _ e2) in
+      let all = every-at size (rightPoint size next b n (entry r)) (and-right (eqb (entry r 0) a) _ e2) in
       from n pos fits start all
     where
-      from : (n : ℕ) → 0 < n → n ≤ g .size → entry r 0 ≡ a
-          → ((i : ℕ) → i < g .size → rightPoint g next b n (entry r) i ≡ true) → IsRoute g next a b n r
+      from : (n : ℕ) → 0 < n → n ≤ size → entry r 0 ≡ a
+          → ((i : ℕ) → i < size → rightPoint size next b n (entry r) i ≡ true) → IsRoute size next a b n r
       from zero pos fits start all = absurd (omega arith)
       from (suc k) pos fits start all =
           let n = suc k in
-          let c : follow next b (g .size) a ≡ cut g next b n (entry r) 0 n
-          = ap (follow next b (g .size)) (sym start)
-          ∙ follow-cut g next b n (entry r) (λ j l. all j (omega arith)) k (g .size) 0 (omega arith) fits in
-          let len : length (follow next b (g .size) a) ≡ n = ap length c ∙ length-cut g next b n (entry r) 0 n in
+          let c : follow next b size a ≡ cut size next b n (entry r) 0 n
+          = ap (follow next b size) (sym start)
+          ∙ follow-cut size next b n (entry r) (λ j l. all j (omega arith)) k size 0 (omega arith) fits in
+          let len : length (follow next b size a) ≡ n = ap length c ∙ length-cut size next b n (entry r) 0 n in
           record {
-            points = padded-of (g .size) r (follow next b (g .size) a) shape (omega arith)
-                (λ i l. sym (ap (λ s. getD s i 0) c ∙ getD-cut g next b n (entry r) 0 n i (omega arith)
+            points = padded-of size r (follow next b size a) shape (omega arith)
+                (λ i l. sym (ap (λ s. getD s i 0) c ∙ getD-cut size next b n (entry r) 0 n i (omega arith)
                 ∙ ap (entry r) (omega arith)))
-                (λ i l h. point-past g next b n (entry r) i (omega arith) (all i h));
+                (λ i l h. point-past size next b n (entry r) i (omega arith) (all i h));
             count = sym len;
           }
 
-  module _ (is : IsRoute g next a b n r) where
+  module _ (is : IsRoute size next a b n r) where
     abbrev points : List ℕ
-    points = follow next b (g .size) a
+    points = follow next b size a
 
     at : (i : ℕ) → i < n → entry r i ≡ getD points i 0
-    at i l = ap (λ s. getD s i 0) (is .points) ∙ getD-padded (g .size) i points (omega (arith, is .count))
+    at i l = ap (λ s. getD s i 0) (is .points) ∙ getD-padded size i points (omega (arith, is .count))
 
     past : (i : ℕ) → n ≤ i → entry r i ≡ 0
-    past i l = ap (λ s. getD s i 0) (is .points) ∙ getD-padded-past (g .size) i points (omega (arith, is .count))
+    past i l = ap (λ s. getD s i 0) (is .points) ∙ getD-padded-past size i points (omega (arith, is .count))
 
-    cut-points : cut g next b n (entry r) 0 n ≡ points
+    cut-points : cut size next b n (entry r) 0 n ≡ points
     cut-points =
-        let len = length-cut g next b n (entry r) 0 n in
-        ext-getD 0 (cut g next b n (entry r) 0 n) points (len ∙ is .count) (λ i l.
-        getD-cut g next b n (entry r) 0 n i (omega arith) ∙ ap (entry r) (omega arith) ∙ at i (omega arith))
+        let len = length-cut size next b n (entry r) 0 n in
+        ext-getD 0 (cut size next b n (entry r) 0 n) points (len ∙ is .count) (λ i l.
+        getD-cut size next b n (entry r) 0 n i (omega arith) ∙ ap (entry r) (omega arith) ∙ at i (omega arith))
 
-    pub true-route : a < g .size → ((v w : ℕ) → v < g .size → next v ≡ some w → w < g .size)
-        → Arrives next b (g .size) a → rightRoute g next a b n (entry r) ≡ true
+    pub true-route : a < size → ((v w : ℕ) → v < size → next v ≡ some w → w < size)
+        → Arrives next b size a → rightRoute size next a b n (entry r) ≡ true
     unfolding rightRoute
     true-route in-a inside arrives =
         let pos : 0 < n = omega (arith, is .count, arrives-pos arrives) in
-        let fits : n ≤ g .size = omega (arith, is .count, follow-length next b (g .size) a) in
-        let within : (i : ℕ) → i < n → entry r i < g .size = λ i l. rw (at i l)
-        (follow-inside next b (g .size) inside (g .size) a i in-a (omega (arith, is .count))) in
+        let fits : n ≤ size = omega (arith, is .count, follow-length next b size a) in
+        let within : (i : ℕ) → i < n → entry r i < size = λ i l. rw (at i l)
+        (follow-inside next b size inside size a i in-a (omega (arith, is .count))) in
         and-intro (ltb 0 n) _ (lt-ltb 0 n pos)
-        (and-intro (leb n (g .size)) _ (le-leb n (g .size) fits)
+        (and-intro (leb n size) _ (le-leb n size fits)
         (and-intro (eqb (entry r 0) a) _
         (eq-eqb (entry r 0) a (at 0 pos ∙ ap (λ s. getD s 0 0) (arrives-begins arrives .1)))
-        (every-all (g .size) _ (λ i l. ⊎-elim
-        (λ lt. cut-follow g next b n (entry r) within arrives 0 n (omega arith) cut-points i (omega arith) lt)
-        (λ ge. past-point g next b n (entry r) i (omega arith) (past i (omega arith))) (le-or-lt (suc i) n)))))
+        (every-all size _ (λ i l. ⊎-elim
+        (λ lt. cut-follow size next b n (entry r) within arrives 0 n (omega arith) cut-points i (omega arith) lt)
+        (λ ge. past-point size next b n (entry r) i (omega arith) (past i (omega arith))) (le-or-lt (suc i) n)))))

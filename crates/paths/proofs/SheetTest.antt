@@ -3,36 +3,41 @@
 --   numbers-exact         == `localNumbers` says so
 --   numbers-fit           == then f(v) * b(v) is at most f(B), at each vertex: a product of 64-bit numbers that fits
 --   local-on, local-next  == on the way and the next vertex, by such a sheet's numbers, are the true ones
+--   right-next            == so `rightNext` says that the next vertex of the sheet is the true one
 --   local-true, true-local       == `localRoute` passes on the true route sheet alone, among the sheets whose total fits
 --   localRoute-exact             == the two together
 --   local-noRoute, noRoute-local == `localNoRoute` passes on the true no-route sheet alone
 --   localNoRoute-exact           == the two together
 use Prim.Native.Nat.{ℕ, _*_, _^_, _≤_, _<_}
 use mathlib.Core.Path.{_≡_, sym, ap, ap₂, _∙_}
-use mathlib.Core.Logic.{_↔_}
+use mathlib.Core.Logic.{_↔_, ⊎-elim}
 use mathlib.Core.Bool.{true}
 use mathlib.Core.Option.{some}
 use native.Mathlib.Omega.{arith}
-use borrow.Author.Tests.{eqb-true, eq-eqb, ltb-true, lt-ltb}
+use borrow.Author.Tests.{eqb-true, eq-eqb, ne-eqb, ltb-true, lt-ltb}
 use lib.Dec.{ltb, eqb}
 use lib.ListN.{length}
-use Rattle.basics.specs.Bounded.{pick}
+use Rattle.basics.specs.Bounded.{pick, every}
 use Rattle.basics.specs.Lists.{padded}
-use Rattle.basics.proofs.Bools.{and-intro, and-left, and-right}
+use Rattle.basics.proofs.Order.{eq-or-ne}
+use Rattle.basics.proofs.Bools.{and-intro, and-left, and-right, true-or-false}
 use Rattle.basics.proofs.Bounded.{every-all, every-at}
 use Rattle.paths.specs.Graph.{Graph, Lawful}
 use Rattle.paths.specs.Distance.{unreachable, distance, pathCount}
-use Rattle.paths.specs.Route.{onWay, countFrom, countTo, traversals, nextVertex, follow, centralRoute}
+use Rattle.paths.specs.Route.{onWay, countFrom, countTo, traversals, nextVertex, follow}
+use Rattle.paths.specs.Route.{centralRoute, nextNumber}
 use Rattle.paths.specs.Sheet.{Sheet, routeSheet, noRouteSheet, TrueRoute, TrueNoRoute}
 use Rattle.paths.specs.Local.{rightCosts, rightCounts, entry, Shaped, localOn, localNext, localNumbers}
-use Rattle.paths.specs.Local.{localRoute, blankAt, localNoRoute}
+use Rattle.paths.specs.Local.{is-there, rightNext, byNext, localRoute, blankAt, localNoRoute}
 use Rattle.paths.proofs.Reverse.{distance-sym, pathCount-sym}
 use Rattle.paths.proofs.Way.{shortest-same, way-end, countFrom-way, traversals-fit}
 use Rattle.paths.proofs.CostTest.{costs-true, true-costs}
 use Rattle.paths.proofs.CountTest.{Closed, closed-same, way-closed, way-closed-to, counts-true, true-counts}
-use Rattle.paths.proofs.Choice.{next-inside, next-same}
-use Rattle.paths.proofs.Follow.{Arrives, arrives-cong}
-use Rattle.paths.proofs.Route.{route-arrives, route-same}
+use Rattle.paths.proofs.Choice.{next-same}
+use Rattle.paths.proofs.Follow.{Arrives, follow-cong, arrives-cong}
+use Rattle.paths.proofs.Route.{next-there}
+use Rattle.paths.proofs.NextNumbers.{number-next, number-end, number-off, number-inside, numbers-arrive}
+use Rattle.paths.proofs.NextNumbers.{route-numbers}
 use Rattle.paths.proofs.RouteTest.{route-true, true-route}
 use Rattle.paths.proofs.Sheets.{TrueNumbers, routeSheet-of, Blank, noRouteSheet-of, joined-reached}
 use Rattle.paths.proofs.Sheets.{reached-joined, unreachable-joined, total-fits}
@@ -45,11 +50,13 @@ unfolding blankAt
 blank-cases s v t =
     let t1 = and-right (eqb (entry (s .e) v) 0) _ t in
     let t2 = and-right (eqb (entry (s .f) v) 0) _ t1 in
+    let t3 = and-right (eqb (entry (s .b) v) 0) _ t2 in
     record {
       e = eqb-true (entry (s .e) v) 0 (and-left (eqb (entry (s .e) v) 0) _ t);
       f = eqb-true (entry (s .f) v) 0 (and-left (eqb (entry (s .f) v) 0) _ t1);
       b = eqb-true (entry (s .b) v) 0 (and-left (eqb (entry (s .b) v) 0) _ t2);
-      route = eqb-true (entry (s .route) v) 0 (and-right (eqb (entry (s .b) v) 0) _ t2);
+      route = eqb-true (entry (s .route) v) 0 (and-left (eqb (entry (s .route) v) 0) _ t3);
+      next = eqb-true (entry (s .next) v) 0 (and-right (eqb (entry (s .route) v) 0) _ t3);
     }
 
 pub blank-at : (s : Sheet) (v : ℕ) → Blank s v → blankAt s v ≡ true
@@ -58,7 +65,8 @@ blank-at s v z =
     and-intro (eqb (entry (s .e) v) 0) _ (eq-eqb (entry (s .e) v) 0 (z .e))
     (and-intro (eqb (entry (s .f) v) 0) _ (eq-eqb (entry (s .f) v) 0 (z .f))
     (and-intro (eqb (entry (s .b) v) 0) _ (eq-eqb (entry (s .b) v) 0 (z .b))
-    (eq-eqb (entry (s .route) v) 0 (z .route))))
+    (and-intro (eqb (entry (s .route) v) 0) _ (eq-eqb (entry (s .route) v) 0 (z .route))
+    (eq-eqb (entry (s .next) v) 0 (z .next)))))
 
 module _ (g : Graph) (L : Lawful g) (a b : ℕ) (in-a : a < g .size) (in-b : b < g .size) (s : Sheet) where
   -- ---- with the true costs
@@ -153,25 +161,43 @@ module _ (g : Graph) (L : Lawful g) (a b : ℕ) (in-a : a < g .size) (in-b : b <
         next-same g L (localOn b s) (onWay g a b) (entry (s .d)) (distance g a) (λ v. entry (s .f) v * entry (s .b) v)
         (traversals g a b) local-on (N .costs-from) product-true v i
 
+    -- ---- the next vertices
+
+    pub right-next : (v : ℕ) → v < g .size → rightNext g b s v ≡ eqb (entry (s .next) v) (nextNumber g a b v)
+    unfolding rightNext is-there
+    right-next v i =
+        ⊎-elim
+        (λ o. ⊎-elim
+        (λ e. rw (local-on v i ∙ o, eq-eqb v b e, number-end g L a b in-a in-b v o e))
+        (λ ne.
+        let r = next-there g L a b in-a in-b (traversals g a b) v i o ne in
+        rw (local-on v i ∙ o, ne-eqb v b ne, local-next v i ∙ r .1, number-next g L a b in-a in-b v (r .0) o ne (r .1)))
+        (eq-or-ne v b))
+        (λ o. rw (local-on v i ∙ o, number-off g L a b in-a in-b v o)) (true-or-false (onWay g a b v))
+
     -- ---- the route
 
-    local-inside : (v w : ℕ) → v < g .size → localNext g b s v ≡ some w → w < g .size
-    unfolding localNext
-    local-inside v w i e =
-        next-inside g L (localOn b s) (entry (s .d)) (λ v. entry (s .f) v * entry (s .b) v) v w i e
+    module _ (xx : (v : ℕ) → v < g .size → entry (s .next) v ≡ nextNumber g a b v) where
+      by-next : (v : ℕ) → v < g .size → byNext s v ≡ some (nextNumber g a b v)
+      by-next v i = ap some (xx v i)
 
-    local-arrives : Arrives (localNext g b s) b (g .size) a
-    local-arrives =
-        arrives-cong (localNext g b s) (nextVertex g (onWay g a b) (distance g a) (traversals g a b)) b (g .size)
-        local-next
-        (λ v w i e. next-inside g L (onWay g a b) (distance g a) (traversals g a b) v w i e) in-a
-        (route-arrives g L a b in-a in-b (N .reached))
+      numbered-inside : (v w : ℕ) → v < g .size → some (nextNumber g a b v) ≡ some w → w < g .size
+      numbered-inside v w i e =
+          let q : nextNumber g a b v ≡ w = cc in
+          omega (arith, number-inside g L a b in-a in-b v i)
 
-    local-route : follow (localNext g b s) b (g .size) a ≡ centralRoute g a b
-    unfolding localNext
-    local-route =
-        route-same g L a b in-a in-b (localOn b s) (entry (s .d)) (λ v. entry (s .f) v * entry (s .b) v) local-on
-        (N .costs-from) product-true
+      next-inside : (v w : ℕ) → v < g .size → byNext s v ≡ some w → w < g .size
+      next-inside v w i e = numbered-inside v w i (sym (by-next v i) ∙ e)
+
+      next-arrives : Arrives (byNext s) b (g .size) a
+      next-arrives =
+          arrives-cong (byNext s) (λ v. some (nextNumber g a b v)) b (g .size) by-next numbered-inside in-a
+          (numbers-arrive g L a b in-a in-b (N .reached))
+
+      next-route : follow (byNext s) b (g .size) a ≡ centralRoute g a b
+      next-route =
+          follow-cong (byNext s) (λ v. some (nextNumber g a b v)) b (g .size) by-next numbered-inside (g .size) a in-a
+          ∙ sym (route-numbers g L a b in-a in-b (N .reached))
 
   pub numbers-exact : (localNumbers g a b s ≡ true) ↔ TrueNumbers g a b s
   numbers-exact = (numbers-true, true-numbers)
@@ -182,13 +208,17 @@ module _ (g : Graph) (L : Lawful g) (a b : ℕ) (in-a : a < g .size) (in-b : b <
   unfolding localRoute routeSheet
   local-true shape total t =
       let N = numbers-true (and-left (localNumbers g a b s) _ t) in
-      let r = route-true g (localNext g b s) a b (s .n) (s .route) (shape .route)
-      (and-right (localNumbers g a b s) _ t) in
+      let t1 = and-right (localNumbers g a b s) _ t in
+      let all = every-at (g .size) (rightNext g b s) (and-left (every (g .size) (rightNext g b s)) _ t1) in
+      let xx : (v : ℕ) → v < g .size → entry (s .next) v ≡ nextNumber g a b v
+      = λ v i. eqb-true (entry (s .next) v) (nextNumber g a b v) (sym (right-next N v i) ∙ all v i) in
+      let r = route-true (g .size) (byNext s) a b (s .n) (s .route) (shape .route)
+      (and-right (every (g .size) (rightNext g b s)) _ t1) in
       record {
         is-joined = reached-joined g a b (N .reached);
         total-fits = total-fits g a b (rw (numbers-total N) at total);
-        is = routeSheet-of g a b s shape N (r .points ∙ ap (padded (g .size)) (local-route N))
-            (r .count ∙ ap length (local-route N));
+        is = routeSheet-of g a b s shape N (r .points ∙ ap (padded (g .size)) (next-route N xx)) xx
+            (r .count ∙ ap length (next-route N xx));
       }
 
   pub true-local : TrueRoute g a b s → localRoute g a b s ≡ true
@@ -203,10 +233,12 @@ module _ (g : Graph) (L : Lawful g) (a b : ℕ) (in-a : a < g .size) (in-b : b <
         counts-to = E .b-at;
       } in
       and-intro (localNumbers g a b s) _ (true-numbers N)
-      (true-route g (localNext g b s) a b (s .n) (s .route) (E .shape .route) (record {
-        points = ap (λ t. t .route) (S .is) ∙ ap (padded (g .size)) (sym (local-route N));
-        count = ap (λ t. t .n) (S .is) ∙ ap length (sym (local-route N));
-      }) in-a (local-inside N) (local-arrives N))
+      (and-intro (every (g .size) (rightNext g b s)) _
+      (every-all (g .size) (rightNext g b s) (λ v i. right-next N v i ∙ eq-eqb _ _ (E .next-at v i)))
+      (true-route (g .size) (byNext s) a b (s .n) (s .route) (E .shape .route) (record {
+        points = ap (λ t. t .route) (S .is) ∙ ap (padded (g .size)) (sym (next-route N (E .next-at)));
+        count = ap (λ t. t .n) (S .is) ∙ ap length (sym (next-route N (E .next-at)));
+      }) in-a (next-inside N (E .next-at)) (next-arrives N (E .next-at))))
 
   pub localRoute-exact : Shaped (g .size) s → entry (s .f) b < 2 ^ 64 → (localRoute g a b s ≡ true) ↔ TrueRoute g a b s
   localRoute-exact shape total = (local-true shape total, true-local)
@@ -235,7 +267,13 @@ module _ (g : Graph) (L : Lawful g) (a b : ℕ) (in-a : a < g .size) (in-b : b <
       (and-intro (eqb (entry (s .d) b) unreachable) _ (eq-eqb (entry (s .d) b) unreachable (E .d-at b in-b ∙ E .d-end))
       (and-intro (eqb (s .n) 0) _ (eq-eqb (s .n) 0 (E .n-zero))
       (every-all (g .size) (blankAt s) (λ v i. blank-at s v
-      (record { e = E .e-zero v; f = E .f-zero v; b = E .b-zero v; route = E .route-zero v })))))
+      (record {
+        e = E .e-zero v;
+        f = E .f-zero v;
+        b = E .b-zero v;
+        route = E .route-zero v;
+        next = E .next-zero v;
+      })))))
 
   pub localNoRoute-exact : Shaped (g .size) s → (localNoRoute g a b s ≡ true) ↔ TrueNoRoute g a b s
   localNoRoute-exact shape = (local-noRoute shape, noRoute-local)

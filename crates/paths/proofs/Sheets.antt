@@ -7,7 +7,7 @@
 --   sheet-eq            == sheets are equal that have equal parts
 --   sameSheet-exact     == so `sameSheet` says that two sheets are equal
 --   TrueNumbers g a b s == the sheet s has the true costs and counts of a job with a route
---   routeSheet-of       == with the central route besides, it is the true route sheet
+--   routeSheet-of       == with the next vertices and the central route besides, it is the true route sheet
 --   Blank s v           == s has 0 for vertex v but for its cost
 --   noRouteSheet-of     == with that at each vertex, and the true costs, it is the true no-route sheet
 --   RouteEntries, route-entries == what a true route sheet holds, place by place, and its bounds
@@ -16,14 +16,14 @@
 use Prim.Native.Nat.{ℕ, _-_, _*_, _^_, _≤_, _<_}
 use mathlib.Core.Path.{_≡_, refl, sym, _∙_, subst}
 use mathlib.Core.Logic.{⊎-elim, _↔_}
-use mathlib.Core.Bool.{true, false}
+use mathlib.Core.Bool.{true, false, _&&_}
 use mathlib.Core.List.{List}
 use native.Mathlib.Omega.{arith}
 use borrow.Author.Tests.{eqb-true, eq-eqb, ltb-true, ltb-false, lt-ltb, le-ltb}
 use lib.Dec.{eqb}
 use lib.ListN.{length, getD, length-replicate}
 use Rattle.basics.specs.Lists.{tabulate, padded, same}
-use Rattle.basics.proofs.Bools.{not-both, true-or-false, and-intro, all-six}
+use Rattle.basics.proofs.Bools.{not-both, true-or-false, and-intro, and-left, and-right, all-six}
 use Rattle.basics.proofs.Lists.{
   getD-zeros,
   zeros-of,
@@ -38,8 +38,9 @@ use Rattle.basics.proofs.Lists.{
 }
 use Rattle.paths.specs.Graph.{Graph, Lawful}
 use Rattle.paths.specs.Distance.{unreachable, distance, pathCount}
-use Rattle.paths.specs.Route.{onWay, countFrom, countTo, traversals, centralRoute}
-use Rattle.paths.specs.Sheet.{Sheet, joined, fits, routeSheet, noRouteSheet, TrueRoute, TrueNoRoute, sameSheet}
+use Rattle.paths.specs.Route.{onWay, countFrom, countTo, traversals, centralRoute, nextNumber}
+use Rattle.paths.specs.Sheet.{Sheet, sheetOf, joined, fits, routeSheet, noRouteSheet}
+use Rattle.paths.specs.Sheet.{TrueRoute, TrueNoRoute, sameSheet}
 use Rattle.paths.specs.Local.{Shaped, entry}
 use Rattle.paths.proofs.Listing.{HasWalk}
 use Rattle.paths.proofs.Distance.{distance-le}
@@ -47,6 +48,7 @@ use Rattle.paths.proofs.Bound.{reached-exact, distance-bound}
 use Rattle.paths.proofs.Reverse.{distance-sym}
 use Rattle.paths.proofs.Way.{traversals-fit, countFrom-fits, countTo-fits, countFrom-off, countTo-off}
 use Rattle.paths.proofs.Route.{route-length, route-pos, route-inside}
+use Rattle.paths.proofs.NextNumbers.{number-inside}
 
 -- ---- joined, and a total that fits
 
@@ -109,30 +111,35 @@ trueNoRoute-one S T = S .is ∙ sym (T .is)
 
 -- ---- two sheets compared
 
-abbrev sheet : List ℕ → List ℕ → List ℕ → List ℕ → List ℕ → ℕ → Sheet
-sheet d e f b r n = record { d = d; e = e; f = f; b = b; route = r; n = n }
+sheet-cong : {d d′ e e′ f f′ b b′ r r′ x x′ : List ℕ} {n n′ : ℕ} → d ≡ d′ → e ≡ e′ → f ≡ f′ → b ≡ b′ → r ≡ r′
+    → x ≡ x′ → n ≡ n′ → sheetOf d e f b r x n ≡ sheetOf d′ e′ f′ b′ r′ x′ n′
+sheet-cong p q x y z v w = rw (p, q, x, y, z, v, w)
 
-sheet-cong : {d d′ e e′ f f′ b b′ r r′ : List ℕ} {n n′ : ℕ} → d ≡ d′ → e ≡ e′ → f ≡ f′ → b ≡ b′ → r ≡ r′ → n ≡ n′
-    → sheet d e f b r n ≡ sheet d′ e′ f′ b′ r′ n′
-sheet-cong p q x y z w = rw (p, q, x, y, z, w)
-
-pub sheet-eq : (s t : Sheet) → s .d ≡ t .d → s .e ≡ t .e → s .f ≡ t .f → s .b ≡ t .b → s .route ≡ t .route → s .n ≡ t .n
-    → s ≡ t
-sheet-eq s t d e f b r n = sheet-cong d e f b r n
+pub sheet-eq : (s t : Sheet) → s .d ≡ t .d → s .e ≡ t .e → s .f ≡ t .f → s .b ≡ t .b → s .route ≡ t .route
+    → s .next ≡ t .next → s .n ≡ t .n → s ≡ t
+sheet-eq s t d e f b r x n = sheet-cong d e f b r x n
 
 same-sheet-eq : (s t : Sheet) → sameSheet s t ≡ true → s ≡ t
 unfolding sameSheet
 same-sheet-eq s t e =
-    let r = all-six (same (s .d) (t .d)) (same (s .e) (t .e)) (same (s .f) (t .f)) (same (s .b) (t .b))
-    (same (s .route) (t .route)) (eqb (s .n) (t .n)) e in
+    let D = same (s .d) (t .d) in
+    let E = same (s .e) (t .e) in
+    let F = same (s .f) (t .f) in
+    let B = same (s .b) (t .b) in
+    let R = same (s .route) (t .route) in
+    let X = same (s .next) (t .next) in
+    let n = eqb (s .n) (t .n) in
+    let r = all-six D E F B R X (and-left (D && E && F && B && R && X) n e) in
     sheet-eq s t (same-eq (s .d) (t .d) (r .0)) (same-eq (s .e) (t .e) (r .1)) (same-eq (s .f) (t .f) (r .2))
-    (same-eq (s .b) (t .b) (r .3)) (same-eq (s .route) (t .route) (r .4)) (eqb-true (s .n) (t .n) (r .5))
+    (same-eq (s .b) (t .b) (r .3)) (same-eq (s .route) (t .route) (r .4)) (same-eq (s .next) (t .next) (r .5))
+    (eqb-true (s .n) (t .n) (and-right (D && E && F && B && R && X) n e))
 
 same-sheet-refl : (s : Sheet) → sameSheet s s ≡ true
 unfolding sameSheet
 same-sheet-refl s =
-    and-intro _ _ (and-intro _ _ (and-intro _ _ (and-intro _ _ (and-intro _ _ (same-refl (s .d)) (same-refl (s .e)))
-    (same-refl (s .f))) (same-refl (s .b))) (same-refl (s .route))) (eq-eqb (s .n) (s .n) refl)
+    and-intro _ _ (and-intro _ _ (and-intro _ _ (and-intro _ _ (and-intro _ _ (and-intro _ _ (same-refl (s .d))
+    (same-refl (s .e))) (same-refl (s .f))) (same-refl (s .b))) (same-refl (s .route))) (same-refl (s .next)))
+    (eq-eqb (s .n) (s .n) refl)
 
 pub sameSheet-exact : (s t : Sheet) → (sameSheet s t ≡ true) ↔ (s ≡ t)
 sameSheet-exact s t = (same-sheet-eq s t, λ e. rw e (same-sheet-refl t))
@@ -147,20 +154,24 @@ pub record TrueNumbers (g : Graph) (a b : ℕ) (s : Sheet) : Type 0 where
   pub counts-to : (v : ℕ) → v < g .size → entry (s .b) v ≡ countTo g a b v
 
 pub routeSheet-of : (g : Graph) (a b : ℕ) (s : Sheet) → Shaped (g .size) s → TrueNumbers g a b s
-    → s .route ≡ padded (g .size) (centralRoute g a b) → s .n ≡ length (centralRoute g a b) → s ≡ routeSheet g a b
+    → s .route ≡ padded (g .size) (centralRoute g a b)
+    → ((v : ℕ) → v < g .size → entry (s .next) v ≡ nextNumber g a b v)
+    → s .n ≡ length (centralRoute g a b) → s ≡ routeSheet g a b
 unfolding routeSheet
-routeSheet-of g a b s shape N r n =
+routeSheet-of g a b s shape N r x n =
     sheet-eq s (routeSheet g a b)
     (tabulate-of (g .size) (s .d) (distance g a) (shape .d) (N .costs-from))
     (tabulate-of (g .size) (s .e) (λ v. distance g v b) (shape .e) (N .costs-to))
     (tabulate-of (g .size) (s .f) (countFrom g a b) (shape .f) (N .counts-from))
-    (tabulate-of (g .size) (s .b) (countTo g a b) (shape .b) (N .counts-to)) r n
+    (tabulate-of (g .size) (s .b) (countTo g a b) (shape .b) (N .counts-to)) r
+    (tabulate-of (g .size) (s .next) (nextNumber g a b) (shape .next) x) n
 
 pub record Blank (s : Sheet) (v : ℕ) : Type 0 where
   pub e : entry (s .e) v ≡ 0
   pub f : entry (s .f) v ≡ 0
   pub b : entry (s .b) v ≡ 0
   pub route : entry (s .route) v ≡ 0
+  pub next : entry (s .next) v ≡ 0
 
 pub noRouteSheet-of : (g : Graph) (a : ℕ) (s : Sheet) → Shaped (g .size) s
     → ((v : ℕ) → v < g .size → entry (s .d) v ≡ distance g a v) → ((v : ℕ) → v < g .size → Blank s v) → s .n ≡ 0
@@ -172,7 +183,8 @@ noRouteSheet-of g a s shape dd blank n =
     (zeros-of (g .size) (s .e) (shape .e) (λ v i. blank v i .e))
     (zeros-of (g .size) (s .f) (shape .f) (λ v i. blank v i .f))
     (zeros-of (g .size) (s .b) (shape .b) (λ v i. blank v i .b))
-    (zeros-of (g .size) (s .route) (shape .route) (λ v i. blank v i .route)) n
+    (zeros-of (g .size) (s .route) (shape .route) (λ v i. blank v i .route))
+    (zeros-of (g .size) (s .next) (shape .next) (λ v i. blank v i .next)) n
 
 -- ---- what a true sheet holds
 
@@ -195,6 +207,8 @@ pub record RouteEntries (g : Graph) (a b : ℕ) (s : Sheet) : Type 0 where
   pub route-at : (i : ℕ) → i < s .n → entry (s .route) i ≡ getD (centralRoute g a b) i 0
   pub route-inside : (i : ℕ) → i < s .n → entry (s .route) i < g .size
   pub route-past : (i : ℕ) → s .n ≤ i → entry (s .route) i ≡ 0
+  pub next-at : (v : ℕ) → v < g .size → entry (s .next) v ≡ nextNumber g a b v
+  pub next-inside : (v : ℕ) → v < g .size → entry (s .next) v < g .size
 
 module _ (g : Graph) (L : Lawful g) (a b : ℕ) (in-a : a < g .size) (in-b : b < g .size) where
   f-entry : (v : ℕ) → v < g .size → entry (tabulate (g .size) (countFrom g a b)) v ≡ countFrom g a b v
@@ -219,6 +233,7 @@ module _ (g : Graph) (L : Lawful g) (a b : ℕ) (in-a : a < g .size) (in-b : b <
           f = length-tabulate (g .size) _;
           b = length-tabulate (g .size) _;
           route = length-padded (g .size) R len;
+          next = length-tabulate (g .size) _;
         };
         d-at = λ v i. getD-tabulate (g .size) v (distance g a) i;
         e-at = λ v i. getD-tabulate (g .size) v (λ v. distance g v b) i;
@@ -237,6 +252,9 @@ module _ (g : Graph) (L : Lawful g) (a b : ℕ) (in-a : a < g .size) (in-b : b <
         route-at = λ i l. getD-padded (g .size) i R l;
         route-inside = λ i l. rw (getD-padded (g .size) i R l) (route-inside g L a b in-a in-b i l);
         route-past = λ i l. getD-padded-past (g .size) i R l;
+        next-at = λ v i. getD-tabulate (g .size) v (nextNumber g a b) i;
+        next-inside = λ v i.
+            rw (getD-tabulate (g .size) v (nextNumber g a b) i) (number-inside g L a b in-a in-b v i);
       }
 
   pub route-entries : (s : Sheet) → TrueRoute g a b s → RouteEntries g a b s
@@ -264,6 +282,7 @@ pub record NoRouteEntries (g : Graph) (a b : ℕ) (s : Sheet) : Type 0 where
   pub f-zero : (v : ℕ) → entry (s .f) v ≡ 0
   pub b-zero : (v : ℕ) → entry (s .b) v ≡ 0
   pub route-zero : (i : ℕ) → entry (s .route) i ≡ 0
+  pub next-zero : (v : ℕ) → entry (s .next) v ≡ 0
   pub n-zero : s .n ≡ 0
 
 no-entries-of : (g : Graph) (a b : ℕ) → distance g a b ≡ unreachable → NoRouteEntries g a b (noRouteSheet g a)
@@ -276,6 +295,7 @@ no-entries-of g a b h =
         f = length-replicate (g .size) 0;
         b = length-replicate (g .size) 0;
         route = length-replicate (g .size) 0;
+        next = length-replicate (g .size) 0;
       };
       d-at = λ v i. getD-tabulate (g .size) v (distance g a) i;
       d-end = h;
@@ -283,6 +303,7 @@ no-entries-of g a b h =
       f-zero = getD-zeros (g .size);
       b-zero = getD-zeros (g .size);
       route-zero = getD-zeros (g .size);
+      next-zero = getD-zeros (g .size);
       n-zero = refl;
     }
 

@@ -7,13 +7,15 @@
 --   rightCosts g a D        == D 0, D 1, .. are the costs from a
 --   countAt g a on D F v    == what the count of v has to be, by the counts F of its neighbours
 --   rightCounts g a on D F  == F 0, F 1, .. are the counts from a of the vertices with `on`, and 0 elsewhere
---   rightPoint g next b n R i  == place i of a route of n points: b is the last, each other is followed by its next
---                              vertex, and past the n points stands 0
---   rightRoute g next a b n R  == R 0, R 1, .. are the points from a to b by the rule `next`, n of them, then 0
+--   rightPoint v next b n R i  == place i of a route of n points, each below v: b is the last, each other is followed by
+--                              its next vertex, and past the n points stands 0
+--   rightRoute v next a b n R  == R 0, R 1, .. are the points from a to b by the rule `next`, n of them, then 0
 --   Shaped n s              == the slices of the sheet s have n places each
 --   localOn, localNext      == on the way, and the next vertex, by the numbers of a sheet
 --   localNumbers g a b s    == d, e, f and b of the sheet s are those of a job with a route
---   localRoute g a b s      == so are its route and n: s is the true route sheet, where its total fits
+--   rightNext g b s v       == so is its next vertex at v: by these numbers on the way before b, b at b, 0 elsewhere
+--   byNext s v              == where the slice of next vertices leads from v
+--   localRoute g a b s      == so are all of these, its route and n: s is the true route sheet, where its total fits
 --   blankAt s v             == s has 0 for vertex v but for its cost
 --   localNoRoute g a b s    == s is the true no-route sheet
 use Prim.Native.Nat.{ℕ, suc, _+_, _*_}
@@ -71,16 +73,15 @@ rightCounts g a on D F = every (g .size) (λ v. eqb (F v) (countAt g a on D F v)
 
 -- ---- the route, place by place
 
-unfoldable pub rightPoint : Graph → (ℕ → Option ℕ) → ℕ → ℕ → (ℕ → ℕ) → ℕ → Bool
-rightPoint g next b n R i =
+unfoldable pub rightPoint : ℕ → (ℕ → Option ℕ) → ℕ → ℕ → (ℕ → ℕ) → ℕ → Bool
+rightPoint v next b n R i =
     pick (ltb i n)
-    (ltb (R i) (g .size)
+    (ltb (R i) v
     && pick (eqb (R i) b) (eqb (suc i) n) (ltb (suc i) n && is-there (next (R i)) (λ w. eqb w (R (suc i)))))
     (eqb (R i) 0)
 
-unfoldable pub rightRoute : Graph → (ℕ → Option ℕ) → ℕ → ℕ → ℕ → (ℕ → ℕ) → Bool
-rightRoute g next a b n R =
-    ltb 0 n && (leb n (g .size) && (eqb (R 0) a && every (g .size) (rightPoint g next b n R)))
+unfoldable pub rightRoute : ℕ → (ℕ → Option ℕ) → ℕ → ℕ → ℕ → (ℕ → ℕ) → Bool
+rightRoute v next a b n R = ltb 0 n && (leb n v && (eqb (R 0) a && every v (rightPoint v next b n R)))
 
 -- ---- a sheet
 
@@ -94,6 +95,7 @@ pub record Shaped (n : ℕ) (s : Sheet) : Type 0 where
   pub f : length (s .f) ≡ n
   pub b : length (s .b) ≡ n
   pub route : length (s .route) ≡ n
+  pub next : length (s .next) ≡ n
 
 unfoldable pub localOn : ℕ → Sheet → ℕ → Bool
 localOn b s = onShortest (entry (s .d)) (entry (s .e)) b
@@ -101,7 +103,8 @@ localOn b s = onShortest (entry (s .d)) (entry (s .e)) b
 unfoldable pub localNext : Graph → ℕ → Sheet → ℕ → Option ℕ
 localNext g b s = nextVertex g (localOn b s) (entry (s .d)) (λ v. entry (s .f) v * entry (s .b) v)
 
--- The costs and counts of a route sheet. They come before the route: where they are right the products f(v) * b(v) fit.
+-- The costs and counts of a route sheet. They come before the next vertices: where they are right the products f(v) *
+-- b(v) fit.
 unfoldable pub localNumbers : Graph → ℕ → ℕ → Sheet → Bool
 localNumbers g a b s =
     rightCosts g a (entry (s .d))
@@ -110,13 +113,26 @@ localNumbers g a b s =
     && (rightCounts g a (localOn b s) (entry (s .d)) (entry (s .f))
     && rightCounts g b (localOn b s) (entry (s .e)) (entry (s .b)))))
 
+unfoldable pub rightNext : Graph → ℕ → Sheet → ℕ → Bool
+rightNext g b s v =
+    pick (localOn b s v)
+    (pick (eqb v b) (eqb (entry (s .next) v) b) (is-there (localNext g b s v) (λ w. eqb (entry (s .next) v) w)))
+    (eqb (entry (s .next) v) 0)
+
+abbrev pub byNext : Sheet → ℕ → Option ℕ
+byNext s v = some (entry (s .next) v)
+
 unfoldable pub localRoute : Graph → ℕ → ℕ → Sheet → Bool
-localRoute g a b s = localNumbers g a b s && rightRoute g (localNext g b s) a b (s .n) (entry (s .route))
+localRoute g a b s =
+    localNumbers g a b s
+    && (every (g .size) (rightNext g b s) && rightRoute (g .size) (byNext s) a b (s .n) (entry (s .route)))
 
 -- What a no-route sheet has for vertex v beside its cost: nothing.
 unfoldable pub blankAt : Sheet → ℕ → Bool
 blankAt s v =
-    eqb (entry (s .e) v) 0 && (eqb (entry (s .f) v) 0 && (eqb (entry (s .b) v) 0 && eqb (entry (s .route) v) 0))
+    eqb (entry (s .e) v) 0
+    && (eqb (entry (s .f) v) 0
+    && (eqb (entry (s .b) v) 0 && (eqb (entry (s .route) v) 0 && eqb (entry (s .next) v) 0)))
 
 unfoldable pub localNoRoute : Graph → ℕ → ℕ → Sheet → Bool
 localNoRoute g a b s =
@@ -126,5 +142,5 @@ localNoRoute g a b s =
 -- Named on an `unfolding` line, this opens all of the above, for a theorem that is computed.
 unfoldable pub local-opened : ℕ
 unfolding given if-there is-there when-eq inflow relaxed tight rightCost rightCosts countAt rightCounts
-    rightPoint rightRoute localOn localNext localNumbers localRoute blankAt localNoRoute
+    rightPoint rightRoute localOn localNext localNumbers rightNext localRoute blankAt localNoRoute
 local-opened = 0

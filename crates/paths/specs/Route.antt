@@ -7,6 +7,8 @@
 --   traversals g a b v    == the traversal count f(v) * b(v)
 --   nextVertex g on D T v == where the route goes from v; none where it is stuck (it never is: see the laws)
 --   centralRoute g a b    == the vertices of the central route, its ends among them
+--   nextNumber g a b v    == the next vertex as the sheet has it: on the way before b that of the central rule, at b b
+--                            itself, 0 elsewhere
 use Prim.Native.Nat.{ℕ, zero, suc, _+_, _*_}
 use mathlib.Core.Bool.{Bool, true, false, _&&_}
 use mathlib.Core.Option.{Option, none, some}
@@ -59,6 +61,16 @@ follow next b (suc n) v = v ∷ elim (eqb v b) [ true ↦ [] | false ↦ elim (n
 
 unfoldable pub centralRoute : Graph → ℕ → ℕ → List ℕ
 centralRoute g a b = follow (nextVertex g (onWay g a b) (distance g a) (traversals g a b)) b (g .size) a
+
+-- What is there, else 0.
+abbrev pub orZero : Option ℕ → ℕ
+orZero none = 0
+orZero (some w) = w
+
+unfoldable pub nextNumber : Graph → ℕ → ℕ → ℕ → ℕ
+nextNumber g a b v =
+    pick (onWay g a b v)
+    (pick (eqb v b) b (orZero (nextVertex g (onWay g a b) (distance g a) (traversals g a b) v))) 0
 
 -- Named on an `unfolding` line, this opens the rules of the route, for a theorem that is computed.
 unfoldable pub route-opened : ℕ

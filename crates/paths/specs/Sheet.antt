@@ -1,12 +1,13 @@
--- Document 01's sheet, and the two true ones.
+-- Document 01's sheet with the next vertices of request 7 of document 02, and the two true ones.
 --
---   Sheet               == the slices d, e, f, b and route, and the point count n (document 01's letters)
---   sheetOf d e f b r n == the sheet with these slices and this point count
---   joined g a b        == an open walk joins a to b
---   fits g a b          == the total f(B) is at most 2^64 - 1
---   routeSheet g a b    == the one true route sheet, where a walk joins a to b and the total fits
---   noRouteSheet g a    == the one true no-route sheet, where no walk joins the ends
---   sameSheet s t       == every number of the two sheets is the same
+--   Sheet                 == the slices d, e, f, b and route (document 01's letters), the slice next, and the point
+--                            count n
+--   sheetOf d e f b r x n == the sheet with these slices and this point count
+--   joined g a b          == an open walk joins a to b
+--   fits g a b            == the total f(B) is at most 2^64 - 1
+--   routeSheet g a b      == the one true route sheet, where a walk joins a to b and the total fits
+--   noRouteSheet g a      == the one true no-route sheet, where no walk joins the ends
+--   sameSheet s t         == every number of the two sheets is the same
 use Prim.Native.Nat.{ℕ, _^_}
 use mathlib.Core.Path.{_≡_}
 use mathlib.Core.Bool.{Bool, true, false, _&&_}
@@ -16,7 +17,7 @@ use lib.ListN.{length}
 use Rattle.basics.specs.Lists.{tabulate, padded, zeros, same}
 use Rattle.paths.specs.Graph.{Graph}
 use Rattle.paths.specs.Distance.{unreachable, distance, pathCount}
-use Rattle.paths.specs.Route.{countFrom, countTo, centralRoute}
+use Rattle.paths.specs.Route.{countFrom, countTo, centralRoute, nextNumber}
 
 pub record Sheet : Type 0 where
   pub d : List ℕ
@@ -24,10 +25,11 @@ pub record Sheet : Type 0 where
   pub f : List ℕ
   pub b : List ℕ
   pub route : List ℕ
+  pub next : List ℕ
   pub n : ℕ
 
-abbrev pub sheetOf : List ℕ → List ℕ → List ℕ → List ℕ → List ℕ → ℕ → Sheet
-sheetOf d e f b r n = record { d = d; e = e; f = f; b = b; route = r; n = n }
+abbrev pub sheetOf : List ℕ → List ℕ → List ℕ → List ℕ → List ℕ → List ℕ → ℕ → Sheet
+sheetOf d e f b r x n = record { d = d; e = e; f = f; b = b; route = r; next = x; n = n }
 
 unfoldable pub joined : Graph → ℕ → ℕ → Bool
 joined g a b = ltb (distance g a b) unreachable
@@ -42,6 +44,7 @@ routeSheet g a b = record {
   f = tabulate (g .size) (countFrom g a b);
   b = tabulate (g .size) (countTo g a b);
   route = padded (g .size) (centralRoute g a b);
+  next = tabulate (g .size) (nextNumber g a b);
   n = length (centralRoute g a b);
 }
 
@@ -52,6 +55,7 @@ noRouteSheet g a = record {
   f = zeros (g .size);
   b = zeros (g .size);
   route = zeros (g .size);
+  next = zeros (g .size);
   n = 0;
 }
 
@@ -69,4 +73,4 @@ pub record TrueNoRoute (g : Graph) (a b : ℕ) (s : Sheet) : Type 0 where
 unfoldable pub sameSheet : Sheet → Sheet → Bool
 sameSheet s t =
     same (s .d) (t .d) && same (s .e) (t .e) && same (s .f) (t .f) && same (s .b) (t .b)
-    && same (s .route) (t .route) && eqb (s .n) (t .n)
+    && same (s .route) (t .route) && same (s .next) (t .next) && eqb (s .n) (t .n)

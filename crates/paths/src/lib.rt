@@ -13,13 +13,15 @@
 //     the total                `pathCount g a b`; that it is at most 2^64 - 1 is `fits g a b`
 //     a walk joins A to B      `joined g a b`
 //     the central route        `centralRoute g a b`
+//     the next vertex          `nextNumber g a b v`, document 02's
 //     the sheet                `Sheet`
 //     the true route sheet     `routeSheet g a b`, where `TrueRoute g a b s` says that s is it and that the job has one
 //     the true no-route sheet  `noRouteSheet g a`, and `TrueNoRoute g a b s`
 //
 // To believe: specs/ but for specs/Local. The laws to start from: proofs/Faithful (costs and counts are those of walks),
-// proofs/Reverse (the same both ways), proofs/Route (the central route is a cheapest walk), proofs/Sheets (which sheets
-// are true), proofs/SheetTest (the tests of specs/Local are exact).
+// proofs/Reverse (the same both ways), proofs/Route (the central route is a cheapest walk), proofs/NextNumbers (it is
+// the walk through the next vertices), proofs/Sheets (which sheets are true), proofs/SheetTest (the tests of
+// specs/Local are exact).
 ghost use mathlib.Core.Path.{_≡_};
 ghost use Rattle.paths.specs.Distance.{unreachable};
 

@@ -2,7 +2,8 @@
 --
 --   found-costing               == what the costs to b take, which are costs from b
 --   found-few, found-sized, found-same, found-readied, found-known == what the counting passes take
---   found-walkable              == what the walk of the route takes, where the total fits
+--   found-choosable, found-numbers == what the next vertices take, where the total fits, and what they are
+--   found-walkable              == what the walk of the route takes
 --   found-many, found-route     == the two ways to end
 --   finish-none                 == the whole, where no walk joins the ends
 --   finish-findable             == where one does, a route can be looked for
@@ -21,7 +22,7 @@ use Rattle.moves.specs.declared.Rows.{Rows}
 use Rattle.moves.proofs.Table.{listed-lawful}
 use Rattle.paths.specs.Graph.{Graph, Lawful}
 use Rattle.paths.specs.Distance.{unreachable, distance, pathCount}
-use Rattle.paths.specs.Route.{countFrom}
+use Rattle.paths.specs.Route.{countFrom, nextNumber}
 use Rattle.paths.specs.Local.{entry}
 use Rattle.paths.proofs.Distance.{distance-le}
 use Rattle.paths.proofs.Reverse.{distance-sym}
@@ -38,11 +39,12 @@ use Rattle.counts.specs.Passes.{Readied, Known, Filled}
 use Rattle.planner.specs.declared.Planned.{Planned}
 use Rattle.planner.specs.declared.Planned.the-variants.{Found, Refused}
 use Rattle.planner.specs.Plan.{slicesOf}
-use Rattle.planner.specs.Parts.{Finishable, Findable, Finished, Walkable, Routed}
+use Rattle.planner.specs.Parts.{numberAt, Choosable, Finishable, Findable, Finished, Walkable, Routed}
+use Rattle.planner.proofs.Numbering.{TrueLists, true-choosable, true-numbers}
 use Rattle.planner.proofs.Finishing.{finished-none, finished-many, finished-route}
 
-module _ {w h : ℕ} {map : List ℕ} {rows : Rows} {a b : ℕ} {d e f back route work : List ℕ}
-    (F : Findable w h map rows a b d e f back route work) where
+module _ {w h : ℕ} {map : List ℕ} {rows : Rows} {a b : ℕ} {d e f back route next work : List ℕ}
+    (F : Findable w h map rows a b d e f back route next work) where
   abbrev g : Graph
   g = floorGraph (floorOf w h map) rows
 
@@ -113,23 +115,21 @@ module _ {w h : ℕ} {map : List ℕ} {rows : Rows} {a b : ℕ} {d e f back rout
 
       module _ {r : Bool} {work″ f′ back′ : List ℕ} (filled : Filled g rows shifts a b r work″ f′ back′) where
         pub found-many : r ≡ false
-            → Finished g a b (Refused TooMany) (slicesOf e′ f′ back′ route (zeros (4 * vertices w h)))
+            → Finished g a b (Refused TooMany) (slicesOf e′ f′ back′ route next (zeros (4 * vertices w h)))
         found-many over =
             let K = subst (λ z. Filled g rows shifts a b z work″ f′ back′) over filled in
             finished-many refl (F .reached) e-true (sym (K .answer)) (K .f-left) (K .back-left)
-            (F .route-blank)
+            (F .route-blank) (F .next-blank)
 
         module _ (fit : r ≡ true) where
           K : Filled g rows shifts a b true work″ f′ back′
           K = subst (λ z. Filled g rows shifts a b z work″ f′ back′) fit filled
 
-          pub found-walkable : Walkable g rows shifts a b d e′ f′ back′ work″ route
-          found-walkable = record {
+          lists : TrueLists g rows shifts a b d e′ f′ back′ work″
+          lists = record {
             few = few;
             lawful = lawful;
-            start-in = F .finishable .job .start-in;
             goal-in = F .finishable .job .goal-in;
-            reached = F .reached;
             total = fits-total g a b (sym (K .answer));
             d-true = F .finishable .costs;
             e-true = e-true;
@@ -137,8 +137,10 @@ module _ {w h : ℕ} {map : List ℕ} {rows : Rows} {a b : ℕ} {d e f back rout
             back-true = K .back-left;
             masked = K .masked;
             work-len = K .work-len;
-            blank = F .route-blank;
           }
+
+          pub found-choosable : Choosable rows shifts b d e′ f′ back′ work″ × (next ≡ zeros (length d))
+          found-choosable = (true-choosable lists, F .next-blank ∙ ap zeros (sym d-len))
 
           cost-at : entry d b ≡ distance g a b
           cost-at =
@@ -152,19 +154,36 @@ module _ {w h : ℕ} {map : List ℕ} {rows : Rows} {a b : ℕ} {d e f back rout
               ∙ getD-tabulate (g .size) b (countFrom g a b) (F .finishable .job .goal-in)
               ∙ countFrom-way g a b b (way-end g lawful a b (F .reached))
 
-          pub found-route : {route′ : List ℕ} (k : ℕ) → Routed g a b route′ k
-              → Finished g a b (Found (entry d b) (entry f′ b) k)
-              (slicesOf e′ f′ back′ route′ (zeros (4 * vertices w h)))
-          found-route k R =
-              finished-route refl (F .reached) e-true (entry d b) (entry f′ b) k
-              (sym (K .answer)) cost-at total-at (R .points) (K .f-left) (K .back-left) (R .list)
+          module _ {next′ : List ℕ}
+              (chosen : next′ ≡ tabulate (length d) (numberAt rows shifts b d e′ f′ back′ work″)) where
+            found-numbers : next′ ≡ tabulate (g .size) (nextNumber g a b)
+            found-numbers = true-numbers lists chosen
+
+            pub found-walkable : Walkable g a b next′ route
+            found-walkable = record {
+              few = few;
+              lawful = lawful;
+              start-in = F .finishable .job .start-in;
+              goal-in = F .finishable .job .goal-in;
+              reached = F .reached;
+              next-true = found-numbers;
+              blank = F .route-blank;
+            }
+
+            pub found-route : {route′ : List ℕ} (k : ℕ) → Routed g a b route′ k
+                → Finished g a b (Found (entry d b) (entry f′ b) k)
+                (slicesOf e′ f′ back′ route′ next′ (zeros (4 * vertices w h)))
+            found-route k R =
+                finished-route refl (F .reached) e-true (entry d b) (entry f′ b) k
+                (sym (K .answer)) cost-at total-at (R .points) (K .f-left) (K .back-left) (R .list) found-numbers
 
 -- ---- from a job of good shape and the costs from a
 
-module _ {w h : ℕ} {map : List ℕ} {rows : Rows} {a b : ℕ} {d e f back route work f′ back′ route′ : List ℕ}
-    (P : Finishable w h map rows a b d e f back route work)
+module _ {w h : ℕ} {map : List ℕ} {rows : Rows} {a b : ℕ} {d e f back route next work f′ back′ route′ next′ : List ℕ}
+    (P : Finishable w h map rows a b d e f back route next work)
     (f-blank : f′ ≡ zeros (length f))
-    (back-blank : back′ ≡ zeros (length back)) (route-blank : route′ ≡ zeros (length route)) where
+    (back-blank : back′ ≡ zeros (length back)) (route-blank : route′ ≡ zeros (length route))
+    (next-blank : next′ ≡ zeros (length next)) where
   abbrev graph : Graph
   graph = floorGraph (floorOf w h map) rows
 
@@ -172,14 +191,15 @@ module _ {w h : ℕ} {map : List ℕ} {rows : Rows} {a b : ℕ} {d e f back rout
   goal-cost = ap (λ l. entry l b) (P .costs) ∙ getD-tabulate (vertices w h) b (distance graph a) (P .job .goal-in)
 
   pub finish-none : {e′ work′ : List ℕ} → entry d b ≡ unreachable → e′ ≡ zeros (length e) → work′ ≡ zeros (length work)
-      → Finished graph a b (Refused NoRoute) (slicesOf e′ f′ back′ route′ work′)
+      → Finished graph a b (Refused NoRoute) (slicesOf e′ f′ back′ route′ next′ work′)
   finish-none far e-blank work-blank =
       finished-none (work-blank ∙ ap zeros (P .lent .work-len)) (sym goal-cost ∙ far)
       (e-blank ∙ ap zeros (P .lent .sheet .e)) (f-blank ∙ ap zeros (P .lent .sheet .f))
       (back-blank ∙ ap zeros (P .lent .sheet .b)) (route-blank ∙ ap zeros (P .lent .sheet .route))
+      (next-blank ∙ ap zeros (P .lent .sheet .next))
 
   pub finish-findable : MasksIn (floorOf w h map) work → (entry d b ≡ unreachable → ⊥)
-      → Findable w h map rows a b d e f′ back′ route′ work
+      → Findable w h map rows a b d e f′ back′ route′ next′ work
   finish-findable masks near = record {
     finishable = record {
       job = P .job;
@@ -190,6 +210,7 @@ module _ {w h : ℕ} {map : List ℕ} {rows : Rows} {a b : ℕ} {d e f back rout
           f = length-of f f-blank ∙ P .lent .sheet .f;
           b = length-of back back-blank ∙ P .lent .sheet .b;
           route = length-of route route-blank ∙ P .lent .sheet .route;
+          next = length-of next next-blank ∙ P .lent .sheet .next;
         };
         work-len = P .lent .work-len;
       };
@@ -200,6 +221,7 @@ module _ {w h : ℕ} {map : List ℕ} {rows : Rows} {a b : ℕ} {d e f back rout
     f-blank = f-blank ∙ ap zeros (P .lent .sheet .f);
     back-blank = back-blank ∙ ap zeros (P .lent .sheet .b);
     route-blank = route-blank ∙ ap zeros (P .lent .sheet .route);
+    next-blank = next-blank ∙ ap zeros (P .lent .sheet .next);
   }
     where
       length-of : {l′ : List ℕ} (l : List ℕ) → l′ ≡ zeros (length l) → length l′ ≡ length l
@@ -209,7 +231,7 @@ module _ {w h : ℕ} {map : List ℕ} {rows : Rows} {a b : ℕ} {d e f back rout
       near-ne q = near (goal-cost ∙ q)
 
 -- What stood in the working slice does not matter: it is cleared.
-pub finish-cleared : {g : Graph} {a b n k : ℕ} {r : Planned} {e f back route work : List ℕ}
-    → Finished g a b r (slicesOf e f back route (zeros k)) → n ≡ k → work ≡ zeros n
-    → Finished g a b r (slicesOf e f back route work)
+pub finish-cleared : {g : Graph} {a b n k : ℕ} {r : Planned} {e f back route next work : List ℕ}
+    → Finished g a b r (slicesOf e f back route next (zeros k)) → n ≡ k → work ≡ zeros n
+    → Finished g a b r (slicesOf e f back route next work)
 finish-cleared F same blank = rw (blank, same) F

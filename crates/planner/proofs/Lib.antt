@@ -1,3 +1,4 @@
+pub mod Numbering
 pub mod Walking
 pub mod Finishing
 pub mod Finding

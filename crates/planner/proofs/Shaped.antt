@@ -11,12 +11,12 @@
 --   finishable-on                 == a working slice of the same length serves as well
 use Prim.Native.Nat.{ℕ, _*_}
 use mathlib.Core.Path.{_≡_, sym, _∙_}
-use mathlib.Core.Bool.{Bool, true, false, not}
+use mathlib.Core.Bool.{Bool, true, false, _&&_, not}
 use mathlib.Core.List.{List}
 use borrow.Author.Tests.{eqb-true, eq-eqb, ne-eqb, not-true, not-false}
 use lib.Dec.{eqb}
 use lib.ListN.{length}
-use Rattle.basics.proofs.Bools.{all-six}
+use Rattle.basics.proofs.Bools.{and-left, and-right, all-six}
 use Rattle.floor.specs.Floor.{floorOf, vertices}
 use Rattle.floor.specs.declared.Refusal.{Refusal}
 use Rattle.floor.specs.declared.Refusal.the-variants.{SliceLength, FalseSheet}
@@ -36,13 +36,19 @@ use Rattle.planner.specs.Plan.{CostSlices, costSlicesOf, costsSized, cos
 use Rattle.planner.specs.Plan.{Slices, slicesOf, slicesSized, finishAnswer, finishLeft, Finishes}
 use Rattle.planner.specs.Parts.{lengthsGood, FullSlices, Finishable, Finished, FillsJob, FinishesJob}
 
-lent-at : (v : ℕ) (d e f back route work : List ℕ)
-    → true ≡ lengthsGood v (length d) (length e) (length f) (length back) (length route) (length work)
-    → FullSlices v d e f back route work
+lent-at : (v : ℕ) (d e f back route next work : List ℕ)
+    → true ≡ lengthsGood v (length d) (length e) (length f) (length back) (length route) (length next) (length work)
+    → FullSlices v d e f back route next work
 unfolding lengthsGood
-lent-at v d e f back route work q =
-    let r = all-six (eqb (length d) v) (eqb (length e) v) (eqb (length f) v) (eqb (length back) v)
-    (eqb (length route) v) (eqb (length work) (4 * v)) (sym q) in
+lent-at v d e f back route next work q =
+    let D = eqb (length d) v in
+    let E = eqb (length e) v in
+    let F = eqb (length f) v in
+    let B = eqb (length back) v in
+    let R = eqb (length route) v in
+    let X = eqb (length next) v in
+    let W = eqb (length work) (4 * v) in
+    let r = all-six D E F B R X (and-left (D && E && F && B && R && X) W (sym q)) in
     record {
       sheet = record {
         d = eqb-true (length d) v (r .0);
@@ -50,29 +56,32 @@ lent-at v d e f back route work q =
         f = eqb-true (length f) v (r .2);
         b = eqb-true (length back) v (r .3);
         route = eqb-true (length route) v (r .4);
+        next = eqb-true (length next) v (r .5);
       };
-      work-len = eqb-true (length work) (4 * v) (r .5);
+      work-len = eqb-true (length work) (4 * v) (and-right (D && E && F && B && R && X) W (sym q));
     }
 
-pub lent-of : {v k : ℕ} {r : Bool} (d e f back route work : List ℕ) → v ≡ k
-    → r ≡ lengthsGood v (length d) (length e) (length f) (length back) (length route) (length work) → r ≡ true
-    → FullSlices k d e f back route work
-lent-of {k = k} d e f back route work n q t = lent-at k d e f back route work (sym t ∙ (rw n at q))
+pub lent-of : {v k : ℕ} {r : Bool} (d e f back route next work : List ℕ) → v ≡ k
+    → r ≡ lengthsGood v (length d) (length e) (length f) (length back) (length route) (length next) (length work)
+    → r ≡ true
+    → FullSlices k d e f back route next work
+lent-of {k = k} d e f back route next work n q t = lent-at k d e f back route next work (sym t ∙ (rw n at q))
 
-pub full-sized : {v : ℕ} {d e f back route work : List ℕ} → FullSlices v d e f back route work
-    → slicesSized v d (slicesOf e f back route work) ≡ true
+pub full-sized : {v : ℕ} {d e f back route next work : List ℕ} → FullSlices v d e f back route next work
+    → slicesSized v d (slicesOf e f back route next work) ≡ true
 unfolding slicesSized
 full-sized L =
-    let s = L .sheet in rw (eq (s .d), eq (s .e), eq (s .f), eq (s .b), eq (s .route), eq (L .work-len))
+    let s = L .sheet in rw (eq (s .d), eq (s .e), eq (s .f), eq (s .b), eq (s .route), eq (s .next), eq (L .work-len))
   where
     eq : {m n : ℕ} → m ≡ n → eqb m n ≡ true
     eq {m} {n} q = eq-eqb m n q
 
-pub lengths-bad : (v k : ℕ) (d e f back route work : List ℕ) (r : Bool) → v ≡ k
-    → r ≡ lengthsGood v (length d) (length e) (length f) (length back) (length route) (length work) → not r ≡ true
-    → slicesSized k d (slicesOf e f back route work) ≡ false
+pub lengths-bad : (v k : ℕ) (d e f back route next work : List ℕ) (r : Bool) → v ≡ k
+    → r ≡ lengthsGood v (length d) (length e) (length f) (length back) (length route) (length next) (length work)
+    → not r ≡ true
+    → slicesSized k d (slicesOf e f back route next work) ≡ false
 unfolding slicesSized lengthsGood
-lengths-bad v k d e f back route work r n q t = sym (rw n at q) ∙ not-true r t
+lengths-bad v k d e f back route next work r n q t = sym (rw n at q) ∙ not-true r t
 
 module _ {w h : ℕ} {map : List ℕ} where
   -- ---- the first operation
@@ -126,16 +135,16 @@ module _ {w h : ℕ} {map : List ℕ} where
     unfolding finishAnswer finishLeft
     finishes-fit q t P = let e = sym q ∙ t in record { answer = rw e (P .answer); left = rw e (P .left) }
 
-  module _ {rows : Rows} {a b : ℕ} {d e f back route work : List ℕ} where
-    pub job-unsized : {s′ : Slices} → slicesSized (vertices w h) d (slicesOf e f back route work) ≡ false
-        → s′ ≡ slicesOf e f back route work
-        → FinishesJob w h map rows a b d (slicesOf e f back route work) (Refused SliceLength) s′
+  module _ {rows : Rows} {a b : ℕ} {d e f back route next work : List ℕ} where
+    pub job-unsized : {s′ : Slices} → slicesSized (vertices w h) d (slicesOf e f back route next work) ≡ false
+        → s′ ≡ slicesOf e f back route next work
+        → FinishesJob w h map rows a b d (slicesOf e f back route next work) (Refused SliceLength) s′
     job-unsized z q = record { answer = rw z; left = rw z q }
 
-    module _ (L : FullSlices (vertices w h) d e f back route work) where
+    module _ (L : FullSlices (vertices w h) d e f back route next work) where
       pub job-false : {t : Bool} {s′ : Slices} → t ≡ costsTrue (floorGraph (floorOf w h map) rows) a d → not t ≡ true
-          → s′ ≡ slicesOf e f back route work
-          → FinishesJob w h map rows a b d (slicesOf e f back route work) (Refused FalseSheet) s′
+          → s′ ≡ slicesOf e f back route next work
+          → FinishesJob w h map rows a b d (slicesOf e f back route next work) (Refused FalseSheet) s′
       job-false {t} p z q =
           let y = full-sized L in
           let n = sym p ∙ not-true t z in
@@ -144,7 +153,7 @@ module _ {w h : ℕ} {map : List ℕ} where
       pub job-true : {t : Bool} {r : Planned} {s′ : Slices} → t ≡ costsTrue (floorGraph (floorOf w h map) rows) a d
           → not t ≡ false
           → Finished (floorGraph (floorOf w h map) rows) a b r s′
-          → FinishesJob w h map rows a b d (slicesOf e f back route work) r s′
+          → FinishesJob w h map rows a b d (slicesOf e f back route next work) r s′
       job-true {t} p z F =
           let y = full-sized L in
           let n = sym p ∙ not-false t z in
@@ -152,15 +161,15 @@ module _ {w h : ℕ} {map : List ℕ} where
 
       pub job-finishable : GoodJob w h map rows a b → {t : Bool}
           → t ≡ costsTrue (floorGraph (floorOf w h map) rows) a d → not t ≡ false
-          → Finishable w h map rows a b d e f back route work
+          → Finishable w h map rows a b d e f back route next work
       job-finishable J {t} p z = record {
         job = J;
         lent = L;
         costs = true-list (floorGraph (floorOf w h map) rows) a d (sym p ∙ not-false t z);
       }
 
-    pub finishable-on : {work′ : List ℕ} → Finishable w h map rows a b d e f back route work
-        → length work′ ≡ length work → Finishable w h map rows a b d e f back route work′
+    pub finishable-on : {work′ : List ℕ} → Finishable w h map rows a b d e f back route next work
+        → length work′ ≡ length work → Finishable w h map rows a b d e f back route next work′
     finishable-on F same = record {
       job = F .job;
       lent = record { sheet = F .lent .sheet; work-len = same ∙ F .lent .work-len };

@@ -1,79 +1,102 @@
--- The parts of the planner: what the walk of the route and the finishing of a job from known costs are handed, and what
--- they leave. Nobody has to believe these: they stand in contracts of functions that the planner alone calls.
+-- The parts of the planner: what the choice of next vertices, the walk of the route and the finishing of a job from
+-- known costs are handed, and what they leave. Nobody has to believe these: they stand in contracts of functions that
+-- the planner alone calls.
 --
---   Walkable g rows shifts a b d e f back work route == the lists hold the true costs and counts of a job on graph g
---                                that has a route, and the masks; the route is all 0
+--   numberOf r s mask b d e f back v == `nextNumber`, by the slices and the mask of v
+--   numberAt r s b d e f back work v == the same, by the mask of v in the working slice
+--   Choosable r s b d e f back work  == the slices have what the next vertex of every vertex is chosen by
+--   NumberedTo .. v next      == the list has the next vertices of the vertices before v, and 0 from there on
+--   Walkable g a b next route == the lists hold the next vertices of a job on graph g that has a route, and a route
+--                                that is all 0
 --   Routed g a b route n      == the route slice holds the central route, and n is the number of its points
 --   lengthsGood v ..          == the slices of these lengths have the places that a floor of v vertices needs
 --   FullSlices v ..           == the slices have the lengths that they need
 --   Finishable ..             == so they have, for a good job, and d holds the costs from a
---   Findable ..               == the same, the masks stand in the working slice, a walk joins the ends, and counts and
---                                route are all 0
+--   Findable ..               == the same, the masks stand in the working slice, a walk joins the ends, and counts,
+--                                route and next vertices are all 0
 --   Finished g a b r s        == the answer r and the slices s are those of the job from a to b on graph g
 --   FillsJob .., FinishesJob .. == the answer r and the slices s' are those of the first operation, and of the second,
 --                                where none of refusals 1 to 5 and 11 applies
-use Prim.Native.Nat.{ℕ, _*_, _^_, _≤_, _<_}
+use Prim.Native.Nat.{ℕ, _*_, _≤_, _<_}
 use mathlib.Core.Path.{_≡_}
 use mathlib.Core.Bool.{Bool, _&&_}
 use mathlib.Core.List.{List}
 use lib.Dec.{eqb}
 use lib.ListN.{length}
+use Rattle.basics.specs.Bounded.{pick}
 use Rattle.basics.specs.Lists.{tabulate, padded, zeros}
 use Rattle.floor.specs.Floor.{floorOf, vertices}
 use Rattle.moves.specs.declared.Rows.{Rows}
 use Rattle.paths.specs.Graph.{Graph, Lawful}
-use Rattle.paths.specs.Distance.{unreachable, distance, pathCount}
-use Rattle.paths.specs.Route.{countFrom, countTo, centralRoute}
+use Rattle.paths.specs.Distance.{unreachable, distance}
+use Rattle.paths.specs.Route.{onShortest, centralRoute, orZero, nextNumber}
 use Rattle.paths.specs.Sheet.{sheetOf}
-use Rattle.paths.specs.Local.{Shaped}
+use Rattle.paths.specs.Local.{entry, Shaped}
 use Rattle.grid.specs.Grid.{floorGraph}
 use Rattle.grid.specs.Known.{GoodJob}
 use Rattle.grid.specs.declared.Job.the-variants.{Fit}
-use Rattle.workspace.specs.Regions.{Masked, MasksIn}
+use Rattle.neighbours.specs.Choice.{Choosing, Counted, nextOf}
+use Rattle.workspace.specs.Regions.{maskAt, MasksIn}
 use Rattle.planner.specs.declared.Costed.{Costed}
 use Rattle.planner.specs.declared.Planned.{Planned}
 use Rattle.planner.specs.Plan.{CostSlices, Slices, routeAnswer, routeLeft}
 use Rattle.planner.specs.Plan.{jobCosts, jobCostsLeft, jobAnswer, jobLeft}
 
-pub record Walkable (g : Graph) (rows : Rows) (shifts : List ℕ) (a b : ℕ) (d e f back work route : List ℕ)
+abbrev pub numberOf : Rows → List ℕ → ℕ → ℕ → List ℕ → List ℕ → List ℕ → List ℕ → ℕ → ℕ
+numberOf r s mask b d e f back v =
+    pick (onShortest (entry d) (entry e) b v) (pick (eqb v b) b (orZero (nextOf r s mask d e f back b v))) 0
+
+abbrev pub numberAt : Rows → List ℕ → ℕ → List ℕ → List ℕ → List ℕ → List ℕ → List ℕ → ℕ → ℕ
+numberAt r s b d e f back work v = numberOf r s (maskAt (length d) work v) b d e f back v
+
+pub record Choosable (rows : Rows) (shifts : List ℕ) (b : ℕ) (d e f back work : List ℕ) : Type 0 where
+  pub few : length d ≤ 16384
+  pub work-len : length work ≡ 4 * length d
+  pub choosing : (v : ℕ) → v < length d → Choosing rows shifts (maskAt (length d) work v) d e b v
+  pub counted : Counted (length d) f back
+
+pub record NumberedTo (rows : Rows) (shifts : List ℕ) (b : ℕ) (d e f back work : List ℕ) (v : ℕ) (next : List ℕ)
     : Type 0 where
+  pub len : length next ≡ length d
+  pub at : (u : ℕ) → u < v → entry next u ≡ numberAt rows shifts b d e f back work u
+  pub blank : (u : ℕ) → v ≤ u → entry next u ≡ 0
+
+pub record Walkable (g : Graph) (a b : ℕ) (next route : List ℕ) : Type 0 where
   pub few : g .size ≤ 16384
   pub lawful : Lawful g
   pub start-in : a < g .size
   pub goal-in : b < g .size
   pub reached : distance g a b < unreachable
-  pub total : pathCount g a b < 2 ^ 64
-  pub d-true : d ≡ tabulate (g .size) (distance g a)
-  pub e-true : e ≡ tabulate (g .size) (λ v. distance g v b)
-  pub f-true : f ≡ tabulate (g .size) (countFrom g a b)
-  pub back-true : back ≡ tabulate (g .size) (countTo g a b)
-  pub masked : Masked g rows shifts work
-  pub work-len : length work ≡ 4 * g .size
+  pub next-true : next ≡ tabulate (g .size) (nextNumber g a b)
   pub blank : route ≡ zeros (g .size)
 
 pub record Routed (g : Graph) (a b : ℕ) (route : List ℕ) (n : ℕ) : Type 0 where
   pub points : n ≡ length (centralRoute g a b)
   pub list : route ≡ padded (g .size) (centralRoute g a b)
 
-unfoldable pub lengthsGood : ℕ → ℕ → ℕ → ℕ → ℕ → ℕ → ℕ → Bool
-lengthsGood v d e f b route work = eqb d v && eqb e v && eqb f v && eqb b v && eqb route v && eqb work (4 * v)
+unfoldable pub lengthsGood : ℕ → ℕ → ℕ → ℕ → ℕ → ℕ → ℕ → ℕ → Bool
+lengthsGood v d e f b route next work =
+    eqb d v && eqb e v && eqb f v && eqb b v && eqb route v && eqb next v && eqb work (4 * v)
 
-pub record FullSlices (v : ℕ) (d e f back route work : List ℕ) : Type 0 where
-  pub sheet : Shaped v (sheetOf d e f back route 0)
+pub record FullSlices (v : ℕ) (d e f back route next work : List ℕ) : Type 0 where
+  pub sheet : Shaped v (sheetOf d e f back route next 0)
   pub work-len : length work ≡ 4 * v
 
-pub record Finishable (w h : ℕ) (map : List ℕ) (rows : Rows) (a b : ℕ) (d e f back route work : List ℕ) : Type 0 where
+pub record Finishable (w h : ℕ) (map : List ℕ) (rows : Rows) (a b : ℕ) (d e f back route next work : List ℕ)
+    : Type 0 where
   pub job : GoodJob w h map rows a b
-  pub lent : FullSlices (vertices w h) d e f back route work
+  pub lent : FullSlices (vertices w h) d e f back route next work
   pub costs : d ≡ tabulate (vertices w h) (distance (floorGraph (floorOf w h map) rows) a)
 
-pub record Findable (w h : ℕ) (map : List ℕ) (rows : Rows) (a b : ℕ) (d e f back route work : List ℕ) : Type 0 where
-  pub finishable : Finishable w h map rows a b d e f back route work
+pub record Findable (w h : ℕ) (map : List ℕ) (rows : Rows) (a b : ℕ) (d e f back route next work : List ℕ)
+    : Type 0 where
+  pub finishable : Finishable w h map rows a b d e f back route next work
   pub masks : MasksIn (floorOf w h map) work
   pub reached : distance (floorGraph (floorOf w h map) rows) a b < unreachable
   pub f-blank : f ≡ zeros (vertices w h)
   pub back-blank : back ≡ zeros (vertices w h)
   pub route-blank : route ≡ zeros (vertices w h)
+  pub next-blank : next ≡ zeros (vertices w h)
 
 pub record Finished (g : Graph) (a b : ℕ) (r : Planned) (s : Slices) : Type 0 where
   pub answer : r ≡ routeAnswer g a b

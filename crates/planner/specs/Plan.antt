@@ -1,6 +1,6 @@
 -- Document 01, "Answers by number", for the planner's two operations: what each answers, and what it leaves in every
 -- lent slice. The first fills d with the costs from a start. The second is handed d, which it only reads, and finishes
--- e, f, b and the route.
+-- e, f, b, the route and the next vertices.
 --
 --   CostSlices         == the slices lent to the first operation: d and its working slice
 --   Slices             == those lent to the second: the sheet's others, and its working slice
@@ -50,22 +50,23 @@ pub record Slices : Type 0 where
   pub f : List ℕ
   pub b : List ℕ
   pub route : List ℕ
+  pub next : List ℕ
   pub work : List ℕ
 
-abbrev pub slicesOf : List ℕ → List ℕ → List ℕ → List ℕ → List ℕ → Slices
-slicesOf e f b route work = record { e = e; f = f; b = b; route = route; work = work }
+abbrev pub slicesOf : List ℕ → List ℕ → List ℕ → List ℕ → List ℕ → List ℕ → Slices
+slicesOf e f b route next work = record { e = e; f = f; b = b; route = route; next = next; work = work }
 
 -- ---- the second operation, once the job's shape is good and d is true
 
 -- A sheet but for d in the lent slices, with the working slice all 0.
 abbrev pub sheetSlices : ℕ → Sheet → Slices
-sheetSlices v s = slicesOf (s .e) (s .f) (s .b) (s .route) (zeros (4 * v))
+sheetSlices v s = slicesOf (s .e) (s .f) (s .b) (s .route) (s .next) (zeros (4 * v))
 
--- Answer 8: the costs are true, counts and route are 0.
+-- Answer 8: the costs are true, counts, route and next vertices are 0.
 abbrev pub costsAlone : Graph → ℕ → Slices
 costsAlone g b =
     slicesOf (tabulate (g .size) (λ v. distance g v b)) (zeros (g .size)) (zeros (g .size)) (zeros (g .size))
-    (zeros (4 * g .size))
+    (zeros (g .size)) (zeros (4 * g .size))
 
 unfoldable pub routeAnswer : Graph → ℕ → ℕ → Planned
 routeAnswer g a b =
@@ -113,7 +114,7 @@ pub record FillsCosts (w h : ℕ) (map : List ℕ) (nb a : ℕ) (s : CostSlices)
 unfoldable pub slicesSized : ℕ → List ℕ → Slices → Bool
 slicesSized v d s =
     eqb (length d) v && eqb (length (s .e)) v && eqb (length (s .f)) v && eqb (length (s .b)) v
-    && eqb (length (s .route)) v && eqb (length (s .work)) (4 * v)
+    && eqb (length (s .route)) v && eqb (length (s .next)) v && eqb (length (s .work)) (4 * v)
 
 abbrev pub jobAnswer : ℕ → ℕ → List ℕ → ℕ → ℕ → List ℕ → Slices → Job → Planned
 jobAnswer w h map a b d s (Fit rows) =

@@ -1,4 +1,4 @@
-// The planner, in two operations: costs from a start, and then counts and central route of a job.
+// The planner, in two operations: costs from a start, and then counts, next vertices and central route of a job.
 //
 //     fill_costs         the costs from a start, for every input
 //     fill_job           the same where none of refusals 1 to 5 and 11 applies
@@ -7,7 +7,7 @@
 //     finish_job         the same from true costs: answers 0, 7 and 8
 //     finish_over_masks  the same where the working slice has the masks of the open moves
 //     find_route         the same where a walk joins the ends: answers 0 and 8
-mod route; // route.rt: the central route, written as it is walked
+mod route; // route.rt: the next vertices, and the central route, which is the walk through them
 
 ghost use mathlib.Core.Path.{_≡_};
 ghost use Prim.Native.Nat.{_*_, _≤_};
@@ -115,10 +115,11 @@ fn lengths_good(
     f: usize,
     back: usize,
     route: usize,
+    next: usize,
     work: usize,
 ) -> bool
     requires { ⌜ v ≤ 16384 ⌝ }
-    ensures { λ r. ⌜ r ≡ lengthsGood v d e f back route work ⌝ }
+    ensures { λ r. ⌜ r ≡ lengthsGood v d e f back route next work ⌝ }
 {
     if d != v {
         return false;
@@ -135,11 +136,14 @@ fn lengths_good(
     if route != v {
         return false;
     }
+    if next != v {
+        return false;
+    }
     work == 4 * v
 }
 
-// The route of a job whose ends a walk joins, from the costs d from a and the masks: fills e, and then counts and
-// route, which are all 0, or refuses and leaves them so. What it leaves in the working slice is nobody's.
+// The route of a job whose ends a walk joins, from the costs d from a and the masks: fills e, and then counts, next
+// vertices and route, which are all 0, or refuses and leaves them so. What it leaves in the working slice is nobody's.
 fn find_route(
     w: usize,
     h: usize,
@@ -152,12 +156,13 @@ fn find_route(
     f: &mut [u64],
     back: &mut [u64],
     route: &mut [u16],
+    next: &mut [u16],
     work: &mut [u32],
 ) -> Planned
     requires { ⌜ Findable w h (now map) rows (a .0) (b .0)
-        (now d) (now e) (now f) (now back) (now route) (now work) ⌝ }
+        (now d) (now e) (now f) (now back) (now route) (now next) (now work) ⌝ }
     ensures { λ r. ⌜ Finished (floorGraph (floorOf w h (now (map .entry))) rows) (a .0) (b .0) r
-        (slicesOf (now (e .exit)) (now (f .exit)) (now (back .exit)) (now (route .exit))
+        (slicesOf (now (e .exit)) (now (f .exit)) (now (back .exit)) (now (route .exit)) (now (next .exit))
         (zeros (4 * vertices w h))) ⌝ }
 {
     let n = distances::costs_over_masks(w, h, map, rows, b, e, work);
@@ -167,7 +172,8 @@ fn find_route(
     if !counts::fill_counts(rows, &shifts, start, goal, n, d, e, work, f, back) {
         return Planned::Refused(Refusal::TooMany);
     }
-    let points = route::write_route(rows, &shifts, start, goal, d, e, f, back, work, route);
+    route::fill_next(rows, &shifts, goal, d, e, f, back, work, next);
+    let points = route::write_route(start, goal, next, route);
     Planned::Found {
         cost: d[goal],
         total: f[goal],
@@ -188,24 +194,27 @@ fn finish_over_masks(
     f: &mut [u64],
     back: &mut [u64],
     route: &mut [u16],
+    next: &mut [u16],
     work: &mut [u32],
 ) -> Planned
     requires { ⌜ Finishable w h (now map) rows (a .0) (b .0)
-        (now d) (now e) (now f) (now back) (now route) (now work) ⌝ }
+        (now d) (now e) (now f) (now back) (now route) (now next) (now work) ⌝ }
     requires { ⌜ MasksIn (floorOf w h (now map)) (now work) ⌝ }
     ensures { λ r. ⌜ Finished (floorGraph (floorOf w h (now (map .entry))) rows) (a .0) (b .0) r
-        (slicesOf (now (e .exit)) (now (f .exit)) (now (back .exit)) (now (route .exit)) (now (work .exit))) ⌝ }
+        (slicesOf (now (e .exit)) (now (f .exit)) (now (back .exit)) (now (route .exit))
+        (now (next .exit)) (now (work .exit))) ⌝ }
 {
     basics::clear_u64(f);
     basics::clear_u64(back);
     basics::clear_u16(route);
+    basics::clear_u16(next);
     let goal = b.0;
     if d[goal] == paths::UNREACHABLE {
         basics::fill_u32(e, 0);
         basics::fill_u32(work, 0);
         return Planned::Refused(Refusal::NoRoute);
     }
-    let found = find_route(w, h, map, rows, a, b, d, e, f, back, route, work);
+    let found = find_route(w, h, map, rows, a, b, d, e, f, back, route, next, work);
     basics::fill_u32(work, 0);
     found
 }
@@ -224,15 +233,17 @@ pub fn finish_job(
     f: &mut [u64],
     back: &mut [u64],
     route: &mut [u16],
+    next: &mut [u16],
     work: &mut [u32],
 ) -> Planned
     requires { ⌜ Finishable w h (now map) rows (a .0) (b .0)
-        (now d) (now e) (now f) (now back) (now route) (now work) ⌝ }
+        (now d) (now e) (now f) (now back) (now route) (now next) (now work) ⌝ }
     ensures { λ r. ⌜ Finished (floorGraph (floorOf w h (now (map .entry))) rows) (a .0) (b .0) r
-        (slicesOf (now (e .exit)) (now (f .exit)) (now (back .exit)) (now (route .exit)) (now (work .exit))) ⌝ }
+        (slicesOf (now (e .exit)) (now (f .exit)) (now (back .exit)) (now (route .exit))
+        (now (next .exit)) (now (work .exit))) ⌝ }
 {
     workspace::store_masks(w, h, map, work);
-    finish_over_masks(w, h, map, rows, a, b, d, e, f, back, route, work)
+    finish_over_masks(w, h, map, rows, a, b, d, e, f, back, route, next, work)
 }
 
 // The costs from a start, where floor, neighbourhood and start have a good shape: refusal 6, or d filled and the
@@ -298,12 +309,15 @@ fn finish_given(
     f: &mut [u64],
     back: &mut [u64],
     route: &mut [u16],
+    next: &mut [u16],
     work: &mut [u32],
 ) -> Planned
     requires { ⌜ GoodJob w h (now map) rows (a .0) (b .0) ⌝ }
     ensures { λ r. ⌜ FinishesJob w h (now (map .entry)) rows (a .0) (b .0) (now (d .entry))
-        (slicesOf (now (e .entry)) (now (f .entry)) (now (back .entry)) (now (route .entry)) (now (work .entry))) r
-        (slicesOf (now (e .exit)) (now (f .exit)) (now (back .exit)) (now (route .exit)) (now (work .exit))) ⌝ }
+        (slicesOf (now (e .entry)) (now (f .entry)) (now (back .entry)) (now (route .entry))
+        (now (next .entry)) (now (work .entry))) r
+        (slicesOf (now (e .exit)) (now (f .exit)) (now (back .exit)) (now (route .exit))
+        (now (next .exit)) (now (work .exit))) ⌝ }
 {
     let v = floor::vertex_count(w, h);
     if !lengths_good(
@@ -313,6 +327,7 @@ fn finish_given(
         f.len(),
         back.len(),
         route.len(),
+        next.len(),
         work.len(),
     ) {
         return Planned::Refused(Refusal::SliceLength);
@@ -320,15 +335,15 @@ fn finish_given(
     if !given_costs::costs_true(w, h, map, rows, a, d) {
         return Planned::Refused(Refusal::FalseSheet);
     }
-    finish_job(w, h, map, rows, a, b, d, e, f, back, route, work)
+    finish_job(w, h, map, rows, a, b, d, e, f, back, route, next, work)
 }
 
 // The second operation: finishes the job from a to b from d, which it only reads. For every input it gives document
 // 01's answer, 9 where d is not the costs from a, and leaves every lent slice as document 01 says: answers 1 to 6, 9 and
 // 11 touch nothing.
 //
-// Lent are the sheet's slices d, e, f, back (document 01's b) and route, of V places each, and a working slice of
-// 4 * V.
+// Lent are the sheet's slices d, e, f, back (document 01's b), route and next, of V places each, and a working slice
+// of 4 * V.
 pub fn finish(
     w: usize,
     h: usize,
@@ -341,11 +356,14 @@ pub fn finish(
     f: &mut [u64],
     back: &mut [u64],
     route: &mut [u16],
+    next: &mut [u16],
     work: &mut [u32],
 ) -> Planned
     ensures { λ r. ⌜ Finishes w h (now (map .entry)) nb a b (now (d .entry))
-        (slicesOf (now (e .entry)) (now (f .entry)) (now (back .entry)) (now (route .entry)) (now (work .entry))) r
-        (slicesOf (now (e .exit)) (now (f .exit)) (now (back .exit)) (now (route .exit)) (now (work .exit))) ⌝ }
+        (slicesOf (now (e .entry)) (now (f .entry)) (now (back .entry)) (now (route .entry))
+        (now (next .entry)) (now (work .entry))) r
+        (slicesOf (now (e .exit)) (now (f .exit)) (now (back .exit)) (now (route .exit))
+        (now (next .exit)) (now (work .exit))) ⌝ }
 {
     let job = grid::job_of(w, h, map, nb, a, b);
     match job {
@@ -362,6 +380,7 @@ pub fn finish(
             f,
             back,
             route,
+            next,
             work,
         ),
     }

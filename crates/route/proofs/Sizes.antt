@@ -23,11 +23,11 @@ taken v xs h = sym (length-take-le v xs h)
 
 -- The parts of arrays of 1,024 places, or 4,096, and of a buffer of 6,307 bytes, beside costs of the right length.
 pub lent : {w h v : ℕ} {map d : List ℕ} → SmallFloor w h map → length d ≡ vertices w h → v ≡ vertices w h
-    → (e f b route work kept out : List ℕ) → 1024 ≤ length e → 1024 ≤ length f → 1024 ≤ length b
-    → 1024 ≤ length route → 4096 ≤ length work → 1024 ≤ length kept → 6307 ≤ length out
+    → (e f b route next work kept out : List ℕ) → 1024 ≤ length e → 1024 ≤ length f → 1024 ≤ length b
+    → 1024 ≤ length route → 1024 ≤ length next → 4096 ≤ length work → 1024 ≤ length kept → 6307 ≤ length out
     → Ready w h map d
-    (slicesOf (take v e) (take v f) (take v b) (take v route) (take (4 * v) work)) (take v kept) out
-lent {w} {h} {v} {map} {d} small d-len same e f b route work kept out he hf hb hr hw hk ho =
+    (slicesOf (take v e) (take v f) (take v b) (take v route) (take v next) (take (4 * v) work)) (take v kept) out
+lent {w} {h} {v} {map} {d} small d-len same e f b route next work kept out he hf hb hr hx hw hk ho =
     let few = few-vertices small in
     record {
       floor = small;
@@ -39,6 +39,7 @@ lent {w} {h} {v} {map} {d} small d-len same e f b route work kept out he hf hb h
             f = length-take-le v f (omega arith) ∙ same;
             b = length-take-le v b (omega arith) ∙ same;
             route = length-take-le v route (omega arith) ∙ same;
+            next = length-take-le v next (omega arith) ∙ same;
           };
           work-len = length-take-le (4 * v) work (omega arith) ∙ ap (λ n. 4 * n) same;
         };

@@ -32,15 +32,16 @@ fn write_turn(
     f: &mut [u64],
     back: &mut [u64],
     route: &mut [u16],
+    next: &mut [u16],
     work: &mut [u32],
     kept: &mut [u16],
     out: &mut [u8],
 ) -> Turn
     requires { ⌜ (1 ≤ c .due) × Ready w h (now map) (now d)
-        (slicesOf (now e) (now f) (now back) (now route) (now work)) (now kept) (now out) ⌝ }
+        (slicesOf (now e) (now f) (now back) (now route) (now next) (now work)) (now kept) (now out) ⌝ }
     ensures { λ r. ⌜ GoesOn (now (s .entry)) c r ⌝ }
 {
-    let t = jobs::take_turn(s, c, w, h, map, d, e, f, back, route, work, kept, out);
+    let t = jobs::take_turn(s, c, w, h, map, d, e, f, back, route, next, work, kept, out);
     let n = jobs::bytes_of(t);
     if io::write_all(STDOUT_FILENO, &out[..n]) {
         return t;
@@ -60,6 +61,7 @@ fn lend_turn(s: &[u8], c: Cursor, w: usize, h: usize, map: &[u8], d: &mut [u32])
     let mut f = [0u64; 1024];
     let mut back = [0u64; 1024];
     let mut route = [0u16; 1024];
+    let mut next = [0u16; 1024];
     let mut work = [0u32; 4096];
     let mut kept = [0u16; 1024];
     let mut out = [0u8; 6307];
@@ -74,6 +76,7 @@ fn lend_turn(s: &[u8], c: Cursor, w: usize, h: usize, map: &[u8], d: &mut [u32])
         &mut f[..v],
         &mut back[..v],
         &mut route[..v],
+        &mut next[..v],
         &mut work[..z],
         &mut kept[..v],
         &mut out,

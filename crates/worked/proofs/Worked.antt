@@ -59,7 +59,8 @@ shaped c =
     eqb (length (c .sheet .d)) (graphOf c .size)
     && (eqb (length (c .sheet .e)) (graphOf c .size)
     && (eqb (length (c .sheet .f)) (graphOf c .size)
-    && (eqb (length (c .sheet .b)) (graphOf c .size) && eqb (length (c .sheet .route)) (graphOf c .size))))
+    && (eqb (length (c .sheet .b)) (graphOf c .size)
+    && (eqb (length (c .sheet .route)) (graphOf c .size) && eqb (length (c .sheet .next)) (graphOf c .size)))))
 
 unfoldable routeTest : Case → Bool
 routeTest c =
@@ -82,12 +83,14 @@ shaped-true c t =
     let t1 = and-right (eqb (length (c .sheet .d)) v) _ t in
     let t2 = and-right (eqb (length (c .sheet .e)) v) _ t1 in
     let t3 = and-right (eqb (length (c .sheet .f)) v) _ t2 in
+    let t4 = and-right (eqb (length (c .sheet .b)) v) _ t3 in
     record {
       d = eqb-true (length (c .sheet .d)) v (and-left (eqb (length (c .sheet .d)) v) _ t);
       e = eqb-true (length (c .sheet .e)) v (and-left (eqb (length (c .sheet .e)) v) _ t1);
       f = eqb-true (length (c .sheet .f)) v (and-left (eqb (length (c .sheet .f)) v) _ t2);
       b = eqb-true (length (c .sheet .b)) v (and-left (eqb (length (c .sheet .b)) v) _ t3);
-      route = eqb-true (length (c .sheet .route)) v (and-right (eqb (length (c .sheet .b)) v) _ t3);
+      route = eqb-true (length (c .sheet .route)) v (and-left (eqb (length (c .sheet .route)) v) _ t4);
+      next = eqb-true (length (c .sheet .next)) v (and-right (eqb (length (c .sheet .route)) v) _ t4);
     }
 
 -- The shape of the case's job is good.

@@ -7,7 +7,7 @@ use Rattle.capi.proofs.lurfanzi_finish.Tie as tie
 -- The call of the planner, from the return.
 abbrev finished : tie.After-plan-number → tie.After-finish
 finished c =
-    c .before .before .before .before .before .before .before .before .before .before .before .before .before .before
+    c .before .before .before .before .before .before .before .before .before .before .before .before .before .before .before .before
 
 finish-requires : tie.Need-finish-requires
 finish-requires c κs = search needs
@@ -39,6 +39,9 @@ same-length-4 c = finished c .finish .kept .1 .1 .1 .1 .1 .1 .1 .1 .1 .1 .0
 same-length-5 : tie.Need-same-length-5
 same-length-5 c = finished c .finish .kept .1 .1 .1 .1 .1 .1 .1 .1 .1 .1 .1 .0
 
+same-length-6 : tie.Need-same-length-6
+same-length-6 c = finished c .finish .kept .1 .1 .1 .1 .1 .1 .1 .1 .1 .1 .1 .1 .0
+
 returns : tie.Need-returns
 returns c =
     finishes-to (finished c .finish .ensures) (c .before .before .before .plan-total .ensures)
@@ -58,4 +61,5 @@ lurfanzi-finish-spec =
     same-length-3
     same-length-4
     same-length-5
+    same-length-6
     returns)

@@ -9,7 +9,7 @@ use Rattle.checker.proofs.check.Statement.{statement}
 use Rattle.checker.proofs.check.Tie as tie
 
 abbrev start : tie.After-job-of → tie.Start
-start c = c .before .before .before .before .before .before .before
+start c = c .before .before .before .before .before .before .before .before
 
 fit : (c : tie.After-known-told) → let a = start (c .before .before .before) .args in
     jobOf (a .w) (a .h) (a .map .now) (a .nb) (a .a) (a .b) ≡ Fit (c .before .job .given .0 .0)

@@ -14,13 +14,13 @@ use Rattle.checker.proofs.is_no_route.Tie as tie
 
 abbrev sheet : tie.Start → Sheet
 sheet s = sheetOf (s .args .d .now) (s .args .e .now) (s .args .f .now) (s .args .back .now) (s .args .route .now)
-    (s .args .n)
+    (s .args .next .now) (s .args .n)
 
 abbrev graph : tie.Start → Graph
 graph s = floorGraph (floorOf (s .args .w) (s .args .h) (s .args .map .now)) (s .args .rows)
 
 abbrev start : tie.Else1 → tie.Start
-start c = c .before .before .before .before .before .before .before .before
+start c = c .before .before .before .before .before .before .before .before .before
 
 mul-if1 : tie.Need-mul-if1
 mul-if1 c = search needs
@@ -30,7 +30,7 @@ shared-slice-read-if1 c = search needs
 
 returns : tie.Need-returns
 returns c =
-    let s = c .before .before .before .before .before .before .before .before in
+    let s = c .before .before .before .before .before .before .before .before .before in
     noRoute-reached (graph s) (s .args .a .0) (s .args .b .0) (sheet s) (c .if1 .taken)
 
 returns-2 : tie.Need-returns-2
@@ -63,8 +63,8 @@ returns-4 c =
     noRoute-vertices (graph s) (a .a .0) (a .b .0) (sheet s) (k .if1 .left) (c .before .before .before .if2 .left)
     (c .before .if3 .left)
     (c .vertices-right .ensures
-    ∙ vertices-uncounted (a .d .now) (a .e .now) (a .f .now) (a .back .now) (a .route .now) (a .n) false (graph s)
-    (a .a .0) (a .b .0))
+    ∙ vertices-uncounted (a .d .now) (a .e .now) (a .f .now) (a .back .now) (a .route .now) (a .next .now) (a .n)
+    false (graph s) (a .a .0) (a .b .0))
 
 pub is-no-route-spec : {M : Type 1} → statement M
 is-no-route-spec =

@@ -1,11 +1,13 @@
 -- `checker::is_route` meets its contract, test by test; once costs and counts are right the products of counts fit 64
 -- bits. Assumes nothing.
 use Prim.Native.Nat.{_<_}
-use mathlib.Core.Path.{_≡_, sym, _∙_}
+use mathlib.Core.Path.{_≡_, sym, ap, _∙_}
 use mathlib.Core.Bool.{true}
 use native.Mathlib.Omega.{arith}
 use borrow.Author.Tests.{not-false}
+use lib.ListN.{length}
 use Rattle.floor.specs.Floor.{floorOf}
+use Rattle.floor.proofs.Numbers.{vertices-le}
 use Rattle.moves.proofs.Table.{listed-lawful}
 use Rattle.paths.specs.Graph.{Graph}
 use Rattle.paths.specs.Distance.{unreachable}
@@ -13,27 +15,28 @@ use Rattle.paths.specs.Sheet.{Sheet, sheetOf}
 use Rattle.paths.specs.Local.{entry}
 use Rattle.grid.specs.Grid.{floorGraph}
 use Rattle.grid.proofs.Lawful.{floor-lawful}
-use Rattle.checker.specs.Tests.{verticesTest}
+use Rattle.checker.specs.Tests.{chosenOf, verticesTest, nextsTest, pointsTest, Choosable}
 use Rattle.checker.proofs.Exact.{route-unreached, route-start, route-end}
-use Rattle.checker.proofs.Exact.{route-vertices, route-points, counts-fit, vertices-uncounted}
+use Rattle.checker.proofs.Exact.{route-vertices, route-nexts, route-points, counts-fit}
+use Rattle.checker.proofs.Exact.{vertices-uncounted, nexts-alone, points-alone}
 use Rattle.checker.proofs.Leaving.{pinches-far}
-use Rattle.checker.proofs.Posed.{posed-uncounted}
+use Rattle.checker.proofs.Posed.{posed-uncounted, posed-chosen}
 use borrow.Author.Needs.{needs}
 use Rattle.checker.proofs.is_route.Statement.{statement}
 use Rattle.checker.proofs.is_route.Tie as tie
 
 abbrev sheet : tie.Start → Sheet
 sheet s = sheetOf (s .args .d .now) (s .args .e .now) (s .args .f .now) (s .args .back .now) (s .args .route .now)
-    (s .args .n)
+    (s .args .next .now) (s .args .n)
 
 abbrev graph : tie.Start → Graph
 graph s = floorGraph (floorOf (s .args .w) (s .args .h) (s .args .map .now)) (s .args .rows)
 
 abbrev start : tie.Else1 → tie.Start
-start c = c .before .before .before .before .before .before .before .before
+start c = c .before .before .before .before .before .before .before .before .before
 
 near : (c : tie.Else1) → entry (start c .args .d .now) (start c .args .b .0) < unreachable
-near c = omega (arith, c .before .shared-slice-known7 .given (start c .args .b .0))
+near c = omega (arith, c .before .shared-slice-known8 .given (start c .args .b .0))
 
 abbrev first : tie.After-vertices-right → tie.Else1
 first c = c .before .before .before .before .before
@@ -44,7 +47,7 @@ vertices : (c : tie.After-vertices-right)
 vertices c =
     let a = start (first c) .args in
     c .vertices-right .ensures
-    ∙ vertices-uncounted (a .d .now) (a .e .now) (a .f .now) (a .back .now) (a .route .now) (a .n) true
+    ∙ vertices-uncounted (a .d .now) (a .e .now) (a .f .now) (a .back .now) (a .route .now) (a .next .now) (a .n) true
     (graph (start (first c))) (a .a .0) (a .b .0)
 
 mul-if1 : tie.Need-mul-if1
@@ -55,7 +58,7 @@ shared-slice-read-if1 c = search needs
 
 returns : tie.Need-returns
 returns c =
-    let s = c .before .before .before .before .before .before .before .before in
+    let s = c .before .before .before .before .before .before .before .before .before in
     route-unreached (graph s) (s .args .a .0) (s .args .b .0) (sheet s) (c .if1 .taken)
 
 mul-if2 : tie.Need-mul-if2
@@ -94,28 +97,69 @@ returns-4 c =
     (v .before .before .before .if2 .left) (v .before .if3 .left)
     (vertices v) (c .if4 .taken)
 
-route-right-requires : tie.Need-route-right-requires
-route-right-requires c κs =
+-- where costs and counts are right
+chosen : (c : tie.Else4)
+    → let a = start (first (c .before)) .args in
+    Choosable (a .w) (a .h) (a .map .now) (a .rows) (a .b .0)
+    (chosenOf (a .d .now) (a .e .now) (a .f .now) (a .back .now) (a .next .now))
+chosen c =
     let v = c .before in
-    let s = start (first v) in (
-      s .pre,
-      counts-fit (graph s) (s .args .a .0) (s .args .b .0) (sheet s) (near (first v))
+    let s = start (first v) in
+    record {
+      posed = posed-chosen (s .pre);
+      counted = counts-fit (graph s) (s .args .a .0) (s .args .b .0) (sheet s) (near (first v))
           (v .before .before .before .if2 .left) (v .before .if3 .left) (vertices v) (c .if4 .left)
           (floor-lawful (floorOf (s .args .w) (s .args .h) (s .args .map .now)) (s .args .rows)
           (listed-lawful (s .pre .job .listed)))
           (s .pre .job .start-in) (s .pre .job .goal-in) (s .pre .shape)
-          (omega (arith, first v .before .before .before .before .shared-slice-known4 .given (s .args .b .0))),
-      pinches-far (s .pre .job) (sheet s) (sym (vertices v) ∙ not-false _ (c .if4 .left)),
-      near (first v),
-    )
+          (omega (arith, first v .before .before .before .before .before .shared-slice-known4 .given (s .args .b .0)));
+      pinches = pinches-far (s .pre .job) (sheet s) (sym (vertices v) ∙ not-false _ (c .if4 .left));
+      near = near (first v);
+    }
+
+nexts : (c : tie.After-nexts-right)
+    → let s = start (first (c .before .before)) in
+    c .nexts-right .result ≡ nextsTest (graph s) (s .args .b .0) (sheet s)
+nexts c =
+    let s = start (first (c .before .before)) in
+    let a = s .args in
+    c .nexts-right .ensures
+    ∙ nexts-alone (a .d .now) (a .e .now) (a .f .now) (a .back .now) (a .route .now) (a .next .now) (a .n) (graph s)
+    (a .b .0)
+
+nexts-right-requires : tie.Need-nexts-right-requires
+nexts-right-requires c κs = chosen c
 
 returns-5 : tie.Need-returns-5
 returns-5 c =
-    let v = c .before .before in
+    let x = c .before in
+    let v = x .before .before in
     let s = start (first v) in
-    route-points (graph s) (s .args .a .0) (s .args .b .0) (sheet s) (near (first v))
+    route-nexts (graph s) (s .args .a .0) (s .args .b .0) (sheet s) (near (first v))
     (v .before .before .before .if2 .left) (v .before .if3 .left)
-    (vertices v) (c .before .if4 .left) (c .route-right .ensures)
+    (vertices v) (x .before .if4 .left) (nexts x) (c .if5 .taken)
+
+route-right-requires : tie.Need-route-right-requires
+route-right-requires c κs =
+    let p = start (first (c .before .before .before)) .pre in (
+      p .shape .next ∙ sym (p .shape .route),
+      omega (arith, p .shape .route, vertices-le (p .job .sized .wide) (p .job .sized .high)),
+    )
+
+returns-6 : tie.Need-returns-6
+returns-6 c =
+    let x = c .before .before in
+    let v = x .before .before in
+    let s = start (first v) in
+    let a = s .args in
+    let points : c .route-right .result ≡ pointsTest (graph s .size) (a .a .0) (a .b .0) (sheet s)
+    = c .route-right .ensures
+    ∙ points-alone (a .d .now) (a .e .now) (a .f .now) (a .back .now) (a .route .now) (a .next .now) (a .n)
+    (length (a .route .now)) (a .a .0) (a .b .0)
+    ∙ ap (λ n. pointsTest n (a .a .0) (a .b .0) (sheet s)) (s .pre .shape .route) in
+    route-points (graph s) (a .a .0) (a .b .0) (sheet s) (near (first v))
+    (v .before .before .before .if2 .left) (v .before .if3 .left)
+    (vertices v) (x .before .if4 .left) (nexts x) (c .before .if5 .left) points
 
 pub is-route-spec : {M : Type 1} → statement M
 is-route-spec =
@@ -132,5 +176,7 @@ is-route-spec =
     returns-3
     vertices-right-requires
     returns-4
+    nexts-right-requires
+    returns-5
     route-right-requires
-    returns-5)
+    returns-6)

@@ -10,21 +10,21 @@ use Rattle.checker.proofs.judge.Statement.{statement}
 use Rattle.checker.proofs.judge.Tie as tie
 
 abbrev start : tie.After-sheet-sized → tie.Start
-start c = c .before .before .before .before .before .before .before .before
+start c = c .before .before .before .before .before .before .before .before .before
 
 posed : (c : tie.Else1) → let a = start (c .before) .args in
     Posed (a .w) (a .h) (a .map .now) (a .rows) (a .a .0) (a .b .0)
-    (sheetOf (a .d .now) (a .e .now) (a .f .now) (a .back .now) (a .route .now) (a .n))
+    (sheetOf (a .d .now) (a .e .now) (a .f .now) (a .back .now) (a .route .now) (a .next .now) (a .n))
 posed c =
     let z = c .before in
     let a = start z .args in
     judged-posed (a .w) (a .h) (a .map .now) (a .rows) (a .a .0) (a .b .0) (a .d .now) (a .e .now) (a .f .now)
-    (a .back .now) (a .route .now)
+    (a .back .now) (a .route .now) (a .next .now)
     (a .n) (z .before .vertex-count .result) (z .before .vertex-count .ensures .0) (z .sheet-sized .ensures)
     (c .if1 .left) (start z .pre)
 
 total : (c : tie.After-sheet-sized) → let a = start c .args in entry (a .f .now) (a .b .0) < 2 ^ 64
-total c = omega (arith, c .before .before .before .before .shared-slice-known4 .given (start c .args .b .0))
+total c = omega (arith, c .before .before .before .before .before .shared-slice-known4 .given (start c .args .b .0))
 
 vertex-count-requires : tie.Need-vertex-count-requires
 vertex-count-requires c κs = search needs
@@ -37,7 +37,7 @@ returns c =
     let z = c .before in
     let a = start z .args in
     judged-unsized (a .w) (a .h) (a .map .now) (a .rows) (a .a .0) (a .b .0) (a .d .now) (a .e .now) (a .f .now)
-    (a .back .now) (a .route .now)
+    (a .back .now) (a .route .now) (a .next .now)
     (a .n) (z .before .vertex-count .result) (z .before .vertex-count .ensures .0) (z .sheet-sized .ensures)
     (c .if1 .taken)
 
@@ -50,7 +50,7 @@ returns-2 c =
     let z = r .before .before in
     let a = start z .args in
     judged-route (a .w) (a .h) (a .map .now) (a .rows) (a .a .0) (a .b .0) (a .d .now) (a .e .now) (a .f .now)
-    (a .back .now) (a .route .now)
+    (a .back .now) (a .route .now) (a .next .now)
     (a .n) (z .before .vertex-count .result) (z .before .vertex-count .ensures .0) (z .sheet-sized .ensures)
     (r .before .if1 .left)
     (start z .pre) (total z) (r .is-route .ensures) (c .if2 .taken)
@@ -64,7 +64,7 @@ returns-3 c =
     let z = r .before .before in
     let a = start z .args in
     judged-noRoute (a .w) (a .h) (a .map .now) (a .rows) (a .a .0) (a .b .0) (a .d .now) (a .e .now) (a .f .now)
-    (a .back .now) (a .route .now)
+    (a .back .now) (a .route .now) (a .next .now)
     (a .n) (z .before .vertex-count .result) (z .before .vertex-count .ensures .0) (z .sheet-sized .ensures)
     (r .before .if1 .left)
     (start z .pre) (total z) (r .is-route .ensures) (c .before .before .if2 .left) (c .before .is-no-route .ensures)
@@ -76,7 +76,7 @@ returns-4 c =
     let z = r .before .before in
     let a = start z .args in
     judged-false (a .w) (a .h) (a .map .now) (a .rows) (a .a .0) (a .b .0) (a .d .now) (a .e .now) (a .f .now)
-    (a .back .now) (a .route .now)
+    (a .back .now) (a .route .now) (a .next .now)
     (a .n) (z .before .vertex-count .result) (z .before .vertex-count .ensures .0) (z .sheet-sized .ensures)
     (r .before .if1 .left)
     (start z .pre) (total z) (r .is-route .ensures) (c .before .before .if2 .left) (c .before .is-no-route .ensures)

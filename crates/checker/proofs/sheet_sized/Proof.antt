@@ -32,11 +32,22 @@ returns-4 c = rw (
 returns-5 : tie.Need-returns-5
 unfolding sheetSized
 returns-5 c = rw (
-  eq-eqb _ _ (c .before .before .before .if1 .left),
-  eq-eqb _ _ (c .before .before .if2 .left),
-  eq-eqb _ _ (c .before .if3 .left),
-  eq-eqb _ _ (c .if4 .left),
+  eq-eqb _ _ (c .before .before .before .before .if1 .left),
+  eq-eqb _ _ (c .before .before .before .if2 .left),
+  eq-eqb _ _ (c .before .before .if3 .left),
+  eq-eqb _ _ (c .before .if4 .left),
+  ne-eqb _ _ (c .if5 .taken),
+)
+
+returns-6 : tie.Need-returns-6
+unfolding sheetSized
+returns-6 c = rw (
+  eq-eqb _ _ (c .before .before .before .before .if1 .left),
+  eq-eqb _ _ (c .before .before .before .if2 .left),
+  eq-eqb _ _ (c .before .before .if3 .left),
+  eq-eqb _ _ (c .before .if4 .left),
+  eq-eqb _ _ (c .if5 .left),
 )
 
 pub sheet-sized-spec : {M : Type 1} → statement M
-sheet-sized-spec = tie.close (tie.spec returns returns-2 returns-3 returns-4 returns-5)
+sheet-sized-spec = tie.close (tie.spec returns returns-2 returns-3 returns-4 returns-5 returns-6)

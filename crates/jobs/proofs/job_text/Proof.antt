@@ -5,19 +5,19 @@ use borrow.Author.Needs.{needs}
 use Rattle.jobs.proofs.job_text.Statement.{statement}
 use Rattle.jobs.proofs.job_text.Tie as tie
 
-abbrev plan-of : tie.After-slice-known14 → tie.After-plan-job
-plan-of c = c .before .before .before .before .before .before .before .before .before .before .before .before
+abbrev plan-of : tie.After-slice-known16 → tie.After-plan-job
+plan-of c =
+    c .before .before .before .before .before .before .before .before .before .before .before .before .before .before
 
 abbrev start : tie.After-plan-job → tie.Start
 start c =
-    c .before .before .before .before .before .before .before .before .before .before .before .before .before .before
-    .before .before
+    c .before .before .before .before .before .before .before .before .before .before .before .before .before .before .before .before .before .before
 
 -- The call of the planner, from the two returns.
-abbrev refused : tie.After-slice-known15 → tie.After-plan-job
+abbrev refused : tie.After-slice-known17 → tie.After-plan-job
 refused c = plan-of (c .before .before .before .before .before .before .before .before)
 
-abbrev found : tie.After-slice-known17 → tie.After-plan-job
+abbrev found : tie.After-slice-known19 → tie.After-plan-job
 found c = plan-of (c .before .before .before .before .before .before .before .before .before .before .before)
 
 plan-job-requires : tie.Need-plan-job-requires
@@ -60,7 +60,10 @@ same-length-6 : tie.Need-same-length-6
 same-length-6 c = refused c .plan-job .kept .1 .1 .1 .1 .1 .1 .1 .1 .1 .0
 
 same-length-7 : tie.Need-same-length-7
-same-length-7 c = c .before .before .put-refused .kept .0
+same-length-7 c = refused c .plan-job .kept .1 .1 .1 .1 .1 .1 .1 .1 .1 .1 .0
+
+same-length-8 : tie.Need-same-length-8
+same-length-8 c = c .before .before .put-refused .kept .0
 
 returns : tie.Need-returns
 returns c =
@@ -70,29 +73,32 @@ returns c =
     told-refused (start p .args .job) (start p .pre) (planned-as (a .answer .given .1) (p .plan-job .ensures))
     (t .before .refusal-number .ensures) (t .put-refused .ensures)
 
-same-length-8 : tie.Need-same-length-8
-same-length-8 c = found c .plan-job .kept .1 .1 .1 .1 .0
-
 same-length-9 : tie.Need-same-length-9
-same-length-9 c = found c .plan-job .kept .1 .1 .1 .1 .1 .0
+same-length-9 c = found c .plan-job .kept .1 .1 .1 .1 .0
 
 same-length-10 : tie.Need-same-length-10
-same-length-10 c = found c .plan-job .kept .1 .1 .1 .1 .1 .1 .0
+same-length-10 c = found c .plan-job .kept .1 .1 .1 .1 .1 .0
 
 same-length-11 : tie.Need-same-length-11
-same-length-11 c = found c .plan-job .kept .1 .1 .1 .1 .1 .1 .1 .0
+same-length-11 c = found c .plan-job .kept .1 .1 .1 .1 .1 .1 .0
 
 same-length-12 : tie.Need-same-length-12
-same-length-12 c = found c .plan-job .kept .1 .1 .1 .1 .1 .1 .1 .1 .0
+same-length-12 c = found c .plan-job .kept .1 .1 .1 .1 .1 .1 .1 .0
 
 same-length-13 : tie.Need-same-length-13
-same-length-13 c = found c .plan-job .kept .1 .1 .1 .1 .1 .1 .1 .1 .1 .0
+same-length-13 c = found c .plan-job .kept .1 .1 .1 .1 .1 .1 .1 .1 .0
 
 same-length-14 : tie.Need-same-length-14
-same-length-14 c = c .before .before .before .before .route-text .kept .1 .1 .1 .1 .1 .1 .1 .1 .0
+same-length-14 c = found c .plan-job .kept .1 .1 .1 .1 .1 .1 .1 .1 .1 .0
 
 same-length-15 : tie.Need-same-length-15
-same-length-15 c = c .before .before .before .before .route-text .kept .1 .1 .1 .1 .1 .1 .1 .1 .1 .0
+same-length-15 c = found c .plan-job .kept .1 .1 .1 .1 .1 .1 .1 .1 .1 .1 .0
+
+same-length-16 : tie.Need-same-length-16
+same-length-16 c = c .before .before .before .before .route-text .kept .1 .1 .1 .1 .1 .1 .1 .1 .0
+
+same-length-17 : tie.Need-same-length-17
+same-length-17 c = c .before .before .before .before .route-text .kept .1 .1 .1 .1 .1 .1 .1 .1 .1 .0
 
 returns-2 : tie.Need-returns-2
 returns-2 c =
@@ -119,8 +125,8 @@ job-text-spec =
     same-length-5
     same-length-6
     same-length-7
-    returns
     same-length-8
+    returns
     same-length-9
     same-length-10
     same-length-11
@@ -128,4 +134,6 @@ job-text-spec =
     same-length-13
     same-length-14
     same-length-15
+    same-length-16
+    same-length-17
     returns-2)

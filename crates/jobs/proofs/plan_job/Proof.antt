@@ -12,16 +12,16 @@ use Rattle.jobs.proofs.plan_job.Tie as tie
 -- The places: where the function begins, and the calls before each return.
 abbrev start : tie.After-finish → tie.Start
 start c =
-    c .before .before .before .before .before .before .before .before .before .before .before .before .before .before
+    c .before .before .before .before .before .before .before .before .before .before .before .before .before .before .before .before
 
 abbrev asked : tie.After-plan-number → tie.After-finish
-asked c = c .before .before .before .before .before .before .before .before .before .before .before
+asked c = c .before .before .before .before .before .before .before .before .before .before .before .before .before
 
-abbrev again : tie.After-slice-known18 → tie.After-finish2
-again c = c .before .before .before .before .before .before .before .before .before .before
+abbrev again : tie.After-slice-known21 → tie.After-finish2
+again c = c .before .before .before .before .before .before .before .before .before .before .before .before
 
 abbrev filled : tie.After-finish2 → tie.After-fill-costs
-filled c = c .before .before .before .before .before .before .before .before .before .before .before
+filled c = c .before .before .before .before .before .before .before .before .before .before .before .before
 
 abbrev refused : tie.After-fill-costs → tie.After-finish
 refused c = asked (c .before .before .before .before)
@@ -50,6 +50,9 @@ same-length-5 c = search needs
 same-length-6 : tie.Need-same-length-6
 same-length-6 c = search needs
 
+same-length-7 : tie.Need-same-length-7
+same-length-7 c = search needs
+
 returns : tie.Need-returns
 returns c =
     let n = c .before in
@@ -63,36 +66,45 @@ fill-costs-requires c κs = search needs
 finish-requires-2 : tie.Need-finish-requires-2
 finish-requires-2 c κs = search needs
 
-same-length-7 : tie.Need-same-length-7
-same-length-7 c = filled (again c) .fill-costs .kept .1 .1 .1 .1 .1 .0
-
 same-length-8 : tie.Need-same-length-8
-same-length-8 c =
-    let t = again c in
-    t .finish2 .kept .1 .1 .1 .1 .1 .1 .1 .0 ∙ refused (filled t) .finish .kept .1 .1 .1 .1 .1 .1 .1 .0
+same-length-8 c = filled (again c) .fill-costs .kept .1 .1 .1 .1 .1 .0
 
 same-length-9 : tie.Need-same-length-9
 same-length-9 c =
     let t = again c in
-    t .finish2 .kept .1 .1 .1 .1 .1 .1 .1 .1 .0 ∙ refused (filled t) .finish .kept .1 .1 .1 .1 .1 .1 .1 .1 .0
+    t .finish2 .kept .1 .1 .1 .1 .1 .1 .1 .0
+    ∙ refused (filled t) .finish .kept .1 .1 .1 .1 .1 .1 .1 .0
 
 same-length-10 : tie.Need-same-length-10
 same-length-10 c =
     let t = again c in
-    t .finish2 .kept .1 .1 .1 .1 .1 .1 .1 .1 .1 .0 ∙ refused (filled t) .finish .kept .1 .1 .1 .1 .1 .1 .1 .1 .1 .0
+    t .finish2 .kept .1 .1 .1 .1 .1 .1 .1 .1 .0
+    ∙ refused (filled t) .finish .kept .1 .1 .1 .1 .1 .1 .1 .1 .0
 
 same-length-11 : tie.Need-same-length-11
 same-length-11 c =
     let t = again c in
-    t .finish2 .kept .1 .1 .1 .1 .1 .1 .1 .1 .1 .1 .0
-    ∙ refused (filled t) .finish .kept .1 .1 .1 .1 .1 .1 .1 .1 .1 .1 .0
+    t .finish2 .kept .1 .1 .1 .1 .1 .1 .1 .1 .1 .0
+    ∙ refused (filled t) .finish .kept .1 .1 .1 .1 .1 .1 .1 .1 .1 .0
 
 same-length-12 : tie.Need-same-length-12
 same-length-12 c =
     let t = again c in
+    t .finish2 .kept .1 .1 .1 .1 .1 .1 .1 .1 .1 .1 .0
+    ∙ refused (filled t) .finish .kept .1 .1 .1 .1 .1 .1 .1 .1 .1 .1 .0
+
+same-length-13 : tie.Need-same-length-13
+same-length-13 c =
+    let t = again c in
+    t .finish2 .kept .1 .1 .1 .1 .1 .1 .1 .1 .1 .1 .1 .0
+    ∙ refused (filled t) .finish .kept .1 .1 .1 .1 .1 .1 .1 .1 .1 .1 .1 .0
+
+same-length-14 : tie.Need-same-length-14
+same-length-14 c =
+    let t = again c in
     let k = filled t in
-    t .finish2 .kept .1 .1 .1 .1 .1 .1 .1 .1 .1 .1 .1 .0 ∙ k .fill-costs .kept .1 .1 .1 .1 .1 .1 .0
-    ∙ refused k .finish .kept .1 .1 .1 .1 .1 .1 .1 .1 .1 .1 .1 .0
+    t .finish2 .kept .1 .1 .1 .1 .1 .1 .1 .1 .1 .1 .1 .1 .0 ∙ k .fill-costs .kept .1 .1 .1 .1 .1 .1 .0
+    ∙ refused k .finish .kept .1 .1 .1 .1 .1 .1 .1 .1 .1 .1 .1 .1 .0
 
 returns-2 : tie.Need-returns-2
 returns-2 c =
@@ -100,10 +112,10 @@ returns-2 c =
     let k = filled t in
     let f = refused k in
     let L = start f .pre in
-    let work = f .finish .kept .1 .1 .1 .1 .1 .1 .1 .1 .1 .1 .1 .0 in
+    let work = f .finish .kept .1 .1 .1 .1 .1 .1 .1 .1 .1 .1 .1 .1 .0 in
     let others = full-on L (f .finish .kept .1 .1 .1 .1 .1 .1 .1 .0) (f .finish .kept .1 .1 .1 .1 .1 .1 .1 .1 .0)
     (f .finish .kept .1 .1 .1 .1 .1 .1 .1 .1 .1 .0) (f .finish .kept .1 .1 .1 .1 .1 .1 .1 .1 .1 .1 .0)
-    (k .fill-costs .kept .1 .1 .1 .1 .1 .1 .0 ∙ work) in
+    (f .finish .kept .1 .1 .1 .1 .1 .1 .1 .1 .1 .1 .1 .0) (k .fill-costs .kept .1 .1 .1 .1 .1 .1 .0 ∙ work) in
     planned-again (start f .args .job) (costs-sized _ _ (L .sheet .d) (work ∙ L .work-len)) (full-sized others)
     (k .fill-costs .ensures) (t .finish2 .ensures)
 
@@ -119,13 +131,15 @@ plan-job-spec =
     same-length-4
     same-length-5
     same-length-6
+    same-length-7
     returns
     fill-costs-requires
     finish-requires-2
-    same-length-7
     same-length-8
     same-length-9
     same-length-10
     same-length-11
     same-length-12
+    same-length-13
+    same-length-14
     returns-2)

@@ -6,13 +6,12 @@ use Rattle.jobs.proofs.take_turn.Statement.{statement}
 use Rattle.jobs.proofs.take_turn.Tie as tie
 
 abbrev start : tie.After-step → tie.Start
-start c = c .before .before .before .before .before .before .before .before .before .before .before
+start c = c .before .before .before .before .before .before .before .before .before .before .before .before
 
 -- The call of `job_text`, from its return.
-abbrev told : tie.After-slice-known16 → tie.After-job-text
+abbrev told : tie.After-slice-known18 → tie.After-job-text
 told c =
-    c .before .before .before .before .before .before .before .before .before .before .before .before .before .before
-    .before .before
+    c .before .before .before .before .before .before .before .before .before .before .before .before .before .before .before .before .before .before
 
 step-requires : tie.Need-step-requires
 step-requires c κs = search needs
@@ -59,14 +58,17 @@ same-length-7 c = told c .job-text .kept .1 .1 .1 .1 .1 .1 .1 .1 .1 .1 .0
 same-length-8 : tie.Need-same-length-8
 same-length-8 c = told c .job-text .kept .1 .1 .1 .1 .1 .1 .1 .1 .1 .1 .1 .0
 
+same-length-9 : tie.Need-same-length-9
+same-length-9 c = told c .job-text .kept .1 .1 .1 .1 .1 .1 .1 .1 .1 .1 .1 .1 .0
+
 returns : tie.Need-returns
 returns c =
     let t = told c in
-    let j = t .before .before .before .before .before .before .before .before .before .before in
+    let j = t .before .before .before .before .before .before .before .before .before .before .before in
     turn-job (sym (j .before .before .step .ensures) ∙ j .j .given .1) (t .job-text .ensures)
 
-same-length-9 : tie.Need-same-length-9
-same-length-9 c = c .before .before .put-bad .kept .0
+same-length-10 : tie.Need-same-length-10
+same-length-10 c = c .before .before .put-bad .kept .0
 
 returns-2 : tie.Need-returns-2
 returns-2 c =
@@ -101,8 +103,9 @@ take-turn-spec =
     same-length-6
     same-length-7
     same-length-8
-    returns
     same-length-9
+    returns
+    same-length-10
     returns-2
     returns-3
     returns-4)

@@ -17,6 +17,7 @@ use Rattle.planner.proofs.Finding.{
   found-same,
   found-readied,
   found-known,
+  found-choosable,
   found-walkable,
   found-many,
   found-route,
@@ -30,7 +31,7 @@ abbrev ordered : tie.After-shifts-of → tie.After-costs-over-masks
 ordered c = c .before .before .before .before .before
 
 abbrev start : tie.After-shifts-of → tie.Start
-start c = ordered c .before .before .before .before .before .before .before .before .before .before
+start c = ordered c .before .before .before .before .before .before .before .before .before .before .before
 
 abbrev shifted : tie.After-fill-counts → tie.After-shifts-of
 shifted c = c .before .before .before .before .before .before
@@ -41,8 +42,18 @@ tried c = c .before .before .before .before .before .before .before
 abbrev counted : tie.Else1 → tie.After-fill-counts
 counted c = c .before .before .before .before .before .before .before
 
-abbrev fitting : tie.After-slice-known11 → tie.Else1
-fitting c = c .before .before .before .before .before .before .before .before .before
+abbrev chosen : tie.After-write-route-arg2 → tie.After-fill-next
+chosen c = c .before .before .before .before
+
+abbrev written : tie.After-slice-known13 → tie.After-write-route
+written c = c .before .before
+
+abbrev fitting : tie.After-fill-next → tie.Else1
+fitting c = c .before .before .before .before .before .before .before
+
+-- Where the total fits, from the end.
+abbrev ended : tie.After-slice-known13 → tie.Else1
+ended c = fitting (chosen (written c .before))
 
 -- What is left in e: the costs from b.
 abbrev graph : tie.After-shifts-of → Graph
@@ -69,7 +80,7 @@ goal-small c = omega (arith, goal-read c, found-few (start (shifted (counted c))
 
 costs-over-masks-requires : tie.Need-costs-over-masks-requires
 costs-over-masks-requires c κs =
-    let F = c .before .before .before .before .before .before .before .before .before .pre in
+    let F = c .before .before .before .before .before .before .before .before .before .before .pre in
     (found-costing F, F .masks)
 
 shifts-of-requires : tie.Need-shifts-of-requires
@@ -109,54 +120,71 @@ returns c =
     let E = costs-from-b r in
     found-many F C S E (at .fill-counts .ensures _ (found-known F C S E)) (not-true _ (c .if1 .taken))
 
-slice-aggregate-write-route : tie.Need-slice-aggregate-write-route
-slice-aggregate-write-route c = search needs
+slice-aggregate-fill-next : tie.Need-slice-aggregate-fill-next
+slice-aggregate-fill-next c = search needs
 
-write-route-requires : tie.Need-write-route-requires
-write-route-requires c κs =
+fill-next-requires : tie.Need-fill-next-requires
+fill-next-requires c κs =
     let at = c .before .before .before .before .before .before in
     let r = shifted (counted at) in
     let F = start r .pre in
     let C = ordered r .costs-over-masks .ensures in
     let S = r .shifts-of .ensures in
     let E = costs-from-b r in
-    (_, found-walkable F C S E (counted at .fill-counts .ensures _ (found-known F C S E)) (not-false _ (at .if1 .left)))
+    found-choosable F C S E (counted at .fill-counts .ensures _ (found-known F C S E)) (not-false _ (at .if1 .left))
 
-mul-t48 : tie.Need-mul-t48
-mul-t48 c = omega (arith, goal-small (fitting c))
+write-route-requires : tie.Need-write-route-requires
+write-route-requires c κs =
+    let x = chosen c in
+    let at = fitting x in
+    let r = shifted (counted at) in
+    let F = start r .pre in
+    let C = ordered r .costs-over-masks .ensures in
+    let S = r .shifts-of .ensures in
+    let E = costs-from-b r in
+    let filled = counted at .fill-counts .ensures _ (found-known F C S E) in
+    (_, found-walkable F C S E filled (not-false _ (at .if1 .left)) (x .fill-next .ensures))
 
-shared-slice-read-t50 : tie.Need-shared-slice-read-t50
-shared-slice-read-t50 c = goal-read (fitting (c .before))
+mul-t54 : tie.Need-mul-t54
+mul-t54 c = omega (arith, goal-small (ended c))
 
-mul-t51 : tie.Need-mul-t51
-mul-t51 c = omega (arith, goal-small (fitting (c .before)))
+shared-slice-read-t56 : tie.Need-shared-slice-read-t56
+shared-slice-read-t56 c = goal-read (ended (c .before))
 
-slice-read-t53 : tie.Need-slice-read-t53
-slice-read-t53 c =
-    let at = fitting (c .before .before) in
+mul-t57 : tie.Need-mul-t57
+mul-t57 c = omega (arith, goal-small (ended (c .before)))
+
+slice-read-t59 : tie.Need-slice-read-t59
+slice-read-t59 c =
+    let at = ended (c .before .before) in
     let lent = start (shifted (counted at)) .pre .finishable .lent in
     let same = counted at .fill-counts .kept .1 .1 .1 .1 .1 .1 .1 .1 .0 in
     omega (arith, goal-read at, same, lent .sheet .f, lent .sheet .d)
 
 same-length-5 : tie.Need-same-length-5
 same-length-5 c =
-    ordered (shifted (counted (fitting (c .before .before)))) .costs-over-masks .kept .1 .1 .1 .1 .1 .0
+    ordered (shifted (counted (ended (c .before .before)))) .costs-over-masks .kept .1 .1 .1 .1 .1 .0
 
 same-length-6 : tie.Need-same-length-6
-same-length-6 c = counted (fitting (c .before .before)) .fill-counts .kept .1 .1 .1 .1 .1 .1 .1 .1 .0
+same-length-6 c = counted (ended (c .before .before)) .fill-counts .kept .1 .1 .1 .1 .1 .1 .1 .1 .0
 
 same-length-7 : tie.Need-same-length-7
-same-length-7 c = counted (fitting (c .before .before)) .fill-counts .kept .1 .1 .1 .1 .1 .1 .1 .1 .1 .0
+same-length-7 c = counted (ended (c .before .before)) .fill-counts .kept .1 .1 .1 .1 .1 .1 .1 .1 .1 .0
 
 same-length-8 : tie.Need-same-length-8
-same-length-8 c = c .before .before .before .before .write-route .kept .1 .1 .1 .1 .1 .1 .1 .1 .1 .0
+same-length-8 c = written (c .before .before) .write-route .kept .1 .1 .1 .0
 
 same-length-9 : tie.Need-same-length-9
-same-length-9 c = work-same (counted (fitting (c .before .before)))
+same-length-9 c = chosen (written (c .before .before) .before) .fill-next .kept .1 .1 .1 .1 .1 .1 .1 .1 .0
+
+same-length-10 : tie.Need-same-length-10
+same-length-10 c = work-same (counted (ended (c .before .before)))
 
 returns-2 : tie.Need-returns-2
 returns-2 c =
-    let at = fitting (c .before .before) in
+    let done = written (c .before .before) in
+    let x = chosen (done .before) in
+    let at = fitting x in
     let r = shifted (counted at) in
     let F = start r .pre in
     let C = ordered r .costs-over-masks .ensures in
@@ -164,8 +192,9 @@ returns-2 c =
     let E = costs-from-b r in
     let filled = counted at .fill-counts .ensures _ (found-known F C S E) in
     let fit = not-false _ (at .if1 .left) in
-    let written = c .before .before .before .before .write-route in
-    found-route F C S E filled fit (written .result) (written .ensures _ (found-walkable F C S E filled fit))
+    let N = x .fill-next .ensures in
+    found-route F C S E filled fit N (done .write-route .result)
+    (done .write-route .ensures _ (found-walkable F C S E filled fit N))
 
 pub find-route-spec : {M : Type 1} → statement M
 find-route-spec =
@@ -180,15 +209,17 @@ find-route-spec =
     same-length-3
     same-length-4
     returns
-    slice-aggregate-write-route
+    slice-aggregate-fill-next
+    fill-next-requires
     write-route-requires
-    mul-t48
-    shared-slice-read-t50
-    mul-t51
-    slice-read-t53
+    mul-t54
+    shared-slice-read-t56
+    mul-t57
+    slice-read-t59
     same-length-5
     same-length-6
     same-length-7
     same-length-8
     same-length-9
+    same-length-10
     returns-2)

@@ -8,8 +8,8 @@ use Rattle.planner.proofs.finish.Statement.{statement}
 use Rattle.planner.proofs.finish.Tie as tie
 
 -- The call of `finish_given`, from its return.
-abbrev finished : tie.After-slice-known10 → tie.After-finish-given
-finished c = c .before .before .before .before .before .before .before .before .before .before
+abbrev finished : tie.After-slice-known12 → tie.After-finish-given
+finished c = c .before .before .before .before .before .before .before .before .before .before .before .before
 
 job-of-requires : tie.Need-job-of-requires
 job-of-requires c κs = search needs
@@ -22,7 +22,7 @@ enum-known-job-2 c = search needs
 
 finish-given-requires : tie.Need-finish-given-requires
 finish-given-requires c κs =
-    let at = c .before .before .before .before .before .before in
+    let at = c .before .before .before .before .before .before .before in
     good-job _ _ _ _ _ _ _ (sym (at .before .before .job-of .ensures) ∙ at .job2 .given .1)
 
 returns : tie.Need-returns
@@ -43,10 +43,13 @@ same-length-4 c = finished c .finish-given .kept .1 .1 .1 .1 .1 .1 .1 .1 .1 .1 .
 same-length-5 : tie.Need-same-length-5
 same-length-5 c = finished c .finish-given .kept .1 .1 .1 .1 .1 .1 .1 .1 .1 .1 .1 .0
 
+same-length-6 : tie.Need-same-length-6
+same-length-6 c = finished c .finish-given .kept .1 .1 .1 .1 .1 .1 .1 .1 .1 .1 .1 .1 .0
+
 returns-2 : tie.Need-returns-2
 returns-2 c =
     let done = finished c in
-    let at = done .before .before .before .before .before .before .before in
+    let at = done .before .before .before .before .before .before .before .before in
     finishes-fit (at .before .before .job-of .ensures) (at .job2 .given .1) (done .finish-given .ensures)
 
 pub finish-spec : {M : Type 1} → statement M
@@ -63,4 +66,5 @@ finish-spec =
     same-length-3
     same-length-4
     same-length-5
+    same-length-6
     returns-2)

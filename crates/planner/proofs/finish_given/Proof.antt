@@ -13,21 +13,21 @@ use Rattle.planner.proofs.finish_given.Tie as tie
 
 -- The places: where the function begins, at the two tests, and at the call that finishes the job.
 abbrev start : tie.Else1 → tie.Start
-start c = c .before .before .before .before .before .before .before .before .before .before
+start c = c .before .before .before .before .before .before .before .before .before .before .before
 
-abbrev tested : tie.After-finish-job-arg5 → tie.Else2
-tested c = c .before .before .before .before .before
+abbrev tested : tie.After-finish-job-arg6 → tie.Else2
+tested c = c .before .before .before .before .before .before
 
-abbrev finished : tie.After-slice-known10 → tie.After-finish-job
-finished c = c .before .before .before .before .before .before .before .before .before .before
+abbrev finished : tie.After-slice-known12 → tie.After-finish-job
+finished c = c .before .before .before .before .before .before .before .before .before .before .before .before
 
 -- The slices have the lengths that they need.
 lent : (c : tie.Else1) → let s = start c .args in
     FullSlices (vertices (s .w) (s .h))
-    (s .d .now) (s .e .now) (s .f .now) (s .back .now) (s .route .now) (s .work .now)
+    (s .d .now) (s .e .now) (s .f .now) (s .back .now) (s .route .now) (s .next .now) (s .work .now)
 lent c =
     let s = start c .args in
-    lent-of (s .d .now) (s .e .now) (s .f .now) (s .back .now) (s .route .now) (s .work .now)
+    lent-of (s .d .now) (s .e .now) (s .f .now) (s .back .now) (s .route .now) (s .next .now) (s .work .now)
     (c .before .before .vertex-count .ensures .0) (c .before .lengths-good .ensures) (not-false _ (c .if1 .left))
 
 vertex-count-requires : tie.Need-vertex-count-requires
@@ -66,6 +66,9 @@ same-length-4 c = finished c .finish-job .kept .1 .1 .1 .1 .1 .1 .1 .1 .1 .1 .0
 same-length-5 : tie.Need-same-length-5
 same-length-5 c = finished c .finish-job .kept .1 .1 .1 .1 .1 .1 .1 .1 .1 .1 .1 .0
 
+same-length-6 : tie.Need-same-length-6
+same-length-6 c = finished c .finish-job .kept .1 .1 .1 .1 .1 .1 .1 .1 .1 .1 .1 .1 .0
+
 returns-3 : tie.Need-returns-3
 returns-3 c =
     let done = finished c in
@@ -87,4 +90,5 @@ finish-given-spec =
     same-length-3
     same-length-4
     same-length-5
+    same-length-6
     returns-3)

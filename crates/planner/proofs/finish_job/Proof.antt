@@ -7,11 +7,11 @@ use Rattle.planner.proofs.finish_job.Statement.{statement}
 use Rattle.planner.proofs.finish_job.Tie as tie
 
 -- The two calls, from the return.
-abbrev masked : tie.After-finish-over-masks-arg5 → tie.After-store-masks
-masked c = c .before .before .before .before .before .before .before
+abbrev masked : tie.After-finish-over-masks-arg6 → tie.After-store-masks
+masked c = c .before .before .before .before .before .before .before .before
 
-abbrev finished : tie.After-slice-known11 → tie.After-finish-over-masks
-finished c = c .before .before .before .before .before .before .before .before .before .before
+abbrev finished : tie.After-slice-known13 → tie.After-finish-over-masks
+finished c = c .before .before .before .before .before .before .before .before .before .before .before .before
 
 store-masks-requires : tie.Need-store-masks-requires
 store-masks-requires c κs = search needs
@@ -19,7 +19,7 @@ store-masks-requires c κs = search needs
 finish-over-masks-requires : tie.Need-finish-over-masks-requires
 finish-over-masks-requires c κs =
     let m = masked c in
-    let P = m .before .before .before .before .before .before .before .before .before .pre in (
+    let P = m .before .before .before .before .before .before .before .before .before .before .pre in (
       finishable-on P (m .store-masks .ensures .len),
       m .store-masks .ensures .masks,
     )
@@ -37,8 +37,11 @@ same-length-4 : tie.Need-same-length-4
 same-length-4 c = finished c .finish-over-masks .kept .1 .1 .1 .1 .1 .1 .1 .1 .1 .1 .0
 
 same-length-5 : tie.Need-same-length-5
-same-length-5 c =
-    finished c .finish-over-masks .kept .1 .1 .1 .1 .1 .1 .1 .1 .1 .1 .1 .0
+same-length-5 c = finished c .finish-over-masks .kept .1 .1 .1 .1 .1 .1 .1 .1 .1 .1 .1 .0
+
+same-length-6 : tie.Need-same-length-6
+same-length-6 c =
+    finished c .finish-over-masks .kept .1 .1 .1 .1 .1 .1 .1 .1 .1 .1 .1 .1 .0
     ∙ masked (finished c .before) .store-masks .kept .1 .1 .1 .0
 
 returns : tie.Need-returns
@@ -55,4 +58,5 @@ finish-job-spec =
     same-length-3
     same-length-4
     same-length-5
+    same-length-6
     returns)

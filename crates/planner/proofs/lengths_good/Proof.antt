@@ -43,20 +43,33 @@ returns-5 c =
       ne-eqb _ _ (c .if5 .taken),
     )
 
-mul-result : tie.Need-mul-result
-mul-result c = search needs
-
 returns-6 : tie.Need-returns-6
 unfolding lengthsGood
 returns-6 c =
     simp (
-      eq-eqb _ _ (c .before .before .before .before .if1 .left),
-      eq-eqb _ _ (c .before .before .before .if2 .left),
-      eq-eqb _ _ (c .before .before .if3 .left),
-      eq-eqb _ _ (c .before .if4 .left),
-      eq-eqb _ _ (c .if5 .left),
+      eq-eqb _ _ (c .before .before .before .before .before .if1 .left),
+      eq-eqb _ _ (c .before .before .before .before .if2 .left),
+      eq-eqb _ _ (c .before .before .before .if3 .left),
+      eq-eqb _ _ (c .before .before .if4 .left),
+      eq-eqb _ _ (c .before .if5 .left),
+      ne-eqb _ _ (c .if6 .taken),
+    )
+
+mul-result : tie.Need-mul-result
+mul-result c = search needs
+
+returns-7 : tie.Need-returns-7
+unfolding lengthsGood
+returns-7 c =
+    simp (
+      eq-eqb _ _ (c .before .before .before .before .before .if1 .left),
+      eq-eqb _ _ (c .before .before .before .before .if2 .left),
+      eq-eqb _ _ (c .before .before .before .if3 .left),
+      eq-eqb _ _ (c .before .before .if4 .left),
+      eq-eqb _ _ (c .before .if5 .left),
+      eq-eqb _ _ (c .if6 .left),
     )
 
 pub lengths-good-spec : {M : Type 1} → statement M
 lengths-good-spec =
-    tie.close (tie.spec returns returns-2 returns-3 returns-4 returns-5 mul-result returns-6)
+    tie.close (tie.spec returns returns-2 returns-3 returns-4 returns-5 returns-6 mul-result returns-7)

@@ -40,28 +40,35 @@ array-borrow-prefix-route c = few (c .before .before .before .before)
 slice-aggregate-write-turn-4 : tie.Need-slice-aggregate-write-turn-4
 slice-aggregate-write-turn-4 c = taken _ _ (few (c .before .before .before .before .before))
 
-array-borrow-prefix-work : tie.Need-array-borrow-prefix-work
-array-borrow-prefix-work c = omega (arith, few (c .before .before .before .before .before))
+array-borrow-prefix-next : tie.Need-array-borrow-prefix-next
+array-borrow-prefix-next c = few (c .before .before .before .before .before)
 
 slice-aggregate-write-turn-5 : tie.Need-slice-aggregate-write-turn-5
-slice-aggregate-write-turn-5 c = taken _ _ (omega (arith, few (c .before .before .before .before .before .before)))
+slice-aggregate-write-turn-5 c = taken _ _ (few (c .before .before .before .before .before .before))
 
-array-borrow-prefix-kept : tie.Need-array-borrow-prefix-kept
-array-borrow-prefix-kept c = few (c .before .before .before .before .before .before)
+array-borrow-prefix-work : tie.Need-array-borrow-prefix-work
+array-borrow-prefix-work c = omega (arith, few (c .before .before .before .before .before .before))
 
 slice-aggregate-write-turn-6 : tie.Need-slice-aggregate-write-turn-6
-slice-aggregate-write-turn-6 c = taken _ _ (few (c .before .before .before .before .before .before .before))
+slice-aggregate-write-turn-6 c = taken _ _ (omega (arith, few (c .before .before .before .before .before .before .before)))
+
+array-borrow-prefix-kept : tie.Need-array-borrow-prefix-kept
+array-borrow-prefix-kept c = few (c .before .before .before .before .before .before .before)
 
 slice-aggregate-write-turn-7 : tie.Need-slice-aggregate-write-turn-7
-slice-aggregate-write-turn-7 c = search needs
+slice-aggregate-write-turn-7 c = taken _ _ (few (c .before .before .before .before .before .before .before .before))
+
+slice-aggregate-write-turn-8 : tie.Need-slice-aggregate-write-turn-8
+slice-aggregate-write-turn-8 c = search needs
 
 write-turn-requires : tie.Need-write-turn-requires
 write-turn-requires c κs =
-    let v = c .before .before .before .before .before .before .before .before in
+    let v = c .before .before .before .before .before .before .before .before .before in
     let s = v .before .before .before .before in (
       s .pre .0,
-      lent (s .pre .1) (s .pre .2) (v .vertex-count .ensures .0) _ _ _ _ _ _ _
-          (omega arith) (omega arith) (omega arith) (omega arith) (omega arith) (omega arith) (omega arith),
+      lent (s .pre .1) (s .pre .2) (v .vertex-count .ensures .0) _ _ _ _ _ _ _ _
+          (omega arith) (omega arith) (omega arith) (omega arith) (omega arith) (omega arith) (omega arith)
+          (omega arith),
     )
 
 same-length : tie.Need-same-length
@@ -84,11 +91,13 @@ lend-turn-spec =
     slice-aggregate-write-turn-3
     array-borrow-prefix-route
     slice-aggregate-write-turn-4
-    array-borrow-prefix-work
+    array-borrow-prefix-next
     slice-aggregate-write-turn-5
-    array-borrow-prefix-kept
+    array-borrow-prefix-work
     slice-aggregate-write-turn-6
+    array-borrow-prefix-kept
     slice-aggregate-write-turn-7
+    slice-aggregate-write-turn-8
     write-turn-requires
     same-length
     returns)

@@ -17,8 +17,7 @@ slice-reshare-prefix-write-all c = search needs
 slice-aggregate-write-all : tie.Need-slice-aggregate-write-all
 slice-aggregate-write-all c =
     let b = c .before in
-    let t = b .before .before .before .before .before .before .before .before .before .before .before .before .before
-    .before .before .before .before in
+    let t = b .before .before .before .before .before .before .before .before .before .before .before .before .before .before .before .before .before .before .before in
     taken _ _ (omega (arith, b .bytes-of .ensures, t .take-turn .ensures .fits))
 
 write-all-requires : tie.Need-write-all-requires
@@ -48,11 +47,11 @@ same-length-7 c = search needs
 same-length-8 : tie.Need-same-length-8
 same-length-8 c = search needs
 
-returns : tie.Need-returns
-returns c = search needs
-
 same-length-9 : tie.Need-same-length-9
 same-length-9 c = search needs
+
+returns : tie.Need-returns
+returns c = search needs
 
 same-length-10 : tie.Need-same-length-10
 same-length-10 c = search needs
@@ -75,6 +74,12 @@ same-length-15 c = search needs
 same-length-16 : tie.Need-same-length-16
 same-length-16 c = search needs
 
+same-length-17 : tie.Need-same-length-17
+same-length-17 c = search needs
+
+same-length-18 : tie.Need-same-length-18
+same-length-18 c = search needs
+
 returns-2 : tie.Need-returns-2
 returns-2 c = search needs
 
@@ -95,8 +100,8 @@ write-turn-spec =
     same-length-6
     same-length-7
     same-length-8
-    returns
     same-length-9
+    returns
     same-length-10
     same-length-11
     same-length-12
@@ -104,4 +109,6 @@ write-turn-spec =
     same-length-14
     same-length-15
     same-length-16
+    same-length-17
+    same-length-18
     returns-2)

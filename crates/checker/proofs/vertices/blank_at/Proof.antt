@@ -39,18 +39,34 @@ returns-3 c = rw (
   ne-eqb _ _ (c .if3 .taken),
 )
 
+mul-if4 : tie.Need-mul-if4
+mul-if4 c = search needs
+
+shared-slice-read-if4 : tie.Need-shared-slice-read-if4
+shared-slice-read-if4 c = search needs
+
+returns-4 : tie.Need-returns-4
+unfolding blankAt
+returns-4 c = rw (
+  eq-eqb _ _ (c .before .before .before .before .before .before .if1 .left),
+  eq-eqb _ _ (c .before .before .before .before .if2 .left),
+  eq-eqb _ _ (c .before .before .if3 .left),
+  ne-eqb _ _ (c .if4 .taken),
+)
+
 mul-result : tie.Need-mul-result
 mul-result c = search needs
 
 shared-slice-read-result : tie.Need-shared-slice-read-result
 shared-slice-read-result c = search needs
 
-returns-4 : tie.Need-returns-4
+returns-5 : tie.Need-returns-5
 unfolding blankAt
-returns-4 c = rw (
-  eq-eqb _ _ (c .before .before .before .before .before .if1 .left),
-  eq-eqb _ _ (c .before .before .before .if2 .left),
-  eq-eqb _ _ (c .before .if3 .left),
+returns-5 c = rw (
+  eq-eqb _ _ (c .before .before .before .before .before .before .before .if1 .left),
+  eq-eqb _ _ (c .before .before .before .before .before .if2 .left),
+  eq-eqb _ _ (c .before .before .before .if3 .left),
+  eq-eqb _ _ (c .before .if4 .left),
 )
 
 pub blank-at-spec : {M : Type 1} → statement M
@@ -66,6 +82,9 @@ blank-at-spec =
     mul-if3
     shared-slice-read-if3
     returns-3
+    mul-if4
+    shared-slice-read-if4
+    returns-4
     mul-result
     shared-slice-read-result
-    returns-4)
+    returns-5)

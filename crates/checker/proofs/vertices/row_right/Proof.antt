@@ -21,15 +21,15 @@ use Rattle.checker.proofs.vertices.row_right.Statement.{statement}
 use Rattle.checker.proofs.vertices.row_right.Tie as tie
 
 abbrev Inv-loop : tie.InvT-loop
-Inv-loop w h map rows joined a b d e f back route y shifts classes leaving first right₀ x₀ x-end right x =
-    (right ≡ every x (columnTest joined (leavingGraph (floorOf w h map) rows) a b (sheetOf d e f back route 0) w y))
+Inv-loop w h map rows joined a b d e f back route next y shifts classes leaving first right₀ x₀ x-end right x =
+    (right ≡ every x (columnTest joined (leavingGraph (floorOf w h map) rows) a b (sheetOf d e f back route next 0) w y))
     × (x ≤ w + 1)
 
 abbrev μ-loop : tie.MeasureT-loop
-μ-loop w h map rows joined a b d e f back route y shifts classes leaving first right₀ x₀ x-end right x = x-end - x
+μ-loop w h map rows joined a b d e f back route next y shifts classes leaving first right₀ x₀ x-end right x = x-end - x
 
 abbrev entered : tie.After-leaving-row Inv-loop μ-loop → tie.Start Inv-loop μ-loop
-entered c = c .before .before .before .before .before .before .before .before .before
+entered c = c .before .before .before .before .before .before .before .before .before .before
 
 abbrev start : tie.In-loop Inv-loop μ-loop → tie.Start Inv-loop μ-loop
 start c = entered (c .before .before)
@@ -54,7 +54,7 @@ classes-of-requires c κs = search needs
 
 leaving-row-requires : tie.Need-leaving-row-requires Inv-loop μ-loop
 leaving-row-requires c κs =
-    let s = c .before .before .before .before .before .before .before .before in
+    let s = c .before .before .before .before .before .before .before .before .before in
     (s .pre .0 .job .sized, s .pre .1, s .pre .2)
 
 add-first : tie.Need-add-first Inv-loop μ-loop

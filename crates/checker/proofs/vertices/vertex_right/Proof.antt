@@ -11,19 +11,20 @@ use Rattle.checker.proofs.vertices.vertex_right.Statement.{statement}
 use Rattle.checker.proofs.vertices.vertex_right.Tie as tie
 
 abbrev sheet : tie.Start → Sheet
-sheet s = sheetOf (s .args .d .now) (s .args .e .now) (s .args .f .now) (s .args .back .now) (s .args .route .now) 0
+sheet s = sheetOf (s .args .d .now) (s .args .e .now) (s .args .f .now) (s .args .back .now) (s .args .route .now)
+    (s .args .next .now) 0
 
 -- where the numbers of each slice are known to fit, that of the costs e, and where the function began
-abbrev e-known : tie.After-shared-slice-known6 → tie.After-shared-slice-known3
-e-known c = c .before .before .before
+abbrev e-known : tie.After-shared-slice-known7 → tie.After-shared-slice-known3
+e-known c = c .before .before .before .before
 
-abbrev start : tie.After-shared-slice-known6 → tie.Start
+abbrev start : tie.After-shared-slice-known7 → tie.Start
 start c = e-known c .before .before .before
 
-d-small : (c : tie.After-shared-slice-known6) → let a = start c .args in entry (a .d .now) (a .v) ≤ unreachable
+d-small : (c : tie.After-shared-slice-known7) → let a = start c .args in entry (a .d .now) (a .v) ≤ unreachable
 d-small c = omega (arith, e-known c .before .shared-slice-known2 .given (start c .args .v))
 
-e-small : (c : tie.After-shared-slice-known6) → let a = start c .args in entry (a .e .now) (a .v) ≤ unreachable
+e-small : (c : tie.After-shared-slice-known7) → let a = start c .args in entry (a .e .now) (a .v) ≤ unreachable
 e-small c = omega (arith, e-known c .shared-slice-known3 .given (start c .args .v))
 
 costs-right-requires : tie.Need-costs-right-requires

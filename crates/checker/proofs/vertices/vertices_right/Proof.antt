@@ -14,17 +14,18 @@ use Rattle.checker.proofs.vertices.vertices_right.Statement.{statement}
 use Rattle.checker.proofs.vertices.vertices_right.Tie as tie
 
 abbrev Inv-loop : tie.InvT-loop
-Inv-loop w h map rows joined d e f back route a b windows y₀ y-end y =
-    Passed (suc h) y (rowTest joined (leavingGraph (floorOf w h map) rows) a b (sheetOf d e f back route 0) w)
+Inv-loop w h map rows joined d e f back route next a b windows y₀ y-end y =
+    Passed (suc h) y (rowTest joined (leavingGraph (floorOf w h map) rows) a b (sheetOf d e f back route next 0) w)
 
 abbrev μ-loop : tie.MeasureT-loop
-μ-loop w h map rows joined d e f back route a b windows y₀ y-end y = y-end - y
+μ-loop w h map rows joined d e f back route next a b windows y₀ y-end y = y-end - y
 
 abbrev sheet : tie.Start Inv-loop μ-loop → Sheet
-sheet s = sheetOf (s .args .d .now) (s .args .e .now) (s .args .f .now) (s .args .back .now) (s .args .route .now) 0
+sheet s = sheetOf (s .args .d .now) (s .args .e .now) (s .args .f .now) (s .args .back .now) (s .args .route .now)
+    (s .args .next .now) 0
 
 abbrev start : tie.After-window-masks Inv-loop μ-loop → tie.Start Inv-loop μ-loop
-start c = c .before .before .before .before .before .before .before
+start c = c .before .before .before .before .before .before .before .before
 
 row-in : (c : tie.In-loop Inv-loop μ-loop) → c .before .loop .y < suc (start (c .before .before) .args .h)
 row-in c = omega arith
