@@ -49,6 +49,8 @@ fn agree_on(program: &Program, floor: Floor, job: Job, truth: &Truth, random: &m
         assert_eq!(verdict, Ok(Verdict::FalseSheet), "check: altered, {name}");
     }
 
+    agree_on_next(program, floor, job, &slices, points, random);
+
     let mut kept = vec![9; slices.route.len()];
     let count = (program.thin)(floor, &slices.route, &mut kept, points);
     if points > 0 {
@@ -77,6 +79,32 @@ fn agree_on_costs(program: &Program, floor: Floor, job: Job, truth: &Truth, rand
     }
 }
 
+/// The sheet with another next vertex: a neighbour in each direction, 0 or an end, at any place and at the ends.
+fn agree_on_next(program: &Program, floor: Floor, job: Job, slices: &Slices, points: usize, random: &mut Random) {
+    let (columns, length) = (floor.width as usize + 1, slices.next.len());
+    let mut altered = slices.clone();
+    let places = [job.a as usize, job.b as usize, random.below(length), random.below(length), random.below(length)];
+    for v in places {
+        let beside = [v + 1, v + columns + 1, v + columns, v + columns - 1, v];
+        let before = [1, columns + 1, columns, columns - 1].map(|by| v.wrapping_sub(by));
+        let ends = [0, job.a as usize, job.b as usize];
+        let others = beside.into_iter().chain(before).chain(ends).map(|w| w as u16);
+        for w in others.filter(|&w| w != slices.next[v]) {
+            altered.next[v] = w;
+            let verdict = (program.check)(floor, job, altered.sheet(points));
+            assert_eq!(verdict, Ok(Verdict::FalseSheet), "check: another next vertex, {}", program.name);
+        }
+        altered.next[v] = slices.next[v];
+    }
+    altered.next.pop();
+    let refused = (program.check)(floor, job, altered.sheet(points));
+    assert_eq!(refused, Err(Refusal::BadSliceLength), "check: a short next, {}", program.name);
+    let before = altered.clone();
+    let refused = altered.finish(program, floor, job);
+    assert_eq!(refused, Err(Refusal::BadSliceLength), "finish: a short next, {}", program.name);
+    assert!(altered == before, "finish: a short next, the slices of {}", program.name);
+}
+
 /// By how much a cost is changed.
 const STEPS: [u32; 6] = [1, 408, 577, 0x4000_0000, 0x8000_0000, u32::MAX];
 
@@ -84,12 +112,13 @@ const STEPS: [u32; 6] = [1, 408, 577, 0x4000_0000, 0x8000_0000, u32::MAX];
 fn alter(slices: &mut Slices, random: &mut Random) {
     let v = random.below(slices.d.len());
     let by = STEPS[random.below(STEPS.len())];
-    match random.below(5) {
+    match random.below(6) {
         0 => slices.d[v] = slices.d[v].wrapping_add(by),
         1 => slices.e[v] = slices.e[v].wrapping_add(by),
         2 => slices.f[v] ^= 1 << random.below(64),
         3 => slices.back[v] ^= 1 << random.below(64),
-        _ => slices.route[v] ^= 1 << random.below(16),
+        4 => slices.route[v] ^= 1 << random.below(16),
+        _ => slices.next[v] ^= 1 << random.below(16),
     }
 }
 

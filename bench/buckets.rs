@@ -1,5 +1,5 @@
 //! The planner with a hand-tuned bucket queue: open moves as masks, Dial's method from each end with a bucket for each cost.
-//! Counts and route are the tuned program's.
+//! Counts, next vertices and route are the tuned program's.
 
 use crate::lurfanzi::{Floor, Job, Plan, Refusal, SheetMut, UNREACHABLE};
 use crate::moves::{fill_masks, offsets, CARDINAL};

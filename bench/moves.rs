@@ -6,7 +6,6 @@
 //! nothing cheaper and adds no count. A planner has whole masks.
 
 use crate::lurfanzi::Floor;
-use crate::shape;
 
 /// The bits of the cardinal moves.
 pub const CARDINAL: u8 = 0x55;
@@ -125,21 +124,6 @@ fn clear_moves_to(v: usize, masks: &mut [u8], offsets: &[isize; 8]) {
     }
 }
 
-/// The half mask of one vertex.
-pub fn mask_at(floor: Floor, v: usize) -> u8 {
-    let (width, height) = (floor.width as usize, floor.height as usize);
-    let (x, y) = (v % (width + 1), v / (width + 1));
-    // The cell whose lower right corner is in column i and row j.
-    let cell = |i: usize, j: usize| {
-        let inside = 1 <= i && i <= width && 1 <= j && j <= height;
-        if inside { shape::cell(floor.map, (j - 1) * width + i - 1) } else { 1 }
-    };
-    let (mut above, mut below, mut mask) = ([1; 129], [1; 129], [0]);
-    (above[0], above[1], below[0], below[1]) = (cell(x, y), cell(x + 1, y), cell(x, y + 1), cell(x + 1, y + 1));
-    row_masks(&above, &below, &mut mask);
-    mask[0]
-}
-
 /// The sum of the counts of the neighbours that are one open move nearer, and whether it passed 64 bits. STEP is 1 for all
 /// moves, 2 for the cardinal ones. The mask is that of v, whose cost is not M, or its half mask; both slices have a
 /// place for each vertex. M, at a pinch, goes round to 407 or 576, which no cost is.
@@ -160,15 +144,28 @@ pub fn sum<const STEP: usize>(v: usize, mask: u8, offsets: &[isize; 8], d: &[u32
     (sum, over)
 }
 
-/// The next vertex of the central route after u, by the mask or half mask of u; the counts are 0 off the way.
-pub fn next(u: usize, mask: u8, offsets: &[isize; 8], d: &[u32], f: &[u64], back: &[u64]) -> Option<usize> {
-    let (mut best, mut next) = (0, None);
-    for k in (0..8).filter(|k| mask >> k & 1 != 0) {
-        let w = u.wrapping_add_signed(offsets[k]);
-        let count = f[w] * back[w];
-        if d[u] + if k % 2 == 0 { 408 } else { 577 } == d[w] && count > best {
-            (best, next) = (count, Some(w));
+/// The same sum of the counts to B, by the costs to B; and the next vertex: of the neighbours that are one open move
+/// nearer the one with the highest traversal count, of equals the first, v where there is none. The mask may be a half
+/// mask.
+#[inline(always)]
+pub fn sum_and_next<const STEP: usize>(
+    v: usize, mask: u8, offsets: &[isize; 8], e: &[u32], back: &[u64], f: &[u64],
+) -> (u64, bool, usize) {
+    let (mut sum, mut over, mut best, mut next) = (0u64, false, 0, v);
+    for k in (0..8).step_by(STEP) {
+        // SAFETY: as in `sum`.
+        unsafe {
+            let w = v.wrapping_add_signed(offsets[k] & -((mask >> k & 1) as isize));
+            let through = e.get_unchecked(w).wrapping_add(if k % 2 == 0 { 408 } else { 577 });
+            let count = if through == *e.get_unchecked(v) { *back.get_unchecked(w) } else { 0 };
+            let (more, carry) = sum.overflowing_add(count);
+            sum = more;
+            over |= carry;
+            let traversals = count.wrapping_mul(*f.get_unchecked(w));
+            if traversals > best {
+                (best, next) = (traversals, w);
+            }
         }
     }
-    next
+    (sum, over, next)
 }

@@ -139,25 +139,28 @@ pub struct Slices {
     pub f: Vec<u64>,
     pub back: Vec<u64>,
     pub route: Vec<u16>,
+    pub next: Vec<u16>,
     pub work: Vec<u32>,
 }
 
 impl Slices {
     pub fn new(vertices: usize, fill: u8) -> Slices {
         let (narrow, wide) = (u32::from_ne_bytes([fill; 4]), u64::from_ne_bytes([fill; 8]));
+        let point = u16::from_ne_bytes([fill; 2]);
         Slices {
             d: vec![narrow; vertices],
             e: vec![narrow; vertices],
             f: vec![wide; vertices],
             back: vec![wide; vertices],
-            route: vec![u16::from_ne_bytes([fill; 2]); vertices],
+            route: vec![point; vertices],
+            next: vec![point; vertices],
             work: vec![narrow; 4 * vertices],
         }
     }
 
     pub fn plan(&mut self, program: &Program, floor: Floor, job: Job) -> Result<Plan, Refusal> {
-        let Slices { d, e, f, back, route, work } = self;
-        (program.plan)(floor, job, d, &mut SheetMut { e, f, back, route }, work)
+        let Slices { d, e, f, back, route, next, work } = self;
+        (program.plan)(floor, job, d, &mut SheetMut { e, f, back, route, next }, work)
     }
 
     pub fn costs(&mut self, program: &Program, floor: Floor, job: Job) -> Result<(), Refusal> {
@@ -166,12 +169,13 @@ impl Slices {
 
     /// Finishes a job from the costs in d.
     pub fn finish(&mut self, program: &Program, floor: Floor, job: Job) -> Result<Plan, Refusal> {
-        let Slices { d, e, f, back, route, work } = self;
-        (program.finish)(floor, job, d, &mut SheetMut { e, f, back, route }, work)
+        let Slices { d, e, f, back, route, next, work } = self;
+        (program.finish)(floor, job, d, &mut SheetMut { e, f, back, route, next }, work)
     }
 
     pub fn sheet(&self, points: usize) -> Sheet<'_> {
-        Sheet { d: &self.d, e: &self.e, f: &self.f, back: &self.back, route: &self.route, points }
+        let Slices { d, e, f, back, route, next, .. } = self;
+        Sheet { d, e, f, back, route, next, points }
     }
 }
 

@@ -87,8 +87,9 @@ pub fn of_job(floor: Floor, job: Job, sheet: Sheet) -> Result<(), Refusal> {
     of_end(floor, job.b)?;
     of_pinch(floor, job.a)?;
     of_pinch(floor, job.b)?;
-    let lengths = [sheet.d.len(), sheet.e.len(), sheet.f.len(), sheet.back.len(), sheet.route.len()];
-    if lengths.iter().any(|&length| length != floor.vertices()) {
+    let numbers = [sheet.d.len(), sheet.e.len(), sheet.f.len(), sheet.back.len()];
+    let points = [sheet.route.len(), sheet.next.len()];
+    if numbers.iter().chain(&points).any(|&length| length != floor.vertices()) {
         return Err(Refusal::BadSliceLength);
     }
     Ok(())

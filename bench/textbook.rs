@@ -200,6 +200,7 @@ fn rest(floor: Floor, job: Job, d: &[u32], sheet: &mut SheetMut, work: &mut [u32
         sheet.f.fill(0);
         sheet.back.fill(0);
         sheet.route.fill(0);
+        sheet.next.fill(0);
     }
     planned
 }
@@ -225,9 +226,9 @@ fn fill(grid: Grid, a: usize, b: usize, d: &[u32], sheet: &mut SheetMut) -> Resu
         sheet.back[v] = if v == b { 1 } else { grid.sum(v, e, sheet.back).ok_or(Refusal::TooMany)? };
     }
 
-    let mut route = vec![a];
-    let mut u = a;
-    while u != b {
+    sheet.next.fill(0);
+    sheet.next[b] = b as u16;
+    for &u in way.iter().filter(|&&u| u != b) {
         let mut best = (0, b);
         for (w, length) in grid.moves(u) {
             let count = sheet.f[w] * sheet.back[w];
@@ -235,7 +236,13 @@ fn fill(grid: Grid, a: usize, b: usize, d: &[u32], sheet: &mut SheetMut) -> Resu
                 best = (count, w);
             }
         }
-        u = best.1;
+        sheet.next[u] = best.1 as u16;
+    }
+
+    let mut route = vec![a];
+    let mut u = a;
+    while u != b {
+        u = sheet.next[u].into();
         route.push(u);
     }
     sheet.route.fill(0);
@@ -250,8 +257,8 @@ pub fn check(floor: Floor, job: Job, sheet: Sheet) -> Result<Verdict, Refusal> {
     shape::of_job(floor, job, sheet)?;
     let length = sheet.d.len();
     let (mut d, mut e, mut f) = (vec![0; length], vec![0; length], vec![0; length]);
-    let (mut back, mut route) = (vec![0; length], vec![0; length]);
-    let mut own = SheetMut { e: &mut e, f: &mut f, back: &mut back, route: &mut route };
+    let (mut back, mut route, mut next) = (vec![0; length], vec![0; length], vec![0; length]);
+    let mut own = SheetMut { e: &mut e, f: &mut f, back: &mut back, route: &mut route, next: &mut next };
     let planned = plan(floor, job, &mut d, &mut own, &mut vec![0; 4 * length]);
     let points = planned.map_or(0, |plan| plan.points);
     let same = sheet.points == points
@@ -259,7 +266,8 @@ pub fn check(floor: Floor, job: Job, sheet: Sheet) -> Result<Verdict, Refusal> {
         && sheet.e == e
         && sheet.f == f
         && sheet.back == back
-        && sheet.route == route;
+        && sheet.route == route
+        && sheet.next == next;
     Ok(match planned {
         Ok(_) if same => Verdict::Route,
         Err(Refusal::NoRoute) if same => Verdict::NoRoute,

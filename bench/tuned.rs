@@ -1,7 +1,8 @@
-//! The hand-tuned planner: open moves as masks, a bucket queue from each end, counts along the settled order.
+//! The hand-tuned planner: open moves as masks, a bucket queue from each end, counts and next vertices along the
+//! settled order.
 
 use crate::lurfanzi::{Floor, Job, Plan, Refusal, SheetMut, UNREACHABLE};
-use crate::moves::{fill_masks, next, offsets, sum, CARDINAL};
+use crate::moves::{fill_masks, offsets, sum, sum_and_next};
 use crate::shape;
 use crate::tuned_check::costs_are_true;
 
@@ -154,7 +155,7 @@ pub struct Method {
     pub prepare: fn(Floor, &mut [u32]),
     /// Costs from one end; the masks are there.
     pub search: fn(Floor, u32, usize, &mut [u32], &mut [u32]),
-    /// Costs to the other end, counts and route; the masks are there, and f and `back` are 0.
+    /// Costs to the other end, counts, next vertices and route; the masks are there, and f, `back` and `next` are 0.
     pub rest: fn(Floor, Job, &[u32], &mut SheetMut, &mut [u32]) -> Result<Plan, Refusal>,
 }
 
@@ -212,6 +213,7 @@ impl Method {
     ) -> Result<Plan, Refusal> {
         sheet.f.fill(0);
         sheet.back.fill(0);
+        sheet.next.fill(0);
         let planned = (self.rest)(floor, job, d, sheet, work);
         match planned {
             Ok(plan) => sheet.route[plan.points..].fill(0),
@@ -222,7 +224,7 @@ impl Method {
     }
 }
 
-/// Fills the counts on the way; whether all of them fit in 64 bits.
+/// Fills the counts and the next vertices on the way; whether all counts fit in 64 bits.
 fn counts<const STEP: usize>(
     way: &[u16], masks: &[u8], offsets: &[isize; 8], a: usize, b: usize, d: &[u32], sheet: &mut SheetMut,
 ) -> bool {
@@ -234,24 +236,24 @@ fn counts<const STEP: usize>(
         }
         sheet.f[v] = count;
     }
-    // No count to B passes the total, which fits.
+    // No count to B passes the total, which fits, and no traversal count does.
     sheet.back[b] = 1;
+    sheet.next[b] = b as u16;
     for v in way.iter().map(|&v| usize::from(v)).filter(|&v| v != b) {
-        sheet.back[v] = sum::<STEP>(v, masks[v], offsets, sheet.e, sheet.back).0;
+        let (count, _, next) = sum_and_next::<STEP>(v, masks[v], offsets, sheet.e, sheet.back, sheet.f);
+        sheet.back[v] = count;
+        sheet.next[v] = next as u16;
     }
     true
 }
 
-/// Counts and route from the costs. `way` has the vertices on the way, those nearer to B first.
+/// Counts, next vertices and route from the costs. `way` has the vertices on the way, those nearer to B first.
 pub fn counts_and_route(
     job: Job, columns: usize, way: &[u16], masks: &[u8], d: &[u32], sheet: &mut SheetMut,
 ) -> Result<Plan, Refusal> {
     let (a, b, offsets) = (job.a as usize, job.b as usize, offsets(columns));
-    let (moves, fits) = if job.neighbourhood == 8 {
-        (0xFF, counts::<1>(way, masks, &offsets, a, b, d, sheet))
-    } else {
-        (CARDINAL, counts::<2>(way, masks, &offsets, a, b, d, sheet))
-    };
+    let counts = if job.neighbourhood == 8 { counts::<1> } else { counts::<2> };
+    let fits = counts(way, masks, &offsets, a, b, d, sheet);
     if !fits {
         sheet.f.fill(0);
         return Err(Refusal::TooMany);
@@ -260,7 +262,7 @@ pub fn counts_and_route(
     let (mut u, mut points) = (a, 1);
     sheet.route[0] = a as u16;
     while u != b {
-        u = next(u, masks[u] & moves, &offsets, d, sheet.f, sheet.back).unwrap_or(b);
+        u = sheet.next[u].into();
         sheet.route[points] = u as u16;
         points += 1;
     }

@@ -1,11 +1,12 @@
-//! The hand-tuned checker: the local laws of costs and counts, row by row, with no memory but a few rows.
+//! The hand-tuned checker: the local laws of costs, counts and next vertices, row by row, with no memory but a few
+//! rows.
 //!
 //! d is the true cost list from A exactly when it is 0 at A, and at every other vertex the least of the neighbours' costs,
 //! each with its move's cost added, M acting as infinity. A count is the sum of the counts of the neighbours that are one
 //! open move nearer.
 
 use crate::lurfanzi::{Floor, Job, Refusal, Sheet, Verdict, UNREACHABLE};
-use crate::moves::{all_rows, mask_at, next, offsets, row_masks, sum, Cells, CARDINAL};
+use crate::moves::{all_rows, offsets, row_masks, sum, sum_and_next, Cells, CARDINAL};
 use crate::shape;
 
 /// Costs are compared as FAR less the cost: 0 stands for M, so that a shut move is an `and` and the law a maximum. No true
@@ -78,7 +79,8 @@ impl<'a, const N: usize> Window<'a, N> {
     }
 }
 
-/// Whether the counts of row y are true. All costs are, and the cost of the route is not M.
+/// Whether the counts and the next vertices of row y are true. All costs are, and the cost of the route is not M. Where
+/// a traversal count passes 64 bits a count of some row is false, so that the sheet is refused.
 fn counts_are_true<const STEP: usize>(y: usize, masks: &[u8; 128], offsets: &[isize; 8], job: Job, sheet: Sheet) -> bool {
     let (a, b, columns) = (job.a as usize, job.b as usize, offsets[2] as usize);
     let cost = sheet.d[b];
@@ -87,30 +89,31 @@ fn counts_are_true<const STEP: usize>(y: usize, masks: &[u8; 128], offsets: &[is
     // A vertex that one end does not reach, the other does not either: M + M is no route's cost.
     let on_way = |d: u32, e: u32| d.wrapping_add(e) == cost;
     if !d.iter().zip(e).fold(false, |any, (&d, &e)| any | on_way(d, e)) {
-        return is_0(&sheet.f[row.clone()]) && is_0(&sheet.back[row]);
+        return is_0(&sheet.f[row.clone()]) && is_0(&sheet.back[row.clone()]) && is_0(&sheet.next[row]);
     }
     row.zip(d.iter().zip(e)).zip(masks).all(|((v, (&to, &from)), &mask)| {
-        let (f, back) = (sheet.f[v], sheet.back[v]);
+        let (f, back, next) = (sheet.f[v], sheet.back[v], usize::from(sheet.next[v]));
         if !on_way(to, from) {
-            return f | back == 0;
+            return f | back | next as u64 == 0;
         }
         let f_is_true = if v == a { f == 1 } else { sum::<STEP>(v, mask, offsets, sheet.d, sheet.f) == (f, false) };
-        f_is_true && if v == b { back == 1 } else { sum::<STEP>(v, mask, offsets, sheet.e, sheet.back) == (back, false) }
+        let (count, over, wanted) =
+            if v == b { (1, false, b) } else { sum_and_next::<STEP>(v, mask, offsets, sheet.e, sheet.back, sheet.f) };
+        f_is_true && (back, false, next) == (count, over, wanted)
     })
 }
 
-/// Whether the route is the central one. All costs and counts are true.
-fn route_is_true(floor: Floor, job: Job, sheet: Sheet, moves: u8, offsets: &[isize; 8]) -> bool {
+/// Whether the route is the walk through the next vertices, which are true.
+fn route_is_true(job: Job, sheet: Sheet) -> bool {
     let (a, b) = (job.a as usize, job.b as usize);
     let Some((used, rest)) = sheet.route.split_at_checked(sheet.points) else { return false };
     let Some((&first, used)) = used.split_first() else { return false };
     let mut u = usize::from(first);
     let follows = u == a
         && used.iter().all(|&point| {
-            let mask = mask_at(floor, u) & moves;
-            let wanted = if u == b { None } else { next(u, mask, offsets, sheet.d, sheet.f, sheet.back) };
+            let goes_on = u != b && sheet.next[u] == point;
             u = usize::from(point);
-            wanted == Some(u)
+            goes_on
         });
     follows && u == b && is_0(rest)
 }
@@ -143,7 +146,8 @@ pub fn check(floor: Floor, job: Job, sheet: Sheet) -> Result<Verdict, Refusal> {
     let (a, b) = (job.a as usize, job.b as usize);
     let masks_of = |above: &Cells, below: &Cells| masks_of(above, below, columns, moves);
     let verdict = if sheet.d[b] == UNREACHABLE {
-        let zeros = sheet.points == 0 && is_0(sheet.e) && is_0(sheet.f) && is_0(sheet.back) && is_0(sheet.route);
+        let no_points = sheet.points == 0 && is_0(sheet.route) && is_0(sheet.next);
+        let zeros = no_points && is_0(sheet.e) && is_0(sheet.f) && is_0(sheet.back);
         (zeros && costs_are_true(floor, job, sheet.d)).then_some(Verdict::NoRoute)
     } else {
         let offsets = offsets(columns);
@@ -151,7 +155,7 @@ pub fn check(floor: Floor, job: Job, sheet: Sheet) -> Result<Verdict, Refusal> {
         let counts = if job.neighbourhood == 8 { counts_are_true::<1> } else { counts_are_true::<2> };
         let good = all_rows(floor, |y, above, below| window.row_is_true(y, &masks_of(above, below)))
             && all_rows(floor, |y, above, below| counts(y, &masks_of(above, below), &offsets, job, sheet))
-            && route_is_true(floor, job, sheet, moves, &offsets);
+            && route_is_true(job, sheet);
         good.then_some(Verdict::Route)
     };
     Ok(verdict.unwrap_or(Verdict::FalseSheet))

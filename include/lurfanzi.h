@@ -45,15 +45,15 @@
 extern "C" {
 #endif
 
-/* The number of this interface. It tells apart headers between which a call still compiles and means something else: a
- * caller of a header without this number hands in maps with a byte to a cell, which would be refused with 2 and nothing
- * else said. A caller states the number that it was written for:
+/* The number of this interface. It tells apart headers between which a call still compiles, or still links from another
+ * language, and means something else: with 2 lurfanzi_finish and lurfanzi_check have no next slice, and a caller of a
+ * header without this number hands in maps with a byte to a cell. A caller states the number that it was written for:
  *
- *     #if LURFANZI_INTERFACE != 2
- *     #error "written for packed maps"
+ *     #if LURFANZI_INTERFACE != 3
+ *     #error "written for packed maps and a sheet with next vertices"
  *     #endif
  */
-#define LURFANZI_INTERFACE 2
+#define LURFANZI_INTERFACE 3
 
 /* The answers. A call gives the first refusal that applies, in the order in which its function lists them below. */
 enum {
@@ -153,30 +153,37 @@ typedef struct {
  * the route takes, of the open moves that lead on along a cheapest route, the one to the vertex with the highest
  * f * back, of equals the first in the order of moves. With a = b it is that one vertex, at cost 0.
  *
+ * A vertex is on the way where a cheapest route passes it, which is where f is not 0. The slice next has this choice
+ * for each of them, so that a cart that is shoved to another vertex on the way goes on from there: v, next[v],
+ * next[next[v]] and so on reach b, at cost e[v]. From a they are the route. Off the way next is 0, which may be the
+ * number of a next vertex too: whether v is on the way f[v] says.
+ *
  * d           V costs from a, as lurfanzi_costs leaves them. They are read, and never written: many jobs may be
  *             finished from one d, also by calls at the same time. They are tested, and not trusted: where any of them
  *             is not true the answer is 9, whoever made them.
  * e           V costs to b; LURFANZI_UNREACHABLE where there is no walk, so at every pinch
  * f, back     V counts of cheapest walks: f from a, back to b; 0 off the cheapest routes
  * route       V vertices: the points of the route, then 0
+ * next        V vertices: at each vertex on the way other than b the next vertex, at b b itself, elsewhere 0
  * work        4 * V numbers of working memory; what it holds at entry does not matter
  *
- * answer      e          f, back    route      work
- * 0           true       true       true       0
- * 1 to 6, 11  untouched  untouched  untouched  untouched
- * 9           untouched  untouched  untouched  untouched
- * 7           0          0          0          0
- * 8           true       0          0          0
+ * answer      e          f, back    route, next  work
+ * 0           true       true       true         0
+ * 1 to 6, 11  untouched  untouched  untouched    untouched
+ * 9           untouched  untouched  untouched    untouched
+ * 7           0          0          0            0
+ * 8           true       0          0            0
  *
- * Refuses with 1, 2, 3, 4, 5 for a or b, 11 for a or b, also where a = b, 6 for each of the six slices, 9, 7 and 8, in
- * this order. A call is of good shape where none of 1 to 6, 9 and 11 applies: a d that is not true is answered with 9
- * also where no walk joins the ends, and where the routes are too many.
+ * Refuses with 1, 2, 3, 4, 5 for a or b, 11 for a or b, also where a = b, 6 for each of the seven slices, 9, 7 and 8,
+ * in this order. A call is of good shape where none of 1 to 6, 9 and 11 applies: a d that is not true is answered with
+ * 9 also where no walk joins the ends, and where the routes are too many.
  */
 lurfanzi_plan_result lurfanzi_finish(
     uint32_t width, uint32_t height, const uint8_t *map, size_t map_length,
     uint32_t neighbourhood, uint32_t a, uint32_t b,
     const uint32_t *d, size_t d_length, uint32_t *e, size_t e_length, uint64_t *f, size_t f_length,
-    uint64_t *back, size_t back_length, uint16_t *route, size_t route_length, uint32_t *work, size_t work_length);
+    uint64_t *back, size_t back_length, uint16_t *route, size_t route_length, uint16_t *next, size_t next_length,
+    uint32_t *work, size_t work_length);
 
 /* Checks a filled sheet from any planner, with n the number of its route's points. Writes nothing.
  *
@@ -187,14 +194,15 @@ lurfanzi_plan_result lurfanzi_finish(
  *            does at answer 7, with n = 0
  * 9          every other sheet, also for an n above V, and every sheet of a job that lurfanzi_finish answers with 8
  *            from true costs
- * 1 to 6, 11 refused before these, in the order 1, 2, 3, 4, 5 for a or b, 11 for a or b, 6 for each of the five slices,
+ * 1 to 6, 11 refused before these, in the order 1, 2, 3, 4, 5 for a or b, 11 for a or b, 6 for each of the six slices,
  *            which have V places; with 11 also where a = b
  */
 uint8_t lurfanzi_check(
     uint32_t width, uint32_t height, const uint8_t *map, size_t map_length,
     uint32_t neighbourhood, uint32_t a, uint32_t b,
     const uint32_t *d, size_t d_length, const uint32_t *e, size_t e_length, const uint64_t *f, size_t f_length,
-    const uint64_t *back, size_t back_length, const uint16_t *route, size_t route_length, size_t n);
+    const uint64_t *back, size_t back_length, const uint16_t *route, size_t route_length,
+    const uint16_t *next, size_t next_length, size_t n);
 
 typedef struct {
     size_t kept;     /* how many positions are kept; 0 at a refusal */

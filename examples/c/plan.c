@@ -1,13 +1,13 @@
 /* Plans two jobs from one dock round a wall, then round a closure that is posted on the floor and struck again. The
- * costs from the dock are worked out once for each map. Each sheet is checked, and each route thinned to the vertices
- * that a cart needs. */
+ * costs from the dock are worked out once for each map. Each sheet is checked, each route thinned to the vertices that
+ * a cart needs, and a cart that is shoved to another vertex on the way goes on from there. */
 #include <inttypes.h>
 #include <stdio.h>
 #include <string.h>
 #include "lurfanzi.h"
 
-#if LURFANZI_INTERFACE != 2
-#error "written for packed maps"
+#if LURFANZI_INTERFACE != 3
+#error "written for packed maps and a sheet with next vertices"
 #endif
 
 enum { WIDTH = 7, HEIGHT = 5, COLUMNS = WIDTH + 1, VERTICES = COLUMNS * (HEIGHT + 1), NEIGHBOURHOOD = 8 };
@@ -30,7 +30,7 @@ static uint8_t map[MAP_BYTES];
 /* The sheet, the working memory, and the kept positions. What they hold before a call does not matter. */
 static uint32_t d[VERTICES], e[VERTICES], work[4 * VERTICES];
 static uint64_t f[VERTICES], back[VERTICES];
-static uint16_t route[VERTICES], kept[VERTICES];
+static uint16_t route[VERTICES], next[VERTICES], kept[VERTICES];
 
 /* Packs cells, given with a byte each, 0 open, into a map of (count + 7) / 8 bytes: cell c is bit c % 8, from the low
  * end, of byte c / 8, and the unused bits are 0. */
@@ -87,11 +87,29 @@ static lurfanzi_plan_result finish_job(uint32_t a, uint32_t b)
 {
     return lurfanzi_finish(
         WIDTH, HEIGHT, map, sizeof map, NEIGHBOURHOOD, a, b,
-        d, VERTICES, e, VERTICES, f, VERTICES, back, VERTICES, route, VERTICES, work, 4 * VERTICES);
+        d, VERTICES, e, VERTICES, f, VERTICES, back, VERTICES, route, VERTICES, next, VERTICES, work, 4 * VERTICES);
 }
 
-/* Finishes a job, checks the sheet and thins the route; whether all three answered 0. */
-static int show_job(uint32_t a, uint32_t b)
+/* Where a cart goes on that was shoved to vertex v. Off the way, where f is 0, it needs a job of its own. */
+static void show_shoved(uint32_t v, uint32_t b)
+{
+    printf("shoved to");
+    print_vertex(v);
+    if (f[v] == 0) {
+        printf(": not on the way\n");
+        return;
+    }
+    printf(": on to");
+    while (v != b) {
+        v = next[v];
+        print_vertex(v);
+    }
+    printf("\n");
+}
+
+/* Finishes a job, checks the sheet and thins the route; whether all three answered 0. On the way to b a cart is shoved
+ * to vertex v. */
+static int show_job(uint32_t a, uint32_t b, uint32_t v)
 {
     lurfanzi_plan_result plan = finish_job(a, b);
     printf("to");
@@ -107,7 +125,7 @@ static int show_job(uint32_t a, uint32_t b)
 
     uint8_t verdict = lurfanzi_check(
         WIDTH, HEIGHT, map, sizeof map, NEIGHBOURHOOD, a, b,
-        d, VERTICES, e, VERTICES, f, VERTICES, back, VERTICES, route, VERTICES, plan.points);
+        d, VERTICES, e, VERTICES, f, VERTICES, back, VERTICES, route, VERTICES, next, VERTICES, plan.points);
     printf("the checker answers %d\n", verdict);
 
     lurfanzi_thin_result thin =
@@ -115,6 +133,7 @@ static int show_job(uint32_t a, uint32_t b)
     printf("kept:");
     for (size_t k = 0; k < thin.kept; k++) print_vertex(route[kept[k]]);
     printf("\n");
+    show_shoved(v, b);
     return verdict == LURFANZI_OK && thin.answer == LURFANZI_OK;
 }
 
@@ -123,7 +142,7 @@ static int show_jobs(uint32_t dock, uint32_t b, uint32_t c)
 {
     uint8_t answer = lurfanzi_costs(
         WIDTH, HEIGHT, map, sizeof map, NEIGHBOURHOOD, dock, d, VERTICES, work, 4 * VERTICES);
-    return answer == LURFANZI_OK && show_job(dock, b) && show_job(dock, c);
+    return answer == LURFANZI_OK && show_job(dock, b, vertex(4, 2)) && show_job(dock, c, vertex(5, 0));
 }
 
 /* Writes the map with the closures on it; whether the library took it. */

@@ -3,8 +3,8 @@
 //! Every function is total, as in C: any numbers and any slices may be handed in, and a fault of theirs is an `Err`. A
 //! slice that a call writes is borrowed mutably, so that it overlaps no other slice of the call.
 
-/// The header's `LURFANZI_INTERFACE`: maps have a bit to a cell.
-pub const INTERFACE: u32 = 2;
+/// The header's `LURFANZI_INTERFACE`: maps have a bit to a cell, and a sheet has the slice of next vertices.
+pub const INTERFACE: u32 = 3;
 
 /// The cost where no open walk joins two vertices.
 pub const UNREACHABLE: u32 = u32::MAX;
@@ -35,13 +35,15 @@ pub struct Job {
     pub b: u32,
 }
 
-/// The slices of a sheet that `finish` fills: all but d. Each has a place for every vertex.
+/// The slices of a sheet that `finish` fills: all but d. Each has a place for every vertex. A cart that is shoved to
+/// another vertex on the way, which is where f is not 0, goes on by `next`.
 #[derive(Debug)]
 pub struct SheetMut<'a> {
     pub e: &'a mut [u32],
     pub f: &'a mut [u64],
     pub back: &'a mut [u64],
     pub route: &'a mut [u16],
+    pub next: &'a mut [u16],
 }
 
 /// A filled sheet, to be read, with the number of points of its route.
@@ -52,6 +54,7 @@ pub struct Sheet<'a> {
     pub f: &'a [u64],
     pub back: &'a [u64],
     pub route: &'a [u16],
+    pub next: &'a [u16],
     pub points: usize,
 }
 
@@ -197,7 +200,7 @@ impl Floor<'_> {
 impl SheetMut<'_> {
     /// The sheet as it stands, with the costs from the first end, for `check`.
     pub fn read<'b>(&'b self, d: &'b [u32], points: usize) -> Sheet<'b> {
-        Sheet { d, e: self.e, f: self.f, back: self.back, route: self.route, points }
+        Sheet { d, e: self.e, f: self.f, back: self.back, route: self.route, next: self.next, points }
     }
 }
 
@@ -354,13 +357,14 @@ mod call {
             width: u32, height: u32, map: *const u8, map_length: usize, neighbourhood: u32, a: u32, b: u32,
             d: *const u32, d_length: usize, e: *mut u32, e_length: usize, f: *mut u64, f_length: usize,
             back: *mut u64, back_length: usize, route: *mut u16, route_length: usize,
-            work: *mut u32, work_length: usize,
+            next: *mut u16, next_length: usize, work: *mut u32, work_length: usize,
         ) -> PlanResult;
 
         fn lurfanzi_check(
             width: u32, height: u32, map: *const u8, map_length: usize, neighbourhood: u32, a: u32, b: u32,
             d: *const u32, d_length: usize, e: *const u32, e_length: usize, f: *const u64, f_length: usize,
-            back: *const u64, back_length: usize, route: *const u16, route_length: usize, n: usize,
+            back: *const u64, back_length: usize, route: *const u16, route_length: usize,
+            next: *const u16, next_length: usize, n: usize,
         ) -> u8;
 
         fn lurfanzi_thin(
@@ -411,13 +415,14 @@ mod call {
     }
 
     pub fn finish(floor: Floor, job: Job, d: &[u32], sheet: &mut SheetMut, work: &mut [u32]) -> PlanResult {
-        // SAFETY: the map and d are shared slices, the five others are exclusive ones.
+        // SAFETY: the map and d are shared slices, the six others are exclusive ones.
         unsafe {
             lurfanzi_finish(
                 floor.width, floor.height, floor.map.as_ptr(), floor.map.len(), job.neighbourhood, job.a, job.b,
                 d.as_ptr(), d.len(), sheet.e.as_mut_ptr(), sheet.e.len(),
                 sheet.f.as_mut_ptr(), sheet.f.len(), sheet.back.as_mut_ptr(), sheet.back.len(),
-                sheet.route.as_mut_ptr(), sheet.route.len(), work.as_mut_ptr(), work.len(),
+                sheet.route.as_mut_ptr(), sheet.route.len(), sheet.next.as_mut_ptr(), sheet.next.len(),
+                work.as_mut_ptr(), work.len(),
             )
         }
     }
@@ -429,7 +434,7 @@ mod call {
                 floor.width, floor.height, floor.map.as_ptr(), floor.map.len(), job.neighbourhood, job.a, job.b,
                 sheet.d.as_ptr(), sheet.d.len(), sheet.e.as_ptr(), sheet.e.len(),
                 sheet.f.as_ptr(), sheet.f.len(), sheet.back.as_ptr(), sheet.back.len(),
-                sheet.route.as_ptr(), sheet.route.len(), sheet.points,
+                sheet.route.as_ptr(), sheet.route.len(), sheet.next.as_ptr(), sheet.next.len(), sheet.points,
             )
         }
     }
@@ -462,8 +467,9 @@ mod tests {
     /// the same slices.
     fn plan_and_check(floor: Floor, job: Job, length: usize, work: usize) -> Answers {
         let (mut d, mut e, mut f) = (vec![7; length], vec![7; length], vec![7; length]);
-        let (mut back, mut route, mut work) = (vec![7; length], vec![7; length], vec![7; work]);
-        let mut sheet = SheetMut { e: &mut e, f: &mut f, back: &mut back, route: &mut route };
+        let (mut back, mut route, mut next) = (vec![7; length], vec![7; length], vec![7; length]);
+        let mut work = vec![7; work];
+        let mut sheet = SheetMut { e: &mut e, f: &mut f, back: &mut back, route: &mut route, next: &mut next };
         let planned = costs(floor, job.neighbourhood, job.a, &mut d, &mut work)
             .and_then(|()| finish(floor, job, &d, &mut sheet, &mut work));
         let points = planned.map_or(0, |route| route.points);
@@ -519,11 +525,12 @@ mod tests {
     /// Finishes a job from these costs, with an output slice of the given length; nothing is touched at a refusal of
     /// shape.
     fn finish_from(floor: Floor, job: Job, d: &[u32], length: usize) -> Result<Plan, Refusal> {
-        let (mut e, mut f, mut back, mut route, mut work) = ([7; 6], [7; 6], [7; 6], vec![7; length], [7; 24]);
-        let mut sheet = SheetMut { e: &mut e, f: &mut f, back: &mut back, route: &mut route };
+        let (mut e, mut f, mut back, mut route, mut next) = ([7; 6], [7; 6], [7; 6], vec![7; length], [7; 6]);
+        let mut work = [7; 24];
+        let mut sheet = SheetMut { e: &mut e, f: &mut f, back: &mut back, route: &mut route, next: &mut next };
         let planned = finish(floor, job, d, &mut sheet, &mut work);
         if !matches!(planned, Ok(_) | Err(Refusal::NoRoute)) {
-            assert_eq!((e, f, back, route, work), ([7; 6], [7; 6], [7; 6], vec![7; length], [7; 24]));
+            assert_eq!((e, f, back, route, next, work), ([7; 6], [7; 6], [7; 6], vec![7; length], [7; 6], [7; 24]));
         }
         planned
     }
@@ -545,6 +552,43 @@ mod tests {
         assert_eq!(costs(SHUT, 8, 0, &mut d, &mut work), Ok(()));
         assert_eq!(d, [0, 408, UNREACHABLE, 408, 577, UNREACHABLE]);
         assert_eq!(finish_from(SHUT, JOB, &d, 6), Err(Refusal::NoRoute));
+    }
+
+    /// The next vertices that a plan leaves, and the checker's verdict with another number at a place.
+    #[test]
+    fn next_vertices() {
+        let ends = [(0, 5, [1, 5, 0, 0, 5, 5]), (5, 0, [0, 0, 0, 0, 0, 4]), (4, 4, [0, 0, 0, 0, 4, 0])];
+        for (a, b, wanted) in ends {
+            let job = Job { a, b, ..JOB };
+            let (mut d, mut e, mut f, mut back, mut work) = ([7; 6], [7; 6], [7; 6], [7; 6], [7; 24]);
+            let (mut route, mut next) = ([7; 6], [7; 6]);
+            assert_eq!(costs(OPEN, 8, a, &mut d, &mut work), Ok(()));
+            let mut sheet = SheetMut { e: &mut e, f: &mut f, back: &mut back, route: &mut route, next: &mut next };
+            let points = finish(OPEN, job, &d, &mut sheet, &mut work).map_or(0, |plan| plan.points);
+            assert_eq!(sheet.next, wanted);
+            let sheet = sheet.read(&d, points);
+            assert_eq!(check(OPEN, job, sheet), Ok(Verdict::Route));
+            assert_eq!(check(OPEN, job, Sheet { next: &wanted[..5], ..sheet }), Err(Refusal::BadSliceLength));
+            for (place, number) in (0..6).flat_map(|place| (0..7).map(move |number| (place, number))) {
+                let mut other = wanted;
+                other[place] = number;
+                let verdict = if other == wanted { Verdict::Route } else { Verdict::FalseSheet };
+                assert_eq!(check(OPEN, job, Sheet { next: &other, ..sheet }), Ok(verdict));
+            }
+        }
+    }
+
+    /// A next slice of another length alone is refused before false costs, and all else is untouched.
+    #[test]
+    fn next_of_another_length() {
+        let d = [0, 408, 816, 408, 577, 985];
+        for (length, costs) in [(0, d), (5, d), (7, d), (5, [0; 6])] {
+            let (mut e, mut f, mut back, mut work) = ([7; 6], [7; 6], [7; 6], [7; 24]);
+            let (mut route, mut next) = ([7; 6], vec![7; length]);
+            let mut sheet = SheetMut { e: &mut e, f: &mut f, back: &mut back, route: &mut route, next: &mut next };
+            assert_eq!(finish(OPEN, JOB, &costs, &mut sheet, &mut work), Err(Refusal::BadSliceLength));
+            assert_eq!((e, f, back, route, next, work), ([7; 6], [7; 6], [7; 6], [7; 6], vec![7; length], [7; 24]));
+        }
     }
 
     /// Calls at the same time share the costs.

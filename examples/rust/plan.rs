@@ -1,6 +1,6 @@
 //! Plans two jobs from one dock round a wall, then round a closure that is posted on the floor and struck again. The
-//! costs from the dock are worked out once for each map. Each sheet is checked, and each route thinned to the vertices
-//! that a cart needs.
+//! costs from the dock are worked out once for each map. Each sheet is checked, each route thinned to the vertices that
+//! a cart needs, and a cart that is shoved to another vertex on the way goes on from there.
 
 // Not every item of the wrapper is used here.
 #[allow(dead_code)]
@@ -47,12 +47,22 @@ fn show_obstacle(floor: Floor, a: u32, b: u32) -> Result<(), Refusal> {
     Ok(())
 }
 
-/// Finishes a job from the costs of its first end, checks the sheet and thins the route.
-fn show_job(floor: Floor, job: Job, d: &[u32]) -> Result<(), Refusal> {
+/// Where a cart goes on that was shoved to vertex v. Off the way, where f is 0, it needs a job of its own.
+fn show_shoved(sheet: &SheetMut, v: u32, b: u32) {
+    if sheet.f.get(v as usize).is_none_or(|&count| count == 0) {
+        return println!("shoved to {}: not on the way", point(v));
+    }
+    let after = |&at: &u16| (u32::from(at) != b).then(|| sheet.next[usize::from(at)]);
+    println!("shoved to {}: on to{}", point(v), text(std::iter::successors(Some(v as u16), after).skip(1)));
+}
+
+/// Finishes a job from the costs of its first end, checks the sheet and thins the route. On the way a cart is shoved to
+/// vertex v.
+fn show_job(floor: Floor, job: Job, d: &[u32], v: u32) -> Result<(), Refusal> {
     let vertices = floor.vertices();
     let (mut e, mut f) = (vec![0; vertices], vec![0; vertices]);
-    let (mut back, mut route) = (vec![0; vertices], vec![0; vertices]);
-    let mut sheet = SheetMut { e: &mut e, f: &mut f, back: &mut back, route: &mut route };
+    let (mut back, mut route, mut next) = (vec![0; vertices], vec![0; vertices], vec![0; vertices]);
+    let mut sheet = SheetMut { e: &mut e, f: &mut f, back: &mut back, route: &mut route, next: &mut next };
 
     let found = finish(floor, job, d, &mut sheet, &mut vec![0; 4 * vertices])?;
     println!("to {}: cost {}, cheapest routes {}, points {}", point(job.b), found.cost, found.total, found.points);
@@ -62,26 +72,29 @@ fn show_job(floor: Floor, job: Job, d: &[u32]) -> Result<(), Refusal> {
     let mut kept = vec![0; vertices];
     let count = thin(floor, sheet.route, &mut kept, found.points)?;
     let kept = kept.iter().take(count);
-    println!("kept:{}", text(kept.filter_map(|&position| route.get(usize::from(position)).copied())));
+    println!("kept:{}", text(kept.filter_map(|&position| sheet.route.get(usize::from(position)).copied())));
+    show_shoved(&sheet, v, job.b);
     Ok(())
 }
 
-/// Plans jobs from one dock: the costs from it are worked out once, and the jobs share them.
-fn show_jobs(floor: Floor, dock: u32, ends: &[u32]) -> Result<Vec<u32>, Refusal> {
+/// Plans jobs from one dock: the costs from it are worked out once, and the jobs share them. Each job has its end, and
+/// the vertex to which a cart is shoved.
+fn show_jobs(floor: Floor, dock: u32, jobs: &[(u32, u32)]) -> Result<Vec<u32>, Refusal> {
     let mut d = vec![0; floor.vertices()];
     costs(floor, NEIGHBOURHOOD, dock, &mut d, &mut vec![0; 4 * floor.vertices()])?;
-    for &b in ends {
-        show_job(floor, Job { neighbourhood: NEIGHBOURHOOD, a: dock, b }, &d)?;
+    for &(b, v) in jobs {
+        show_job(floor, Job { neighbourhood: NEIGHBOURHOOD, a: dock, b }, &d, v)?;
     }
     Ok(d)
 }
 
 fn main() -> Result<(), Refusal> {
-    let (dock, ends, corner) = (vertex(0, 4), [vertex(7, 5), vertex(7, 0)], vertex(4, 1));
+    let (dock, corner, end) = (vertex(0, 4), vertex(4, 1), vertex(7, 5));
+    let jobs = [(end, vertex(4, 2)), (vertex(7, 0), vertex(5, 0))];
     let base_map = pack(&CELLS);
     let base = Floor { width: WIDTH, height: HEIGHT, map: &base_map };
-    show_obstacle(base, dock, ends[0])?;
-    let d = show_jobs(base, dock, &ends)?;
+    show_obstacle(base, dock, end)?;
+    let d = show_jobs(base, dock, &jobs)?;
 
     // A wet floor of 2 by 2 cells, from column 4 and row 1 on.
     let mut closures = Closures::new(WIDTH, HEIGHT);
@@ -90,16 +103,16 @@ fn main() -> Result<(), Refusal> {
     let mut map = base_map.clone();
     closures.working_map(&base_map, &mut map)?;
     let wet = Floor { map: &map, ..base };
-    show_obstacle(wet, corner, ends[0])?;
-    let stale = show_job(wet, Job { neighbourhood: NEIGHBOURHOOD, a: dock, b: ends[0] }, &d);
+    show_obstacle(wet, corner, end)?;
+    let stale = show_job(wet, Job { neighbourhood: NEIGHBOURHOOD, a: dock, b: end }, &d, dock);
     println!("from the costs of the map before: {stale:?}");
-    show_jobs(wet, dock, &ends)?;
+    show_jobs(wet, dock, &jobs)?;
 
     closures.strike(slot)?;
     println!("struck slot {slot}");
     closures.working_map(&base_map, &mut map)?;
     let dry = Floor { map: &map, ..base };
-    show_obstacle(dry, corner, ends[0])?;
-    show_jobs(dry, dock, &ends)?;
+    show_obstacle(dry, corner, end)?;
+    show_jobs(dry, dock, &jobs)?;
     Ok(())
 }

@@ -24,12 +24,12 @@ _Static_assert(LURFANZI_BAD_SLICE_LENGTH == 6 && LURFANZI_NO_ROUTE == 7 && LURFA
 _Static_assert(LURFANZI_FALSE_SHEET == 9 && LURFANZI_NOT_JOINED == 10, "answers 9 and 10");
 _Static_assert(LURFANZI_PINCHED_END == 11, "answer 11");
 _Static_assert(LURFANZI_UNREACHABLE == 4294967295, "the cost of no walk");
-_Static_assert(LURFANZI_INTERFACE == 2, "maps have a bit to a cell");
+_Static_assert(LURFANZI_INTERFACE == 3, "maps have a bit to a cell, and a sheet has the next vertices");
 
-/* A job for planner or checker: every number of the call, and the sheet's slices. */
-enum { D, E, F, BACK, ROUTE, WORK, SLICES };
-static const char *const slice_name[SLICES] = {"d", "e", "f", "back", "route", "work"};
-static const size_t element[SLICES] = {4, 4, 8, 8, 2, 4};
+/* A job for planner or checker: every number of the call, and the slices, of which all but work are the sheet's. */
+enum { D, E, F, BACK, ROUTE, NEXT, WORK, SLICES, SHEET = WORK };
+static const char *const slice_name[SLICES] = {"d", "e", "f", "back", "route", "next", "work"};
+static const size_t element[SLICES] = {4, 4, 8, 8, 2, 2, 4};
 
 typedef struct {
     uint32_t width, height, neighbourhood, a, b;
@@ -56,6 +56,12 @@ typedef struct {
     lurfanzi_plan_result result;
     lent slice[SLICES];
 } planned;
+
+/* The sheet that a plan left, for the checker. */
+static void sheet_of(const planned *p, const void *sheet[SHEET])
+{
+    for (int k = 0; k < SHEET; k++) sheet[k] = p->slice[k].p;
+}
 
 static void give_back_sheet(planned *p)
 {
@@ -84,6 +90,48 @@ static uint8_t fill_costs(const char *where, const job *j, unsigned char fill, l
     return answer;
 }
 
+/* The next vertices of a planned job. On the way each is a move of the neighbourhood away, which is the cost that e
+ * falls by: so the walk through them from any vertex on the way reaches b at the cost left. At b stands b, off the way
+ * 0. The route is the walk from a, and on the way is where f is not 0. */
+static void expect_walks(const char *where, const job *j, const planned *p)
+{
+    const uint32_t *d = p->slice[D].p, *e = p->slice[E].p, columns = j->width + 1;
+    const uint64_t *f = p->slice[F].p;
+    const uint16_t *route = p->slice[ROUTE].p, *next = p->slice[NEXT].p;
+    const size_t v_count = vertices(j->width, j->height), points = p->result.points;
+    int good = points != 0 && points <= v_count;
+    for (int k = 0; k < SHEET; k++) good = good && j->length[k] == v_count;
+    if (!good) {
+        fail(where, "the planner", "took a slice of another length, or answered a number of points that is none");
+        return;
+    }
+    for (uint32_t v = 0; v < v_count; v++) {
+        const int on_way = (uint64_t)d[v] + e[v] == p->result.cost;
+        const uint32_t to = next[v];
+        expect(where, "on the way, by f,", f[v] != 0, (unsigned)on_way);
+        if (v == j->b || !on_way) {
+            expect(where, v == j->b ? "next at b" : "next off the way", to, v == j->b ? j->b : 0);
+            continue;
+        }
+        if (to >= v_count) {
+            fail(where, "next", "is no vertex");
+            continue;
+        }
+        const int dx = abs((int)(to % columns) - (int)(v % columns));
+        const int dy = abs((int)(to / columns) - (int)(v / columns));
+        if (dx > 1 || dy > 1 || dx + dy == 0 || (dx + dy == 2 && j->neighbourhood == 4))
+            fail(where, "next", "is not a move away");
+        expect(where, "the cost after a move", e[to], e[v] - (dx + dy == 2 ? 577 : 408));
+    }
+    uint32_t at = j->a;
+    for (size_t k = 0; k < points; k++) {
+        expect(where, "a point", route[k], at);
+        at = next[at];
+        if (at >= v_count) return;
+    }
+    expect(where, "the last point", route[points - 1], j->b);
+}
+
 /* Finishes the job from the costs given, or from d with `fill` in every byte where they are NULL. The other slices hold
  * `fill`. Tests all that holds at every answer. */
 static planned finish_job(const char *where, const job *j, const void *d, unsigned char fill)
@@ -100,7 +148,8 @@ static planned finish_job(const char *where, const job *j, const void *d, unsign
     p.result = lurfanzi_finish(
         j->width, j->height, map.p, j->map_length, j->neighbourhood, j->a, j->b,
         s[D].p, j->length[D], s[E].p, j->length[E], s[F].p, j->length[F],
-        s[BACK].p, j->length[BACK], s[ROUTE].p, j->length[ROUTE], s[WORK].p, j->length[WORK]);
+        s[BACK].p, j->length[BACK], s[ROUTE].p, j->length[ROUTE], s[NEXT].p, j->length[NEXT],
+        s[WORK].p, j->length[WORK]);
     expect_read_only(where, "the map", &map);
     expect_read_only(where, "d", &s[D]);
     for (int k = E; k < SLICES; k++) expect_guards(where, slice_name[k], &s[k]);
@@ -117,7 +166,8 @@ static planned finish_job(const char *where, const job *j, const void *d, unsign
         expect_zeros(where, "work", &s[WORK]);
     if (answer == 7) expect_zeros(where, "e", &s[E]);
     if (answer == 7 || answer == 8)
-        for (int k = F; k <= ROUTE; k++) expect_zeros(where, slice_name[k], &s[k]);
+        for (int k = F; k <= NEXT; k++) expect_zeros(where, slice_name[k], &s[k]);
+    if (answer == 0) expect_walks(where, j, &p);
     give_back(&map);
     return p;
 }
@@ -174,11 +224,11 @@ static void expect_plan(const char *where, const job *j, uint8_t wanted)
 }
 
 /* Asks the checker about the sheet as the slices hold it. */
-static uint8_t check(const char *where, const job *j, const void *const sheet[5])
+static uint8_t check(const char *where, const job *j, const void *const sheet[SHEET])
 {
-    lent s[5], map = lend_copy(j->map, j->map_length);
+    lent s[SHEET], map = lend_copy(j->map, j->map_length);
     before_call(&map);
-    for (int k = 0; k < 5; k++) {
+    for (int k = 0; k < SHEET; k++) {
         const size_t size = j->length[k] * element[k];
         s[k] = sheet[k] == NULL ? lend(size, 0xFF) : lend_copy(sheet[k], size);
         before_call(&s[k]);
@@ -186,9 +236,9 @@ static uint8_t check(const char *where, const job *j, const void *const sheet[5]
     uint8_t answer = lurfanzi_check(
         j->width, j->height, map.p, j->map_length, j->neighbourhood, j->a, j->b,
         s[D].p, j->length[D], s[E].p, j->length[E], s[F].p, j->length[F],
-        s[BACK].p, j->length[BACK], s[ROUTE].p, j->length[ROUTE], j->n);
+        s[BACK].p, j->length[BACK], s[ROUTE].p, j->length[ROUTE], s[NEXT].p, j->length[NEXT], j->n);
     expect_read_only(where, "the map", &map);
-    for (int k = 0; k < 5; k++) {
+    for (int k = 0; k < SHEET; k++) {
         expect_read_only(where, slice_name[k], &s[k]);
         give_back(&s[k]);
     }
@@ -247,35 +297,41 @@ typedef struct {
     uint32_t d[PLACES], e[PLACES];
     uint64_t f[PLACES], back[PLACES];
     size_t points;
-    uint16_t route[PLACES];
+    uint16_t route[PLACES], next[PLACES];
     size_t kept;
     uint16_t positions[PLACES];
 } worked;
 
 static const worked floors[] = {
     {"floor a", 1, 1, {0}, 8, 0, 3, 0, 577, 1, {0, 408, 408, 577}, {577, 408, 408, 0}, {1, 0, 0, 1}, {1, 0, 0, 1},
-     2, {0, 3}, 2, {0, 1}},
+     2, {0, 3}, {3, 0, 0, 3}, 2, {0, 1}},
     {"floor b", 1, 1, {0}, 4, 0, 3, 0, 816, 2, {0, 408, 408, 816}, {816, 408, 408, 0}, {1, 1, 1, 2}, {2, 1, 1, 1},
-     3, {0, 1, 3}, 2, {0, 2}},
-    {"floor c", 1, 1, {1}, 8, 0, 3, 7, 0, 0, {0, M, M, M}, {0}, {0}, {0}, 0, {0}, 0, {0}},
-    {"floor d", 1, 1, {1}, 8, 0, 0, 0, 0, 1, {0, M, M, M}, {0, M, M, M}, {1}, {1}, 1, {0}, 1, {0}},
+     3, {0, 1, 3}, {1, 3, 3, 3}, 2, {0, 2}},
+    {"floor c", 1, 1, {1}, 8, 0, 3, 7, 0, 0, {0, M, M, M}, {0}, {0}, {0}, 0, {0}, {0}, 0, {0}},
+    {"floor d", 1, 1, {1}, 8, 0, 0, 0, 0, 1, {0, M, M, M}, {0, M, M, M}, {1}, {1}, 1, {0}, {0}, 1, {0}},
     {"floor e", 2, 1, {0}, 8, 0, 5, 0, 985, 2, {0, 408, 816, 408, 577, 985}, {985, 577, 408, 816, 408, 0},
-     {1, 1, 0, 0, 1, 2}, {2, 1, 0, 0, 1, 1}, 3, {0, 1, 5}, 2, {0, 2}},
-    {"floor f", 2, 1, {2}, 8, 0, 5, 7, 0, 0, {0, 408, M, 408, 577, M}, {0}, {0}, {0}, 0, {0}, 0, {0}},
-    {"floor g", 2, 2, {9}, 8, 2, 6, 7, 0, 0, {M, 408, 0, M, M, 408, M, M, M}, {0}, {0}, {0}, 0, {0}, 0, {0}},
+     {1, 1, 0, 0, 1, 2}, {2, 1, 0, 0, 1, 1}, 3, {0, 1, 5}, {1, 5, 0, 0, 5, 5}, 2, {0, 2}},
+    {"floor f", 2, 1, {2}, 8, 0, 5, 7, 0, 0, {0, 408, M, 408, 577, M}, {0}, {0}, {0}, 0, {0}, {0}, 0, {0}},
+    {"floor g", 2, 2, {9}, 8, 2, 6, 7, 0, 0, {M, 408, 0, M, M, 408, M, M, M}, {0}, {0}, {0}, 0, {0}, {0}, 0, {0}},
     {"floor h", 2, 2, {0}, 4, 0, 8, 0, 1632, 6, {0, 408, 816, 408, 816, 1224, 816, 1224, 1632},
      {1632, 1224, 816, 1224, 816, 408, 816, 408, 0}, {1, 1, 1, 1, 2, 3, 1, 3, 6}, {6, 3, 1, 3, 2, 1, 1, 1, 1},
-     5, {0, 1, 4, 5, 8}, 2, {0, 4}},
+     5, {0, 1, 4, 5, 8}, {1, 4, 5, 4, 5, 8, 7, 8, 8}, 2, {0, 4}},
     /* Not of the rules' letters: walked by f alone, the route would go from 1 to 5, where f is 2, and not to 2, where
      * it is 1; the traversal counts are 2 at both. */
     {"three cells in a row", 3, 1, {0}, 4, 0, 7, 0, 1632, 4, {0, 408, 816, 1224, 408, 816, 1224, 1632},
      {1632, 1224, 816, 408, 1224, 816, 408, 0}, {1, 1, 1, 1, 1, 2, 3, 4}, {4, 3, 2, 1, 1, 1, 1, 1},
-     5, {0, 1, 2, 6, 7}, 2, {0, 4}},
+     5, {0, 1, 2, 6, 7}, {1, 2, 6, 7, 5, 6, 7, 7}, 2, {0, 4}},
     /* Floor g within its cell 1: vertex 4 is no way round. */
     {"round the pinch", 2, 2, {9}, 4, 1, 5, 0, 816, 1, {M, 0, 408, M, M, 816, M, M, M},
-     {M, 816, 408, M, M, 0, M, M, M}, {0, 1, 1, 0, 0, 1}, {0, 1, 1, 0, 0, 1}, 3, {1, 2, 5}, 2, {0, 2}},
+     {M, 816, 408, M, M, 0, M, M, M}, {0, 1, 1, 0, 0, 1}, {0, 1, 1, 0, 0, 1}, 3, {1, 2, 5},
+     {0, 2, 5, 0, 0, 5}, 2, {0, 2}},
     {"floor g mirrored", 2, 2, {6}, 8, 0, 8, 7, 0, 0, {0, 408, M, 408, M, M, M, M, M}, {0}, {0}, {0},
-     0, {0}, 0, {0}},
+     0, {0}, {0}, 0, {0}},
+    /* Of 1 and of 4, on the way, vertex 0 is the next vertex; at 2 and 3, off the way, 0 stands too. */
+    {"floor e turned round", 2, 1, {0}, 8, 5, 0, 0, 985, 2, {985, 577, 408, 816, 408, 0}, {0, 408, 816, 408, 577, 985},
+     {2, 1, 0, 0, 1, 1}, {1, 1, 0, 0, 1, 2}, 3, {5, 4, 0}, {0, 0, 0, 0, 0, 4}, 2, {0, 2}},
+    {"equal ends", 2, 1, {0}, 4, 4, 4, 0, 0, 1, {816, 408, 816, 408, 0, 408}, {816, 408, 816, 408, 0, 408},
+     {0, 0, 0, 0, 1}, {0, 0, 0, 0, 1}, 1, {4}, {0, 0, 0, 0, 4}, 1, {0}},
 };
 
 static job job_of(const worked *w)
@@ -304,6 +360,7 @@ static void plan_worked(const worked *w)
         expect_slice(w->name, "f", &p.slice[F], w->f);
         expect_slice(w->name, "back", &p.slice[BACK], w->back);
         expect_slice(w->name, "route", &p.slice[ROUTE], w->route);
+        expect_slice(w->name, "next", &p.slice[NEXT], w->next);
         give_back_sheet(&p);
     }
 }
@@ -323,17 +380,18 @@ static void put_number(void *slice, size_t size, size_t place, uint64_t number)
     else ((uint64_t *)slice)[place] = number;
 }
 
-/* The checker's answer to each sheet that has another number at one place: one more, one less, 0, all ones, or one bit
- * turned over. All of them are false. Of d, the planner's answer too: costs that are not true are refused before all
- * else that the job could answer. */
+/* The checker's answer to each sheet that has another number at one place: one more, one less, 0, all ones, one bit
+ * turned over, or, of route and next, any vertex. All of them are false. Of d, the planner's answer too: costs that are
+ * not true are refused before all else that the job could answer. */
 static void change_place(
-    const worked *w, const job *j, const void *const sheet[5], int slice, void *numbers, size_t place)
+    const worked *w, const job *j, const void *const sheet[SHEET], int slice, void *numbers, size_t place)
 {
     const size_t size = element[slice];
     const uint64_t old = number_at(numbers, size, place), ones = UINT64_MAX >> (64 - 8 * size);
     const uint64_t others[] = {(old + 1) & ones, (old - 1) & ones, 0, ones};
-    for (size_t k = 0; k < 4 + 8 * size; k++) {
-        const uint64_t number = k < 4 ? others[k] : old ^ UINT64_C(1) << (k - 4);
+    const size_t bits = 8 * size, any = slice >= ROUTE ? vertices(w->width, w->height) : 0;
+    for (size_t k = 0; k < 4 + bits + any; k++) {
+        const uint64_t number = k < 4 ? others[k] : k < 4 + bits ? old ^ UINT64_C(1) << (k - 4) : k - 4 - bits;
         if (number == old) continue;
         put_number(numbers, size, place, number);
         expect_answer(w->name, check(w->name, j, sheet), LURFANZI_FALSE_SHEET);
@@ -356,11 +414,11 @@ static void check_nonsense(const worked *w)
 {
     worked made = *w;
     job j = job_of(w);
-    void *const slices[5] = {made.d, made.e, made.f, made.back, made.route};
-    const void *const sheet[5] = {made.d, made.e, made.f, made.back, made.route};
+    void *const slices[SHEET] = {made.d, made.e, made.f, made.back, made.route, made.next};
+    const void *const sheet[SHEET] = {made.d, made.e, made.f, made.back, made.route, made.next};
     for (unsigned k = 0; k < 8; k++) {
         size_t place = 0;
-        for (int slice = 0; slice < 5; slice++)
+        for (int slice = 0; slice < SHEET; slice++)
             for (size_t i = 0; i < j.length[slice]; i++)
                 put_number(slices[slice], element[slice], i, nonsense(k, place++));
         expect_finish(w->name, &j, made.d, 0xFF, LURFANZI_FALSE_SHEET);
@@ -377,10 +435,10 @@ static void check_worked(const worked *w)
     worked altered = *w;
     job j = job_of(w);
     j.n = w->points;
-    void *const slices[5] = {altered.d, altered.e, altered.f, altered.back, altered.route};
-    const void *const sheet[5] = {altered.d, altered.e, altered.f, altered.back, altered.route};
+    void *const slices[SHEET] = {altered.d, altered.e, altered.f, altered.back, altered.route, altered.next};
+    const void *const sheet[SHEET] = {altered.d, altered.e, altered.f, altered.back, altered.route, altered.next};
     expect_answer(w->name, check(w->name, &j, sheet), w->answer);
-    for (int k = 0; k < 5; k++)
+    for (int k = 0; k < SHEET; k++)
         for (size_t place = 0; place < j.length[k]; place++) change_place(w, &j, sheet, k, slices[k], place);
     const size_t v = vertices(w->width, w->height);
     const size_t counts[] = {0, 1, w->points - 1, w->points + 1, v, v + 1, 65536 + w->points, SIZE_MAX};
@@ -389,8 +447,9 @@ static void check_worked(const worked *w)
         j.n = counts[k];
         expect_answer(w->name, check(w->name, &j, sheet), LURFANZI_FALSE_SHEET);
     }
-    const void *const turned_costs[5] = {w->e, w->d, w->f, w->back, w->route};
-    const void *const turned_counts[5] = {w->d, w->e, w->back, w->f, w->route};
+    const void *const turned_costs[SHEET] = {w->e, w->d, w->f, w->back, w->route, w->next};
+    const void *const turned_counts[SHEET] = {w->d, w->e, w->back, w->f, w->route, w->next};
+    const void *const turned_vertices[SHEET] = {w->d, w->e, w->f, w->back, w->next, w->route};
     j.n = w->points;
     if (memcmp(w->d, w->e, sizeof w->d) != 0) {
         expect_answer(w->name, check(w->name, &j, turned_costs), LURFANZI_FALSE_SHEET);
@@ -399,6 +458,8 @@ static void check_worked(const worked *w)
     }
     if (memcmp(w->f, w->back, sizeof w->f) != 0)
         expect_answer(w->name, check(w->name, &j, turned_counts), LURFANZI_FALSE_SHEET);
+    if (memcmp(w->route, w->next, sizeof w->route) != 0)
+        expect_answer(w->name, check(w->name, &j, turned_vertices), LURFANZI_FALSE_SHEET);
 }
 
 static trail trail_of(const worked *w)
@@ -429,6 +490,46 @@ static void worked_floors(void)
     }
     const worked *h = &floors[7];
     expect(h->name, "the traversal count of vertex 4", h->f[4] * h->back[4], 4);
+}
+
+/* Floors of 4 by 4 cells, from corner to corner, with a choice beside the route: at a vertex there, the next one by the
+ * central rule and the one that another rule would take. */
+typedef struct {
+    const char *name;
+    uint8_t map[2];
+    uint32_t neighbourhood;
+    size_t points;
+    uint16_t next[25], place, other;
+} choice;
+
+static const choice choices[] = {
+    /* Cell (2, 2) is blocked; the route is 0 6 7 13 18 24. After vertex 12, 13 and 17 are passed by 6 routes each, and
+     * the move to 13 is the first. */
+    {"equals beside the route", {0, 1 << (10 - 8)}, 8, 6,
+     {6, 7, 0, 0, 0, 11, 7, 13, 0, 0, 0, 17, 13, 18, 0, 0, 0, 18, 24, 24, 0, 0, 0, 24, 24}, 12, 17},
+    /* Cells (1, 1) and (2, 2) are blocked; the route is 0 1 6 7 8 13 18 19 24. After vertex 16, 17 is passed by 12
+     * routes and 21 by 5, though f is 4 and 5. */
+    {"f beside the route", {1 << 5, 1 << (10 - 8)}, 4, 9,
+     {1, 6, 7, 8, 9, 6, 7, 8, 13, 14, 11, 16, 0, 18, 19, 16, 17, 18, 19, 24, 21, 22, 23, 24, 24}, 16, 21},
+};
+
+static void beside_the_route(void)
+{
+    for (size_t k = 0; k < sizeof choices / sizeof choices[0]; k++) {
+        const choice *c = &choices[k];
+        job j = make_job(4, 4, c->map, c->neighbourhood, 0, 24);
+        planned p = plan(c->name, &j, 0xFF);
+        const void *sheet[SHEET];
+        sheet_of(&p, sheet);
+        j.n = c->points;
+        expect_answer(c->name, p.result.answer, 0);
+        expect(c->name, "points", p.result.points, c->points);
+        expect_slice(c->name, "next", &p.slice[NEXT], c->next);
+        expect_answer(c->name, check(c->name, &j, sheet), 0);
+        ((uint16_t *)p.slice[NEXT].p)[c->place] = c->other;
+        expect_answer(c->name, check(c->name, &j, sheet), LURFANZI_FALSE_SHEET);
+        give_back_sheet(&p);
+    }
 }
 
 /* Floor j: an open floor, corner to corner with neighbourhood 4, where a cost is 408 for each unit step. */
@@ -464,7 +565,9 @@ static void floor_j(void)
     expect_zero_count("zeros of floor j, 33 by 34", &p, F, 0);
     expect_zero_count("zeros of floor j, 33 by 34", &p, BACK, 0);
     expect_zero_count("zeros of floor j, 33 by 34", &p, ROUTE, 1190 - 67);
-    const void *const sheet[5] = {p.slice[D].p, p.slice[E].p, p.slice[F].p, p.slice[BACK].p, p.slice[ROUTE].p};
+    expect_zero_count("zeros of floor j, 33 by 34", &p, NEXT, 0);
+    const void *sheet[SHEET];
+    sheet_of(&p, sheet);
     fits.n = 68;
     expect_answer("floor j, 33 by 34", check("floor j, 33 by 34", &fits, sheet), 0);
     give_back_sheet(&p);
@@ -474,8 +577,8 @@ static void floor_j(void)
     expect_answer("floor j, 34 by 34", p.result.answer, LURFANZI_TOO_MANY);
     expect_unit_steps("floor j, 34 by 34", &p.slice[D], 34, 34, 0, 0);
     expect_unit_steps("floor j, 34 by 34", &p.slice[E], 34, 34, 34, 34);
-    const void *const refused[5] = {p.slice[D].p, p.slice[E].p, p.slice[F].p, p.slice[BACK].p, p.slice[ROUTE].p};
-    expect_answer("floor j, 34 by 34", check("floor j, 34 by 34", &many, refused), LURFANZI_FALSE_SHEET);
+    sheet_of(&p, sheet);
+    expect_answer("floor j, 34 by 34", check("floor j, 34 by 34", &many, sheet), LURFANZI_FALSE_SHEET);
     /* 9 before 8: every cost matters, also where the routes are too many. */
     uint32_t *d = p.slice[D].p;
     for (size_t place = 0; place < many.length[D]; place++) {
@@ -555,16 +658,25 @@ static void floor_k(void)
     expect_zero_count("zeros of floor k", &p, F, 16384 - 2);
     expect_zero_count("zeros of floor k", &p, BACK, 16384 - 2);
     expect_zero_count("zeros of floor k", &p, ROUTE, 16384 - 1);
-    const void *const sheet[5] = {p.slice[D].p, p.slice[E].p, p.slice[F].p, p.slice[BACK].p, p.slice[ROUTE].p};
+    expect_zero_count("zeros of floor k", &p, NEXT, 16384 - 2);
+    const void *sheet[SHEET];
+    sheet_of(&p, sheet);
     j.n = 2;
     expect_answer("floor k", check("floor k", &j, sheet), 0);
+    /* The last vertices, off the way. */
+    uint16_t *next = p.slice[NEXT].p;
+    for (size_t place = 16384 - 130; place < 16384; place++) {
+        next[place] = 1;
+        expect_answer("floor k, next off the way", check("floor k, next off the way", &j, sheet), LURFANZI_FALSE_SHEET);
+        next[place] = 0;
+    }
     give_back_sheet(&p);
 }
 
 /* ---- The limits of every number (floor l), on floor e, whose numbers 2, 1, 8, 0, 5 all differ. ---- */
 
 static const worked *const e_floor = &floors[4];
-static const void *const anything[5] = {NULL, NULL, NULL, NULL, NULL};
+static const void *const anything[SHEET] = {NULL, NULL, NULL, NULL, NULL, NULL};
 
 /* Planner and checker refuse the job alike. */
 static void expect_refused(const char *where, const job *j, uint8_t wanted)
@@ -775,8 +887,8 @@ static void pinched_ends(void)
     }
     const worked alone = {
         "the pinch alone", 2, 2, {9}, 8, 4, 4, 0, 0, 1, {M, M, M, M, 0, M, M, M, M},
-        {M, M, M, M, 0, M, M, M, M}, {0, 0, 0, 0, 1}, {0, 0, 0, 0, 1}, 1, {4}, 1, {0}};
-    const void *const sheet[5] = {alone.d, alone.e, alone.f, alone.back, alone.route};
+        {M, M, M, M, 0, M, M, M, M}, {0, 0, 0, 0, 1}, {0, 0, 0, 0, 1}, 1, {4}, {0, 0, 0, 0, 4}, 1, {0}};
+    const void *const sheet[SHEET] = {alone.d, alone.e, alone.f, alone.back, alone.route, alone.next};
     job j = job_of(&alone);
     j.n = alone.points;
     expect_finish(alone.name, &j, alone.d, 0xFF, LURFANZI_PINCHED_END);
@@ -940,6 +1052,7 @@ int main(void)
 {
     setbuf(stdout, NULL); /* so that a crash loses no line */
     worked_floors();
+    beside_the_route();
     one_dock();
     costs_of_another_job();
     every_list_of_costs();

@@ -108,6 +108,7 @@ struct Slices {
     f: Vec<u64>,
     back: Vec<u64>,
     route: Vec<u16>,
+    next: Vec<u16>,
 }
 
 impl Slices {
@@ -117,7 +118,8 @@ impl Slices {
             1 => self.e[place] = Element::cut(value),
             2 => self.f[place] = value,
             3 => self.back[place] = value,
-            _ => self.route[place] = Element::cut(value),
+            4 => self.route[place] = Element::cut(value),
+            _ => self.next[place] = Element::cut(value),
         }
     }
 }
@@ -153,7 +155,9 @@ fn answer<T>(result: Result<T, Refusal>) -> u8 {
 impl Driver {
     fn new() -> Driver {
         let (v, longest, longest_map) = (16_384, 16_392, 2_056);
-        let slices = Slices { d: vec![0; v], e: vec![0; v], f: vec![0; v], back: vec![0; v], route: vec![0; v] };
+        let (costs, counts, points) = (vec![0; v], vec![0; v], vec![0; v]);
+        let (d, f, route) = (costs.clone(), counts.clone(), points.clone());
+        let slices = Slices { d, e: costs, f, back: counts, route, next: points };
         let ground = Ground { width: 0, height: 0, map: Vec::new() };
         let (work, list, out) = (vec![0; 4 * v], vec![0; longest], vec![0; longest]);
         Driver { ground, slices, points: 0, work, list, out, slots: [0; 64], working: vec![0; longest_map] }
@@ -196,7 +200,7 @@ impl Driver {
     /// The costs handed in are a copy with the changes made, so that nothing has to be put back.
     fn finish(&mut self, record: &Record) -> String {
         let floor = self.ground.floor();
-        let (slices, seed) = (&mut self.slices, record.word(9));
+        let (slices, seed) = (&mut self.slices, record.word(10));
         let mut d = slices.d.clone();
         record.changes().for_each(|(_, place, value)| d[place] = Element::cut(value));
         let d = &d[..record.length(3)];
@@ -205,19 +209,20 @@ impl Driver {
             f: patterned(&mut slices.f, record.length(5), seed),
             back: patterned(&mut slices.back, record.length(6), seed),
             route: patterned(&mut slices.route, record.length(7), seed),
+            next: patterned(&mut slices.next, record.length(8), seed),
         };
-        let work = patterned(&mut self.work, record.length(8), seed);
+        let work = patterned(&mut self.work, record.length(9), seed);
         let planned = lurfanzi::finish(floor, record.job(), d, &mut sheet, work);
         let (cost, total, points) = planned.map_or((0, 0, 0), |plan| (plan.cost, plan.total, plan.points));
         self.points = points;
         let (d, e, f) = (digest(d), digest(sheet.e), digest(sheet.f));
-        let (back, route, work) = (digest(sheet.back), digest(sheet.route), digest(work));
-        format!("finish {} {cost} {total} {points} {d} {e} {f} {back} {route} {work}", answer(planned))
+        let (back, route, next, work) = (digest(sheet.back), digest(sheet.route), digest(sheet.next), digest(work));
+        format!("finish {} {cost} {total} {points} {d} {e} {f} {back} {route} {next} {work}", answer(planned))
     }
 
     fn load(&mut self, record: &Record) -> String {
-        for (place, row) in record.payload.chunks_exact(26).enumerate() {
-            let columns = [&row[..4], &row[4..8], &row[8..16], &row[16..24], &row[24..]];
+        for (place, row) in record.payload.chunks_exact(28).enumerate() {
+            let columns = [&row[..4], &row[4..8], &row[8..16], &row[16..24], &row[24..26], &row[26..]];
             for (slice, column) in (0..).zip(columns) {
                 self.slices.change(slice, place, number(column));
             }
@@ -233,9 +238,9 @@ impl Driver {
         record.changes().for_each(|(slice, place, value)| slices.change(slice, place, value));
         let (d, e) = (&slices.d[..record.length(3)], &slices.e[..record.length(4)]);
         let (f, back) = (&slices.f[..record.length(5)], &slices.back[..record.length(6)]);
-        let route = &slices.route[..record.length(7)];
-        let points = if record.word(8) == 1 { record.length(9) } else { self.points };
-        match lurfanzi::check(floor, record.job(), Sheet { d, e, f, back, route, points }) {
+        let (route, next) = (&slices.route[..record.length(7)], &slices.next[..record.length(8)]);
+        let points = if record.word(9) == 1 { record.length(10) } else { self.points };
+        match lurfanzi::check(floor, record.job(), Sheet { d, e, f, back, route, next, points }) {
             Ok(Verdict::NoRoute) => 7,
             Ok(Verdict::FalseSheet) => 9,
             other => answer(other),

@@ -14,6 +14,7 @@ struct Buffers {
     f: Vec<u64>,
     b: Vec<u64>,
     route: Vec<u16>,
+    next: Vec<u16>,
     n: u64,
     work: Vec<u32>,
     list: Vec<u16>,
@@ -31,6 +32,7 @@ impl Buffers {
             f: vec![0; room],
             b: vec![0; room],
             route: vec![0; room],
+            next: vec![0; room],
             n: 0,
             work: vec![0; format::WORK_ROOM],
             list: vec![0; format::LIST_ROOM],
@@ -49,6 +51,7 @@ impl Buffers {
             2 => std::mem::replace(&mut self.f[place], value),
             3 => std::mem::replace(&mut self.b[place], value),
             4 => u64::from(std::mem::replace(&mut self.route[place], value as u16)),
+            5 => u64::from(std::mem::replace(&mut self.next[place], value as u16)),
             _ => panic!("no slice {slice}"),
         };
         Damage { slice, place, value: old }
@@ -147,19 +150,22 @@ impl Runner {
     }
 
     fn finish(&mut self, record: &Record) -> String {
-        let seed = record.words[9];
+        let seed = record.words[10];
         let at = &mut self.buffers;
         let damages = format::damages_from_bytes(&record.payload);
         let undo: Vec<Damage> = damages.iter().map(|&damage| at.put(damage)).collect();
         let (d, e) = (&at.d[..record.word(3)], &mut at.e[..record.word(4)]);
         let (f, b) = (&mut at.f[..record.word(5)], &mut at.b[..record.word(6)]);
-        let (route, work) = (&mut at.route[..record.word(7)], &mut at.work[..record.word(8)]);
+        let (route, next) = (&mut at.route[..record.word(7)], &mut at.next[..record.word(8)]);
+        let work = &mut at.work[..record.word(9)];
         fill32(e, seed);
         fill64(f, seed);
         fill64(b, seed);
         fill16(route, seed);
+        fill16(next, seed);
         fill32(work, seed);
-        let answer = sheet::finish(&mut self.solver, request_of(record), d, Lent { e, f, b, route, work });
+        let lent = Lent { e, f, b, route, next, work };
+        let answer = sheet::finish(&mut self.solver, request_of(record), d, lent);
         at.n = answer.n;
         let digests = [
             digest32(&at.d[..record.word(3)]),
@@ -167,7 +173,8 @@ impl Runner {
             Digest::of_wide(&at.f[..record.word(5)]),
             Digest::of_wide(&at.b[..record.word(6)]),
             digest16(&at.route[..record.word(7)]),
-            digest32(&at.work[..record.word(8)]),
+            digest16(&at.next[..record.word(8)]),
+            digest32(&at.work[..record.word(9)]),
         ];
         undo.iter().rev().for_each(|&old| {
             at.put(old);
@@ -179,12 +186,13 @@ impl Runner {
 
     fn load(&mut self, record: &Record) -> String {
         let at = &mut self.buffers;
-        for (i, row) in record.payload.chunks_exact(26).enumerate() {
+        for (i, row) in record.payload.chunks_exact(28).enumerate() {
             at.d[i] = u32::from_le_bytes(row[0..4].try_into().unwrap());
             at.e[i] = u32::from_le_bytes(row[4..8].try_into().unwrap());
             at.f[i] = u64::from_le_bytes(row[8..16].try_into().unwrap());
             at.b[i] = u64::from_le_bytes(row[16..24].try_into().unwrap());
             at.route[i] = u16::from_le_bytes(row[24..26].try_into().unwrap());
+            at.next[i] = u16::from_le_bytes(row[26..28].try_into().unwrap());
         }
         at.n = u64::from(record.words[1]);
         format!("load {}", record.words[0])
@@ -200,7 +208,8 @@ impl Runner {
             f: &at.f[..record.word(5)],
             b: &at.b[..record.word(6)],
             route: &at.route[..record.word(7)],
-            n: at.point_count(record.words[8], record.words[9]),
+            next: &at.next[..record.word(8)],
+            n: at.point_count(record.words[9], record.words[10]),
         };
         let answer = sheet::check(&mut self.solver, request_of(record), &handed);
         undo.iter().rev().for_each(|&old| {

@@ -51,7 +51,7 @@ impl Maker {
             self.finish_from(other, good, &[]);
         }
         let places = self.false_places(FalseCost::AnyVertex, request);
-        let lengths = self.bad_lengths(6);
+        let lengths = self.bad_lengths(7);
         self.finish_from(request, lengths, &places);
         let bad = self.bad_request();
         self.finish_from(bad, good, &places);

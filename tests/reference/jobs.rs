@@ -12,11 +12,11 @@ use crate::random::Random;
 use crate::sheet::{Request, Sheet, Solver, Truth, NO_WALK};
 use crate::{sight, stream};
 
-/// Lengths of d, e, f, b, route and the working slice.
-pub type Lengths = [usize; 6];
+/// Lengths of d, e, f, b, route, next and the working slice.
+pub type Lengths = [usize; 7];
 
 pub fn good_lengths(count: usize) -> Lengths {
-    [count, count, count, count, count, 4 * count]
+    [count, count, count, count, count, count, 4 * count]
 }
 
 /// Vertices above this make a floor large: fewer operations are made for it.
@@ -33,6 +33,8 @@ pub struct Maker {
     corners: Random,
     /// For faults of maps: their records change nothing of the others.
     bits: Random,
+    /// For next vertices: their records change nothing of the others.
+    pushed: Random,
     /// Whether numbers may pass 8 bits (sides, neighbourhood) and 16 bits (ends, n).
     wide: bool,
     /// The floor's map as the records leave it, and what the solver has of it.
@@ -46,9 +48,10 @@ pub struct Maker {
 pub fn make(seed: u64, count: u64, wide: bool) -> Vec<u8> {
     let [random, aside, given] = [seed, !seed, seed ^ u64::from(u32::MAX)].map(Random::new);
     let [corners, bits] = [!seed ^ u64::from(u32::MAX), seed.reverse_bits()].map(Random::new);
+    let pushed = Random::new(!seed.reverse_bits());
     let (solver, table) = (Solver::new(Floor::open(1, 1)), Table::empty());
     let (out, map) = (Vec::new(), vec![0]);
-    let mut maker = Maker { out, random, aside, given, corners, bits, wide, map, solver, table };
+    let mut maker = Maker { out, random, aside, given, corners, bits, pushed, wide, map, solver, table };
     let fixed = fixed_floors(&mut maker.random).into_iter().take(count as usize);
     let mut floors: Vec<_> = fixed.map(|(floor, requests)| (PackedFloor::of(&floor), requests)).collect();
     for k in floors.len() as u64..count {
@@ -76,6 +79,13 @@ fn corner_requests(floor: &Floor) -> Vec<Request> {
     vec![request(4, 0, floor.vertex_count() as u64 - 1)]
 }
 
+/// A square floor with these cells blocked.
+fn with_blocked(side: u64, blocked: &[usize]) -> Floor {
+    let mut floor = Floor::open(side, side);
+    blocked.iter().for_each(|&cell| floor.cells[cell] = 1);
+    floor
+}
+
 /// Floors that are in every stream, with requests to make of them.
 fn fixed_floors(random: &mut Random) -> Vec<(Floor, Vec<Request>)> {
     let both = |start, goal| vec![request(4, start, goal), request(8, start, goal)];
@@ -88,6 +98,10 @@ fn fixed_floors(random: &mut Random) -> Vec<(Floor, Vec<Request>)> {
         (Floor::open(2, 2), both(0, 8)),
         (Floor::open(6, 3), both(0, 27)),
         (Floor::open(8, 4), both(0, 44)),
+        // Choices beside the route: equals, and where the counts from the start alone would lead elsewhere.
+        (with_blocked(4, &[10]), both(0, 24)),
+        (with_blocked(4, &[5, 10]), both(0, 24)),
+        (with_blocked(5, &[7, 11]), both(0, 35)),
         (stream::halls_floor(), vec![request(4, 0, 767), request(8, 767, 0)]),
         (Floor::open(33, 34), vec![request(4, 0, 34 * 35 - 1)]),
         (Floor::open(34, 34), vec![request(4, 0, 35 * 35 - 1)]),
@@ -214,6 +228,10 @@ impl Maker {
         std::mem::swap(&mut self.random, &mut self.bits);
     }
 
+    pub fn use_pushed(&mut self) {
+        std::mem::swap(&mut self.random, &mut self.pushed);
+    }
+
     pub fn is_large(&self) -> bool {
         self.count() > LARGE
     }
@@ -243,6 +261,7 @@ impl Maker {
         if self.count() <= 30 {
             self.loaded_sheets();
         }
+        self.sheets_by_other_rules();
         self.lists(if large { 2 } else { 4 });
     }
 
@@ -252,6 +271,7 @@ impl Maker {
         let seed = self.random.next() as u32;
         self.costs_record(request, good_lengths(count), seed);
         self.false_costs(request);
+        self.next_of_other_lengths(request);
         self.finish_record(request, good_lengths(count), seed, &[]);
         self.check_record(request, good_lengths(count), None, &[]);
         let truth = self.solver.truth(request.neighbourhood, request.start as usize, request.goal as usize);
@@ -263,6 +283,7 @@ impl Maker {
             self.check_record(request, good_lengths(count), None, &damages);
         }
         self.other_checks(request, sheet.n as u32);
+        self.next_checks(request, sheet);
         self.route_lists(sheet.n as u32);
     }
 
@@ -294,7 +315,7 @@ impl Maker {
         let request = self.any_request();
         let n = self.random.below(count as u64 + 3) as u32;
         self.check_record(request, good_lengths(count), Some(n), &[]);
-        let lengths = self.bad_lengths(5);
+        let lengths = self.bad_lengths(6);
         self.check_record(request, lengths, None, &[]);
         let bad = self.bad_request();
         self.check_record(bad, good_lengths(count), None, &[]);
@@ -304,13 +325,13 @@ impl Maker {
     fn bad_plan(&mut self) {
         let faults = self.random.within(1, 3);
         let request = if faults != 2 { self.bad_request() } else { self.any_request() };
-        let lengths = if faults != 1 { self.bad_lengths(6) } else { good_lengths(self.count()) };
+        let lengths = if faults != 1 { self.bad_lengths(7) } else { good_lengths(self.count()) };
         self.plan_records(request, lengths);
     }
 
     fn bad_operations(&mut self) {
         for _ in 0..3 {
-            let mut lengths = [0; 6];
+            let mut lengths = [0; 7];
             lengths.iter_mut().for_each(|length| *length = self.random.index(40));
             let ends = (self.random.below(20), self.random.below(20));
             let request = request(self.random.pick(&[4, 8, 5, 0]), ends.0, ends.1);
@@ -400,7 +421,7 @@ impl Maker {
         let mut lengths = good;
         while lengths == good {
             let k = self.random.index(slices);
-            let room = if k == 5 { format::WORK_ROOM } else { format::SHEET_ROOM };
+            let room = if k == 6 { format::WORK_ROOM } else { format::SHEET_ROOM };
             let length = self.random.pick(&[0, good[k] - 1, good[k] + 1, good[k] / 2, good[k] / 4, 2 * good[k]]);
             lengths[k] = length.min(room);
         }
@@ -418,7 +439,7 @@ impl Maker {
     }
 
     pub fn costs_record(&mut self, request: Request, lengths: Lengths, seed: u32) {
-        let words = [request.neighbourhood as u32, request.start as u32, lengths[0] as u32, lengths[5] as u32, seed];
+        let words = [request.neighbourhood as u32, request.start as u32, lengths[0] as u32, lengths[6] as u32, seed];
         self.record(format::COSTS, &words, Vec::new());
     }
 
@@ -431,7 +452,7 @@ impl Maker {
 
     pub fn check_record(&mut self, request: Request, lengths: Lengths, n: Option<u32>, damages: &[Damage]) {
         let mut words = request_words(request);
-        words.extend(lengths[..5].iter().map(|&length| length as u32));
+        words.extend(lengths[..6].iter().map(|&length| length as u32));
         words.extend([u32::from(n.is_some()), n.unwrap_or(0)]);
         self.record(format::CHECK, &words, format::damages_to_bytes(damages));
     }
@@ -444,6 +465,7 @@ impl Maker {
             rows.extend(sheet.f[i].to_le_bytes());
             rows.extend(sheet.b[i].to_le_bytes());
             rows.extend(sheet.route[i].to_le_bytes());
+            rows.extend(sheet.next[i].to_le_bytes());
         }
         self.record(format::LOAD, &[sheet.d.len() as u32, sheet.n as u32], rows);
     }
@@ -489,14 +511,14 @@ impl Maker {
 
     /// A value at any place changed a little or a lot; now and then not at all.
     fn any_damage(&mut self, sheet: &Sheet) -> Damage {
-        let slice = self.random.index(5);
+        let slice = self.random.index(6);
         let place = if slice == 4 && self.random.percent(70) {
             self.random.index((sheet.n as usize + 1).min(sheet.d.len()))
         } else {
             self.random.index(sheet.d.len())
         };
         let old = value_at(sheet, slice, place);
-        let bits = [32, 32, 64, 64, 16][slice];
+        let bits = [32, 32, 64, 64, 16, 16][slice];
         let flipped = old ^ (1 << self.random.below(bits));
         let choices = [old.wrapping_add(1), old.wrapping_sub(1), flipped, 0, u64::MAX, self.random.next(), old];
         let value = self.random.pick(&choices) & (u64::MAX >> (64 - bits));
@@ -576,7 +598,8 @@ fn value_at(sheet: &Sheet, slice: usize, place: usize) -> u64 {
         1 => sheet.e[place].into(),
         2 => sheet.f[place],
         3 => sheet.b[place],
-        _ => sheet.route[place].into(),
+        4 => sheet.route[place].into(),
+        _ => sheet.next[place].into(),
     }
 }
 
@@ -643,6 +666,7 @@ impl Maker {
             sheet.f[place] = self.random.below(4);
             sheet.b[place] = self.random.next();
             sheet.route[place] = self.random.below(sheet.d.len() as u64) as u16;
+            sheet.next[place] = self.random.below(sheet.d.len() as u64) as u16;
         }
     }
 }

@@ -21,6 +21,7 @@ mod jobs;
 mod layouts;
 mod map_jobs;
 mod natural;
+mod next_jobs;
 mod packed;
 mod pinch_jobs;
 mod program;

@@ -85,7 +85,7 @@ impl Maker {
         };
         self.plan_records(good, good_lengths(count));
         self.check_record(other, good_lengths(count), None, &[]);
-        self.finish_record(other, [count + 1; 6].map(|length| length.min(format::SHEET_ROOM)), 1, &[]);
+        self.finish_record(other, [count + 1; 7].map(|length| length.min(format::SHEET_ROOM)), 1, &[]);
         let n = self.random.pick(&[2, 3]);
         self.list_record(&[0, 0], 2, 2, n);
         let pairs = [(0, 0), (0, last as u32), (last as u32 + 1, 0)];

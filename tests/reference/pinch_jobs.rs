@@ -6,7 +6,7 @@ use crate::sheet::{Request, Truth};
 use crate::sight;
 
 /// Vertices above this make a sheet too large for a load record.
-const LOADED: usize = 600;
+const LOADED: usize = 585;
 
 impl Maker {
     pub fn pinch_operations(&mut self) {
@@ -41,7 +41,7 @@ impl Maker {
             Request { neighbourhood: 5, ..at_goal },
         ];
         for job in jobs {
-            let other = self.bad_lengths(6);
+            let other = self.bad_lengths(7);
             for lengths in [good, other] {
                 self.plan_records(job, lengths);
                 self.check_record(job, lengths, None, &[]);

@@ -37,8 +37,9 @@ fn job_lines(solver: &mut Solver, number: usize, request: Request) -> String {
     let mut s = Sheet::zeros(size);
     let mut work = vec![0; 4 * size];
     sheet::costs(solver, request.neighbourhood, request.start, &mut s.d, &mut work);
-    let lent = Lent { e: &mut s.e, f: &mut s.f, b: &mut s.b, route: &mut s.route, work: &mut work };
-    let answer = sheet::finish(solver, request, &s.d, lent);
+    let Sheet { d, e, f, b, route, next, .. } = &mut s;
+    let lent = Lent { e, f, b, route, next, work: &mut work };
+    let answer = sheet::finish(solver, request, d, lent);
     if answer.answer != 0 {
         return format!("job {number}: refused {}\n", answer.answer);
     }

@@ -7,11 +7,11 @@ use crate::layouts::{self, KINDS};
 use crate::natural::Natural;
 use crate::packed::{self, PackedFloor};
 use crate::random::Random;
-use crate::sheet::{self, Request, Solver, NO_WALK};
+use crate::sheet::{self, Handed, Request, Sheet, Solver, Truth, NO_WALK};
 use crate::sight::{self, Obstacle, Point};
 use crate::vectors::{self, Tally};
 use crate::{answers, count, format, jobs, thin};
-use std::collections::BTreeMap;
+use std::collections::{BTreeMap, BTreeSet};
 
 pub fn run(tally: &mut Tally) {
     naturals(tally);
@@ -20,11 +20,13 @@ pub fn run(tally: &mut Tally) {
     closures(tally);
     packing(tally);
     tiny_floors(tally);
+    next_walks(tally);
     checker_on_damage(tally);
     costs_by_local_law(tally);
     thinning(tally);
     streams(tally);
     streams_of_maps(tally);
+    streams_of_next(tally);
 }
 
 fn naturals(tally: &mut Tally) {
@@ -260,8 +262,91 @@ fn tiny_jobs(tally: &mut Tally, floor: &Floor, neighbourhood: u64) {
         tally.holds("the checker takes the planner's sheet", answer == planned.answer.answer);
         let is_end = [start, goal].iter().any(|&end| is_pinched(floor, floor.point(end as usize)));
         tally.holds("11 where an end is a pinch", is_end == (answer == 11));
+        next_by_listing(tally, floor, Request { neighbourhood, start, goal }, &planned.sheet);
         let left = if is_end { 9 } else { 0 };
         tally.holds("the working slice is 0, or untouched at 11", planned.work.iter().all(|&x| x == left));
+    }
+}
+
+/// Every walk of this cost from a vertex to the goal, move by move.
+fn walks_of_cost(graph: &Graph, goal: usize, cost: u64, walk: &mut Vec<usize>, found: &mut Vec<Vec<usize>>) {
+    let at = walk[walk.len() - 1];
+    if cost == 0 && at == goal {
+        found.push(walk.clone());
+    }
+    for edge in graph.edges[at].iter().filter(|edge| edge.cost <= cost) {
+        walk.push(edge.to);
+        walks_of_cost(graph, goal, cost - edge.cost, walk, found);
+        walk.pop();
+    }
+}
+
+/// The next vertices from the list of all cheapest routes: of the vertices that follow in one of them, that which most
+/// of them pass, of equals the first in move order. 0 in a job without a route or of bad shape.
+fn next_by_listing(tally: &mut Tally, floor: &Floor, request: Request, sheet: &Sheet) {
+    let graph = Graph::of_floor(floor, request.neighbourhood);
+    let (start, goal) = (request.start as usize, request.goal as usize);
+    if sheet.n == 0 {
+        return;
+    }
+    let mut routes = Vec::new();
+    walks_of_cost(&graph, goal, sheet.d[goal].into(), &mut vec![start], &mut routes);
+    let passes = |v: usize| routes.iter().filter(|route| route.contains(&v)).count();
+    let follows = |v: usize, w: usize| routes.iter().any(|route| route.windows(2).any(|pair| pair == [v, w]));
+    let next = |v: usize| {
+        let choices = graph.edges[v].iter().map(|edge| edge.to).filter(|&w| follows(v, w));
+        let best = choices.rev().max_by_key(|&w| passes(w)).unwrap_or(0);
+        if v == goal { goal } else { best }
+    };
+    tally.holds("next vertices by listing", (0..graph.size()).all(|v| usize::from(sheet.next[v]) == next(v)));
+}
+
+/// From every vertex on the way the walk through the next vertices takes open moves and reaches the goal at the cost
+/// left; from the start it is the route. Off the way the next vertices are 0.
+fn next_walks_hold(solver: &mut Solver, request: Request, sheet: &Sheet) -> bool {
+    let graphs = solver.graphs(request.neighbourhood);
+    let goal = request.goal as usize;
+    let move_cost = |from: usize, to: usize| graphs.0.edges[from].iter().find(|edge| edge.to == to).map(|e| e.cost);
+    let walk = |from: usize| {
+        let (mut points, mut at, mut cost) = (vec![from as u16], from, 0);
+        while at != goal && points.len() <= sheet.next.len() {
+            let to = usize::from(sheet.next[at]);
+            let Some(step) = move_cost(at, to) else { return None };
+            (at, cost) = (to, cost + step);
+            points.push(to as u16);
+        }
+        (at == goal).then_some((points, cost))
+    };
+    let cost = u64::from(sheet.d[goal]);
+    let on_way = |v: usize| u64::from(sheet.d[v]) + u64::from(sheet.e[v]) == cost;
+    let each = |v: usize| match walk(v) {
+        Some((_, driven)) if on_way(v) => driven == u64::from(sheet.e[v]),
+        _ => !on_way(v) && sheet.next[v] == 0,
+    };
+    let points = walk(request.start as usize).map(|(points, _)| points);
+    usize::from(sheet.next[goal]) == goal
+        && (0..sheet.next.len()).all(each)
+        && points.as_deref() == Some(&sheet.route[..sheet.n as usize])
+}
+
+fn next_walks(tally: &mut Tally) {
+    let mut random = Random::new(8);
+    for kind in KINDS {
+        for (width, height) in [(5, 4), (13, 9), (40, 3), (24, 24)] {
+            let mut solver = Solver::new(layouts::make(kind, &mut random, width, height));
+            let size = solver.floor.vertex_count();
+            for _ in 0..12 {
+                let (start, goal) = (random.index(size), random.index(size));
+                let neighbourhood = random.pick(&[4, 8]);
+                let request = Request { neighbourhood, start: start as u64, goal: goal as u64 };
+                let truth = solver.truth(neighbourhood, start, goal);
+                let holds = match &*truth {
+                    Truth::Route { sheet, .. } => next_walks_hold(&mut solver, request, sheet),
+                    Truth::NoRoute { sheet } | Truth::TooMany { sheet } => sheet.next.iter().all(|&v| v == 0),
+                };
+                tally.holds("walks through the next vertices", holds);
+            }
+        }
     }
 }
 
@@ -270,16 +355,31 @@ fn checker_on_damage(tally: &mut Tally) {
     let floor = Floor::new(3, 2, vec![0, 0, 0, 1, 0, 0]);
     let planned = vectors::plan(&floor, 8, 0, 11);
     for place in 0..floor.vertex_count() {
-        let mut damaged = vec![planned.sheet.clone(); 5];
+        let mut damaged = vec![planned.sheet.clone(); 6];
         damaged[0].d[place] ^= 1;
         damaged[1].e[place] ^= 1;
         damaged[2].f[place] ^= 1;
         damaged[3].b[place] ^= 1;
         damaged[4].route[place] ^= 1;
+        damaged[5].next[place] ^= 1;
         for sheet in &damaged {
             tally.equal("damage", vectors::check(&floor, 8, 0, 11, sheet), 9);
         }
     }
+    let request = Request { neighbourhood: 8, start: 0, goal: 11 };
+    let (mut solver, mut refused) = (Solver::new(floor), true);
+    let mut s = planned.sheet.clone();
+    for place in 0..s.next.len() {
+        let old = s.next[place];
+        for value in (0..=u16::MAX).filter(|&value| value != old) {
+            s.next[place] = value;
+            let handed = Handed { d: &s.d, e: &s.e, f: &s.f, b: &s.b, route: &s.route, next: &s.next, n: s.n };
+            refused &= sheet::check(&mut solver, request, &handed) == 9;
+        }
+        s.next[place] = old;
+    }
+    tally.holds("every other number at a place of next", refused);
+    let floor = solver.floor;
     let more = sheet::Sheet { n: planned.sheet.n + 1, ..planned.sheet };
     tally.equal("another n", vectors::check(&floor, 8, 0, 11, &more), 9);
 }
@@ -414,5 +514,41 @@ fn streams_of_maps(tally: &mut Tally) {
                 tally.holds("an unused bit", has(&|map| map.fault() == Some(3) && set(map) == 1 << (bit - left)));
             }
         }
+    }
+}
+
+/// The next vertices of a stream: on floors with few vertices each place with each other vertex, and lengths off by
+/// one, of the second operation and of the checker.
+fn streams_of_next(tally: &mut Tally) {
+    let stream = jobs::make(6, 30, false);
+    let mut input = stream.as_slice();
+    let (mut floor, mut size) = (0, 0);
+    let mut changed: BTreeMap<(usize, u64, [u32; 3]), BTreeSet<(usize, u64)>> = BTreeMap::new();
+    let mut lengths = BTreeSet::new();
+    while let Some(record) = format::Record::read(&mut input) {
+        let words = record.words;
+        let off = i64::from(words[8]) - i64::from(words[3]);
+        let others_good = words[4..8].iter().all(|&length| length == words[3]);
+        match record.operation {
+            format::FLOOR => (floor, size) = (floor + 1, u64::from(words[0] + 1) * u64::from(words[1] + 1)),
+            format::FINISH | format::CHECK if others_good && off != 0 => {
+                lengths.insert((record.operation, off.signum() * off.abs().min(2)));
+            }
+            format::CHECK => {
+                let damages = format::damages_from_bytes(&record.payload);
+                let [damage] = damages[..] else { continue };
+                if damage.slice == 5 && damage.value < size {
+                    let job = (floor, size, [words[0], words[1], words[2]]);
+                    changed.entry(job).or_default().insert((damage.place, damage.value));
+                }
+            }
+            _ => {}
+        }
+    }
+    let whole = changed.iter().filter(|((_, size, _), places)| places.len() as u64 == size * (size - 1)).count();
+    tally.holds("each place with each other vertex", whole >= 20);
+    for off in [-1, 1] {
+        tally.holds("next of another length, planned", lengths.contains(&(format::FINISH, off)));
+        tally.holds("next of another length, checked", lengths.contains(&(format::CHECK, off)));
     }
 }

@@ -2,16 +2,17 @@
 
 use crate::count;
 use crate::floor::Floor;
-use crate::graph::{self, Distances, Graph};
+use crate::graph::{self, Distances, Edge, Graph};
 use crate::natural::Natural;
 use crate::sight;
+use std::cmp::Reverse;
 use std::collections::BTreeMap;
 use std::rc::Rc;
 
 /// The cost written where no walk joins two vertices.
 pub const NO_WALK: u32 = u32::MAX;
 
-/// Distances, counts and route of a job; n is the number of route points.
+/// Distances, counts, route and next vertices of a job; n is the number of route points.
 #[derive(Clone, Debug, PartialEq, Eq)]
 pub struct Sheet {
     pub d: Vec<u32>,
@@ -19,12 +20,14 @@ pub struct Sheet {
     pub f: Vec<u64>,
     pub b: Vec<u64>,
     pub route: Vec<u16>,
+    pub next: Vec<u16>,
     pub n: u64,
 }
 
 impl Sheet {
     pub fn zeros(size: usize) -> Sheet {
-        Sheet { d: vec![0; size], e: vec![0; size], f: vec![0; size], b: vec![0; size], route: vec![0; size], n: 0 }
+        let (costs, counts, points) = (vec![0; size], vec![0; size], vec![0; size]);
+        Sheet { d: costs.clone(), e: costs, f: counts.clone(), b: counts, route: points.clone(), next: points, n: 0 }
     }
 }
 
@@ -154,6 +157,19 @@ impl Job<'_> {
         for (place, &vertex) in sheet.route.iter_mut().zip(&route) {
             *place = vertex as u16;
         }
+        sheet.next = (0..self.graph.size()).map(|v| self.next_vertex(measures, v) as u16).collect();
+    }
+
+    /// Where a cart at the vertex goes: from the goal to itself, from another vertex on the way to the end of the move
+    /// that leaves so much less to the goal and has the highest traversal count, of equals the first move; else 0.
+    fn next_vertex(&self, measures: &Measures, vertex: usize) -> usize {
+        if vertex == self.goal || !measures.on_the_way(vertex) {
+            return if vertex == self.goal { vertex } else { 0 };
+        }
+        let nearer = |edge: &Edge| measures.to_goal[edge.to].map(|left| left + edge.cost) == measures.to_goal[vertex];
+        let choices = self.graph.edges[vertex].iter().enumerate().filter(|(_, edge)| nearer(edge));
+        let best = choices.max_by_key(|&(place, edge)| (measures.traversal_count(edge.to), Reverse(place)));
+        best.expect("a vertex before the goal has a move towards it").1.to
     }
 
     fn central_route(&self, measures: &Measures) -> Vec<usize> {
@@ -214,12 +230,13 @@ pub struct Lent<'a> {
     pub f: &'a mut [u64],
     pub b: &'a mut [u64],
     pub route: &'a mut [u16],
+    pub next: &'a mut [u16],
     pub work: &'a mut [u32],
 }
 
 impl Lent<'_> {
     fn lengths_are_good(&self, count: usize) -> bool {
-        let sheet = [self.e.len(), self.f.len(), self.b.len(), self.route.len()];
+        let sheet = [self.e.len(), self.f.len(), self.b.len(), self.route.len(), self.next.len()];
         sheet.iter().all(|&length| length == count) && self.work.len() == 4 * count
     }
 
@@ -228,6 +245,7 @@ impl Lent<'_> {
         self.f.copy_from_slice(&sheet.f);
         self.b.copy_from_slice(&sheet.b);
         self.route.copy_from_slice(&sheet.route);
+        self.next.copy_from_slice(&sheet.next);
         self.work.fill(0);
     }
 }
@@ -297,13 +315,14 @@ pub struct Handed<'a> {
     pub f: &'a [u64],
     pub b: &'a [u64],
     pub route: &'a [u16],
+    pub next: &'a [u16],
     pub n: u64,
 }
 
 impl Handed<'_> {
     fn lengths_are_good(&self, count: usize) -> bool {
-        let lengths = [self.d.len(), self.e.len(), self.f.len(), self.b.len(), self.route.len()];
-        lengths.iter().all(|&length| length == count)
+        let costs_and_counts = [self.d.len(), self.e.len(), self.f.len(), self.b.len()];
+        costs_and_counts.iter().chain(&[self.route.len(), self.next.len()]).all(|&length| length == count)
     }
 
     fn is(&self, sheet: &Sheet) -> bool {
@@ -313,6 +332,7 @@ impl Handed<'_> {
             && self.f == sheet.f
             && self.b == sheet.b
             && self.route == sheet.route
+            && self.next == sheet.next
     }
 }
 

@@ -42,6 +42,7 @@ pub fn run() -> bool {
     posted_closures(&mut tally);
     packed_maps(&mut tally);
     costs_handed_in(&mut tally);
+    next_vertices(&mut tally);
     pinched_ends(&mut tally);
     pinches_on_segments(&mut tally);
     large_totals(&mut tally);
@@ -68,32 +69,39 @@ pub struct Planned {
 pub fn plan(floor: &Floor, neighbourhood: u64, start: u64, goal: u64) -> Planned {
     let size = if floor.shape_fault().is_none() { floor.vertex_count() } else { 4 };
     let (cost, count, point) = (vec![9; size], vec![9; size], vec![9; size]);
-    let mut s = Sheet { d: cost.clone(), e: cost, f: count.clone(), b: count, route: point, n: 0 };
+    let mut s = Sheet { d: cost.clone(), e: cost, f: count.clone(), b: count, route: point.clone(), next: point, n: 0 };
     let mut solver = Solver::new(floor.clone());
     let (mut work, mut other_work) = (vec![9; 4 * size], vec![9; 4 * size]);
     let first = sheet::costs(&mut solver, neighbourhood, start, &mut s.d, &mut other_work);
     assert!(other_work.iter().all(|&x| x == if first == 0 { 0 } else { 9 }), "the first operation's working slice");
-    let lent = Lent { e: &mut s.e, f: &mut s.f, b: &mut s.b, route: &mut s.route, work: &mut work };
-    let answer = sheet::finish(&mut solver, Request { neighbourhood, start, goal }, &s.d, lent);
+    let Sheet { d, e, f, b, route, next, .. } = &mut s;
+    let lent = Lent { e, f, b, route, next, work: &mut work };
+    let answer = sheet::finish(&mut solver, Request { neighbourhood, start, goal }, d, lent);
     s.n = answer.n;
     Planned { answer, sheet: s, work }
 }
 
-/// What the planner's second operation answers from these costs, with an output slice of the given length; the lent
-/// slices are untouched at 1 to 6 and at 9.
+/// What the planner's second operation answers from these costs, with a route slice of the given length.
 pub fn finish_from(floor: &Floor, request: Request, d: &[u32], length: usize) -> PlanAnswer {
+    finish_lent(floor, request, d, [length, floor.vertex_count()])
+}
+
+/// The same, with slices for route and next of the given lengths; the lent slices are untouched at 1 to 6 and at 9.
+fn finish_lent(floor: &Floor, request: Request, d: &[u32], lengths: [usize; 2]) -> PlanAnswer {
     let size = floor.vertex_count();
-    let mut s = Sheet { route: vec![9; length], ..Sheet::zeros(size) };
-    let mut work = vec![9; 4 * size];
-    let lent = Lent { e: &mut s.e, f: &mut s.f, b: &mut s.b, route: &mut s.route, work: &mut work };
+    let [route, next] = lengths.map(|length| vec![9; length]);
+    let before = Sheet { route, next, ..Sheet::zeros(size) };
+    let (mut s, mut work) = (before.clone(), vec![9; 4 * size]);
+    let Sheet { e, f, b, route, next, .. } = &mut s;
+    let lent = Lent { e, f, b, route, next, work: &mut work };
     let answer = sheet::finish(&mut Solver::new(floor.clone()), request, d, lent);
-    let untouched = s == Sheet { route: vec![9; length], ..Sheet::zeros(size) } && work == vec![9; 4 * size];
+    let untouched = s == before && work == vec![9; 4 * size];
     assert_eq!(untouched, !matches!(answer.answer, 0 | 7 | 8), "what the second operation leaves");
     answer
 }
 
 pub fn check(floor: &Floor, neighbourhood: u64, start: u64, goal: u64, s: &Sheet) -> u8 {
-    let handed = Handed { d: &s.d, e: &s.e, f: &s.f, b: &s.b, route: &s.route, n: s.n };
+    let handed = Handed { d: &s.d, e: &s.e, f: &s.f, b: &s.b, route: &s.route, next: &s.next, n: s.n };
     sheet::check(&mut Solver::new(floor.clone()), Request { neighbourhood, start, goal }, &handed)
 }
 
@@ -115,10 +123,16 @@ fn refusal(answer: u8) -> PlanAnswer {
     PlanAnswer { answer, cost: 0, total: 0, n: 0 }
 }
 
-fn sheet_of(d: &[u32], e: &[u32], f: &[u64], b: &[u64], points: &[u16]) -> Sheet {
+fn sheet_of(d: &[u32], e: &[u32], f: &[u64], b: &[u64], points: &[u16], next: &[u16]) -> Sheet {
     let mut route = points.to_vec();
     route.resize(d.len(), 0);
-    Sheet { d: d.to_vec(), e: e.to_vec(), f: f.to_vec(), b: b.to_vec(), route, n: points.len() as u64 }
+    let (d, e, f, b, next) = (d.to_vec(), e.to_vec(), f.to_vec(), b.to_vec(), next.to_vec());
+    Sheet { d, e, f, b, route, next, n: points.len() as u64 }
+}
+
+/// The sheet of a job that no walk joins.
+fn no_route_sheet(d: &[u32]) -> Sheet {
+    Sheet { d: d.to_vec(), ..Sheet::zeros(d.len()) }
 }
 
 /// Request 4, on floors e, f and j: jobs from one start share its costs, and any other costs give 9, after 6 and before
@@ -150,16 +164,51 @@ fn costs_handed_in(tally: &mut Tally) {
     tally.equal("9 before 8", finish_from(&many, job(4, 0, 1224), &far, 1225), refusal(9));
 }
 
+/// Document 02, request 7, on floors of document 01: at each vertex on the way the next by the central rule, at the
+/// goal the goal, elsewhere 0. On the floor of three cells in a row the traversal counts of 2 and 5 are equal, where f
+/// is 1 and 2.
+fn next_vertices(tally: &mut Tally) {
+    let (open, shut) = (Floor::open(2, 1), Floor::new(2, 1, vec![0, 1]));
+    let g = Floor::new(2, 2, vec![1, 0, 0, 1]);
+    let jobs: [(&str, &Floor, u64, u64, u64, &[u16]); 10] = [
+        ("d", &Floor::new(1, 1, vec![1]), 8, 0, 0, &[0, 0, 0, 0]),
+        ("equal ends", &open, 8, 4, 4, &[0, 0, 0, 0, 4, 0]),
+        ("e", &open, 8, 0, 5, &[1, 5, 0, 0, 5, 5]),
+        ("e, from 5 to 0", &open, 8, 5, 0, &[0, 0, 0, 0, 0, 4]),
+        ("f", &shut, 8, 0, 5, &[0; 6]),
+        ("f, the open cell", &shut, 4, 0, 4, &[1, 4, 0, 4, 4, 0]),
+        ("g", &g, 8, 2, 6, &[0; 9]),
+        ("g, round the pinch", &g, 4, 1, 5, &[0, 2, 5, 0, 0, 5, 0, 0, 0]),
+        ("h", &Floor::open(2, 2), 4, 0, 8, &[1, 4, 5, 4, 5, 8, 7, 8, 8]),
+        ("three cells in a row", &Floor::open(3, 1), 4, 0, 7, &[1, 2, 6, 7, 5, 6, 7, 7]),
+    ];
+    for (name, floor, neighbourhood, start, goal, next) in jobs {
+        let planned = plan(floor, neighbourhood, start, goal);
+        tally.equal(&format!("request 7, {name}"), &planned.sheet.next[..], next);
+        let answer = check(floor, neighbourhood, start, goal, &planned.sheet);
+        tally.equal(&format!("request 7, {name}, checked"), answer, planned.answer.answer);
+    }
+    let (job, d) = (Request { neighbourhood: 8, start: 0, goal: 5 }, [0, 408, 816, 408, 577, 985]);
+    for length in [0, 5, 7] {
+        tally.equal("request 7, 6", finish_lent(&open, job, &d, [6, length]), refusal(6));
+        tally.equal("request 7, 6 before 9", finish_lent(&open, job, &[0; 6], [6, length]), refusal(6));
+        let next = vec![0; length];
+        tally.equal("request 7, 6, checked", check(&open, 8, 0, 5, &Sheet { next, ..Sheet::zeros(6) }), 6);
+    }
+}
+
 /// Document 01, "Floors worked by hand", a to h.
 fn small_floors(tally: &mut Tally) {
     let a = plan(&Floor::open(1, 1), 8, 0, 3);
     tally.equal("a", a.answer, route(577, 1, 2));
-    let sheet = sheet_of(&[0, 408, 408, 577], &[577, 408, 408, 0], &[1, 0, 0, 1], &[1, 0, 0, 1], &[0, 3]);
+    let (d, e) = ([0, 408, 408, 577], [577, 408, 408, 0]);
+    let sheet = sheet_of(&d, &e, &[1, 0, 0, 1], &[1, 0, 0, 1], &[0, 3], &[3, 0, 0, 3]);
     tally.equal("a sheet", a.sheet, sheet);
     tally.equal("a work", a.work, vec![0; 16]);
     let b = plan(&Floor::open(1, 1), 4, 0, 3);
     tally.equal("b", b.answer, route(816, 2, 3));
-    let sheet = sheet_of(&[0, 408, 408, 816], &[816, 408, 408, 0], &[1, 1, 1, 2], &[2, 1, 1, 1], &[0, 1, 3]);
+    let (d, e) = ([0, 408, 408, 816], [816, 408, 408, 0]);
+    let sheet = sheet_of(&d, &e, &[1, 1, 1, 2], &[2, 1, 1, 1], &[0, 1, 3], &[1, 3, 3, 3]);
     tally.equal("b sheet", b.sheet.clone(), sheet);
     tally.equal("b kept", thin::kept_positions(&Floor::open(1, 1), b.points()), vec![0, 2]);
     blocked_floors(tally);
@@ -178,7 +227,7 @@ fn blocked_floors(tally: &mut Tally) {
     let blocked = Floor::new(1, 1, vec![1]);
     let c = plan(&blocked, 8, 0, 3);
     tally.equal("c", c.answer, refusal(7));
-    tally.equal("c sheet", c.sheet, sheet_of(&[0, NO_WALK, NO_WALK, NO_WALK], &[0; 4], &[0; 4], &[0; 4], &[]));
+    tally.equal("c sheet", c.sheet, no_route_sheet(&[0, NO_WALK, NO_WALK, NO_WALK]));
     tally.equal("c work", c.work, vec![0; 16]);
     let d = plan(&blocked, 8, 0, 0);
     tally.equal("d", d.answer, route(0, 1, 1));
@@ -187,7 +236,7 @@ fn blocked_floors(tally: &mut Tally) {
     let f = plan(&half, 8, 0, 5);
     tally.equal("f", f.answer, refusal(7));
     let costs = [0, 408, NO_WALK, 408, 577, NO_WALK];
-    tally.equal("f sheet", f.sheet.clone(), sheet_of(&costs, &[0; 6], &[0; 6], &[0; 6], &[]));
+    tally.equal("f sheet", f.sheet.clone(), no_route_sheet(&costs));
     tally.equal("f checked", check(&half, 8, 0, 5, &f.sheet), 7);
     // As request 5 has it: 4 is the only pinch, so that no move joins the two open cells.
     let touching = Floor::new(2, 2, vec![1, 0, 0, 1]);
@@ -196,7 +245,7 @@ fn blocked_floors(tally: &mut Tally) {
     let g = plan(&touching, 8, 2, 6);
     tally.equal("g", g.answer, refusal(7));
     let costs = [NO_WALK, 408, 0, NO_WALK, NO_WALK, 408, NO_WALK, NO_WALK, NO_WALK];
-    tally.equal("g sheet", g.sheet.clone(), sheet_of(&costs, &[0; 9], &[0; 9], &[0; 9], &[]));
+    tally.equal("g sheet", g.sheet.clone(), no_route_sheet(&costs));
     tally.equal("g checked", check(&touching, 8, 2, 6, &g.sheet), 7);
 }
 
@@ -424,8 +473,9 @@ fn large_totals(tally: &mut Tally) {
     let over = plan(&Floor::open(34, 34), 4, 0, 35 * 35 - 1);
     tally.equal("j 34x34", over.answer, refusal(8));
     let zero = |values: &[u64]| values.iter().all(|&x| x == 0);
-    let left = zero(&over.sheet.f) && zero(&over.sheet.b) && over.sheet.route.iter().all(|&v| v == 0);
-    tally.holds("j 34x34 leaves f, b and route 0", left);
+    let points = over.sheet.route.iter().chain(&over.sheet.next);
+    let left = zero(&over.sheet.f) && zero(&over.sheet.b) && points.clone().all(|&v| v == 0);
+    tally.holds("j 34x34 leaves f, b, route and next 0", left);
     tally.holds("j 34x34 leaves the working slice 0", over.work.iter().all(|&x| x == 0));
     tally.equal("j 34x34 d", over.sheet.d[35 * 35 - 1], 68 * 408);
     tally.equal("j 34x34 e", over.sheet.e[0], 68 * 408);
@@ -435,6 +485,7 @@ fn large_totals(tally: &mut Tally) {
     tally.equal("k far distance", k.sheet.d[16_383], 254 * 408);
     tally.holds("k far count", binomial(254, 127).to_u64().is_none());
     tally.equal("k on the way", k.sheet.f.iter().filter(|&&count| count > 0).count(), 2);
+    tally.holds("k next", k.sheet.next[..2] == [1, 1] && k.sheet.next[2..].iter().all(|&v| v == 0));
 }
 
 /// Totals of 2^63, 2^64 - 1, 2^64 and above.
