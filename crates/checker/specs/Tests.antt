@@ -1,7 +1,7 @@
 -- The tests that the checker runs, in the order in which it runs them. Nobody has to believe these: laws in proofs/
 -- show that they say the same as `verdict`.
 --
---   numbersOf d e f b        == a sheet of these costs and counts, for what does not look at its route
+--   numbersOf d e f b        == a sheet of these costs and counts, for what looks at nothing else
 --   blankOf e f b r x        == a sheet of these slices, for what does not look at its costs from a
 --   chosenOf d e f b x       == a sheet of these slices, the last one for its route too, for what does not look at that
 --   walkOf r x n             == a sheet of this route, next vertices and point count, for what looks at nothing else

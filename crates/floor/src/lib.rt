@@ -78,7 +78,7 @@ pub fn cell_before(w: usize, h: usize, map: &[u8], x: usize, y: usize) -> Cell
 }
 
 // The number of bytes of a map, a bit to a cell: cell c is bit c % 8, from the low end, of byte c / 8. Only this,
-// `is_blocked`, `block_cell`, `copy_map`, `store_cells` and `unused_clear` know how a map is stored.
+// `is_blocked`, `block_cell`, `window_map`, `copy_map`, `store_cells` and `unused_clear` know how a map is stored.
 pub fn map_length(w: usize, h: usize) -> usize
     requires { ⌜ (w ≤ 127) × (h ≤ 127) ⌝ }
     ensures { λ r. ⌜ (r ≡ mapLength (w * h)) × (r ≤ 2017) ⌝ }

@@ -1,5 +1,5 @@
 -- What planner and checker know of a job whose shape is good. Nobody has to believe these: they stand in contracts of
--- functions behind the operations' doors, and `job-fit` shows that such a job has them.
+-- functions that only the operations call, and `job-fit` shows that such a job has them.
 --
 --   GoodJob w h map rows a b == the floor, the rows of the neighbourhood and both ends are good; no end is a pinch
 use Prim.Native.Nat.{ℕ, _<_}

@@ -5,8 +5,8 @@
 --   roomOf v             == the bytes that the lines of a job on v vertices may take: 160 for the route line, 6 for
 --                           each vertex of the next and 3 for its word and its end
 --   Ready ..             == a small floor, the slices lent for it, and room for the lines
---   JobPlanned ..        == the answer to a job, and after a route the route slice; what the planner leaves in the
---                           other slices is nobody's
+--   JobPlanned ..        == the answer to a job, and after a route the route slice; nothing is said of what the
+--                           planner leaves in the other slices
 --   answerKept f points kept r == what the slice of kept positions holds after the answer r, where it held `kept`
 --   keptLeft ..          == what the slice of kept positions holds after a job: the kept positions of its central
 --                           route, then 0; as it was where the job is refused
@@ -19,8 +19,8 @@
 --   bytesOf r            == the number of bytes that the turn r wrote
 --   Moves s c r, GoesOn s c r == the cursor that the turn r hands back, if any, has moved on from c and lies within the
 --                           input s, and a job is due there
---   TurnTold ..          == a turn's text with the rest is what the program writes from its cursor on; what the turn
---                           leaves in the other slices is nobody's
+--   TurnTold ..          == a turn's text with the rest is what the program writes from its cursor on; nothing is
+--                           said of what the turn leaves in the other slices
 use Prim.Native.Nat.{ℕ, _+_, _*_, _≤_, _<_}
 use mathlib.Core.Path.{_≡_}
 use mathlib.Core.Bool.{true}

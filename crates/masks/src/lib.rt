@@ -6,7 +6,7 @@ ghost use Prim.Native.Nat.{suc, _+_, _<_, _≤_};
 ghost use lib.ListN.{length};
 ghost use Rattle.basics.specs.Bounded.{pick};
 ghost use Rattle.basics.specs.Bits.{bitsOf};
-ghost use Rattle.floor.specs.Floor.{Sized, floorOf, vertices, number, column, row};
+ghost use Rattle.floor.specs.Floor.{Sized, floorOf, vertices, number};
 ghost use Rattle.sight.specs.Sight.{unblocked};
 ghost use Rattle.moves.specs.Moves.{moves, moveOf};
 ghost use Rattle.moves.specs.Steps.{endIf, isSome};
@@ -14,7 +14,6 @@ ghost use Rattle.moves.specs.Table.{Short, OnFloor};
 ghost use Rattle.masks.specs.Masks.{rowIf, OpenMasks, leavingMask, LeavingRow, LeavingTo};
 ghost use Rattle.masks.specs.Windows.{pairAt, WindowMask, WindowsTo};
 ghost use Rattle.masks.specs.Masks.{Cleared, WithoutBit, turnedRow, ClearsRow, ClearsTo};
-use floor::Vertex;
 use moves::MOVES;
 use moves::Step;
 
@@ -95,14 +94,6 @@ fn leaving_at(w: usize, h: usize, map: &[u8], x: usize, y: usize) -> u32
     )
 }
 
-// The mask of the moves that leave vertex v.
-pub fn leaving_moves(w: usize, h: usize, map: &[u8], v: Vertex) -> u32
-    requires { ⌜ Sized w h (now map) × (v .0 < vertices w h) ⌝ }
-    ensures { λ r. ⌜ r ≡ leavingMask (floorOf w h (now (map .entry))) (column w (v .0)) (row w (v .0)) ⌝ }
-{
-    leaving_at(w, h, map, floor::column_of(w, v), floor::row_of(w, h, v))
-}
-
 // The masks of the vertices of row y.
 fn edge_row(w: usize, h: usize, map: &[u8], y: usize) -> [u32; 128]
     requires { ⌜ Sized w h (now map) × (y ≤ h) ⌝ }
@@ -123,7 +114,7 @@ fn window_mask(b: u8) -> u32
     leaving_at(2, 2, &map, 1, 1)
 }
 
-// These masks for all sixteen: what is asked of sight is asked of these floors, once for each operation.
+// These masks for all sixteen: what is asked of sight is asked of these floors, once for each pass over the floor.
 pub fn window_masks() -> [u32; 16]
     ensures { λ r. ⌜ WindowsTo 16 r ⌝ }
 {

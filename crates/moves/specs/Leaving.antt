@@ -1,5 +1,5 @@
--- A move as one of its ends sees it. Nobody has to believe these: a law in proofs/ shows that a move is open exactly when
--- it can be left for from both of its ends.
+-- The test of a move that looks at the pinch of its first end alone. Nobody has to believe these: a law in proofs/ shows
+-- that a move is open exactly when it passes this test from both of its ends.
 --
 --   leaves f s         == no cell and no step is in the way of s, and its first end is no pinch
 --   leavingEnd f m v   == the vertex to which move m leads from vertex v, where it is on the floor and v can be left so

@@ -2,8 +2,8 @@
 // the central route.
 //
 // The moves are read in one form: the rows of the neighbourhood, with their costs in the table; by how much the move of
-// each row changes a vertex number, as `offsets::shifts_of` has it; and the mask of the vertex's open moves. The shifts are
-// lent, since an array passed by value would be copied at each vertex.
+// each row changes a vertex number, as `offsets::shifts_of` has it; and a mask of the vertex's moves, the open ones or those
+// that leave it. The shifts are lent, since an array passed by value would be copied at each vertex.
 ghost use mathlib.Core.Path.{_≡_};
 ghost use mathlib.Core.Bool.{_&&_, true, false};
 ghost use Prim.Native.Nat.{_<_, _≤_, _^_};

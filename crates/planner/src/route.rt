@@ -13,7 +13,7 @@ use neighbours::Next;
 const PART: usize = 64;
 
 // The next vertex of v as the sheet has it, by the costs and counts and the mask of v: off the way 0, at b b itself. On
-// the way before b there always is one.
+// the way before b there is one, by the true numbers; where a choice finds none, 0.
 fn next_number(
     rows: Rows,
     shifts: &[usize],

@@ -150,8 +150,8 @@ fn blockage_along(
     scan::far_blockage(w, h, map, x0, y0, x1, y1)
 }
 
-// What is in the way: a blocked cell or a shut step, wherever it is, else the pinch nearest the first end. A segment
-// of no length passes no pinch.
+// What is in the way: a blocked cell or a shut step, wherever it is, else the pinch nearest the first end. No
+// pinch is in the way of a segment of no length.
 fn look_along(
     w: usize,
     h: usize,

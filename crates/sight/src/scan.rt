@@ -189,8 +189,8 @@ fn row_obstacle(
 }
 
 // The first blocked cell entered, row by row from the first end. The cells entered rise like stairs, so it is also the
-// first by columns. Where the segment crosses a row line is carried from row to row: the first row alone has a
-// division.
+// first by columns. Where the segment crosses a row line is carried from row to row: the one division stands
+// before the loop.
 fn slanted_obstacle(
     w: usize,
     h: usize,
