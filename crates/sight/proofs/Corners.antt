@@ -1,19 +1,31 @@
--- What is in the way of a unit segment is told by the four cells at its first end: two floors with the same four cells at two
--- vertices answer the same of the same step from them.
+-- What is in the way of a unit segment is told by the four cells at its first end: two floors with the same four cells
+-- at two vertices answer the same of the same step from them. What is in the way of a segment of one column and at most
+-- two rows, or of one row and at most two columns, is told by each of its two coordinates in turn.
 --
 --   Corners f g x y u v  == the four cells at the vertex (x, y) of f read as those at (u, v) of g
 --   Alike x i u p        == p is as far from u, and on the same side, as i from x, by at most one
 --   unit-corners, pinch-corners == the law, and that of a pinch
-use Prim.Native.Nat.{ℕ, suc, _+_, _≤_, max}
+--   axisBlocked n b p    == of one coordinate that goes n lines, with b the higher of its two ends, and p the blocked
+--                           cells: both cells beside b are blocked, where n is 0; the one before b is, where n is 1;
+--                           one of the two before b is, where n is 2
+--   narrow-unblocked     == such a segment by its two coordinates
+use Prim.Native.Nat.{ℕ, zero, suc, _-_, _≤_, max}
 use mathlib.Core.Path.{_≡_, refl, sym, ap, ap₂, _∙_}
-use mathlib.Core.Bool.{Bool, _&&_, not}
-use mathlib.Core.Logic.{_⊎_, inl, inr, ⊎-elim}
+use mathlib.Core.Bool.{Bool, _&&_, _||_, not}
+use mathlib.Core.Logic.{_⊎_, inl, inr}
 use native.Mathlib.Omega.{arith}
 use Rattle.floor.specs.Floor.{Floor, blocked}
 use Rattle.sight.specs.Sight.{segmentOf, unblocked, pinch}
 use Rattle.sight.specs.Obstacle.{span}
 use Rattle.sight.specs.Travel.{Ends}
-use Rattle.sight.proofs.Unit.{unit-still, unit-upright, unit-level, unit-slanted}
+use Rattle.sight.proofs.Unit.{
+  unit-still,
+  unit-upright,
+  unit-level,
+  unit-slanted,
+  two-columns,
+  two-rows,
+}
 
 pub record Corners (f g : Floor) (x y u v : ℕ) : Type 0 where
   pub upper-left : blocked f x y ≡ blocked g u v
@@ -86,3 +98,40 @@ module _ {f g : Floor} {x y u v : ℕ} (C : Corners f g x y u v) {i j p q : ℕ}
 pub pinch-corners : {f g : Floor} {x y u v : ℕ} → Corners f g x y u v → pinch f x y ≡ pinch g u v
 unfolding pinch
 pinch-corners C = rw (C .upper-left, C .upper-right, C .lower-left, C .lower-right)
+
+-- ---- one column or one row, and at most two of the other
+
+-- The cell before a line has the line's number, as in `blocked`.
+unfoldable pub axisBlocked : ℕ → ℕ → (ℕ → Bool) → Bool
+axisBlocked zero b p = p b && p (suc b)
+axisBlocked (suc zero) b p = p b
+axisBlocked (suc (suc n)) b p = p (b - 1) || p b
+
+-- Of a coordinate that stays, either end is the higher.
+high-none : (a b : ℕ) → span a b ≡ 0 → max a b ≡ a
+unfolding span
+high-none a b n = omega arith
+
+module _ (f : Floor) (x y i j : ℕ) (e : Ends (f .wide) (f .high) x y i j) where
+  one-column : (n : ℕ) → span x i ≡ 1 → span y j ≡ n → n ≤ 2
+      → unblocked f (segmentOf x y i j) ≡ not (axisBlocked n (max y j) (blocked f (max x i)))
+  unfolding axisBlocked
+  one-column zero p q l = rw (high-none y j q) (unit-level f x y i j e p q)
+  one-column (suc zero) p q l = unit-slanted f x y i j e p q
+  one-column (suc (suc zero)) p q l = two-rows f x y i j e p q
+  one-column (suc (suc (suc n))) p q l = absurd (omega arith)
+
+  one-row : (n : ℕ) → span x i ≡ n → span y j ≡ 1 → n ≤ 2
+      → unblocked f (segmentOf x y i j) ≡ not (axisBlocked n (max x i) (λ u. blocked f u (max y j)))
+  unfolding axisBlocked
+  one-row zero p q l = rw (high-none x i p) (unit-upright f x y i j e p q)
+  one-row (suc zero) p q l = unit-slanted f x y i j e p q
+  one-row (suc (suc zero)) p q l = two-columns f x y i j e p q
+  one-row (suc (suc (suc n))) p q l = absurd (omega arith)
+
+  pub narrow-unblocked : (span x i ≡ 1) ⊎ (span y j ≡ 1) → span x i ≤ 2 → span y j ≤ 2
+      → unblocked f (segmentOf x y i j)
+      ≡ not (axisBlocked (span x i) (max x i) (λ u. axisBlocked (span y j) (max y j) (blocked f u)))
+  unfolding axisBlocked
+  narrow-unblocked (inl p) c r = rw p (one-column (span y j) p refl r)
+  narrow-unblocked (inr q) c r = rw q (one-row (span x i) refl q c)

@@ -1,12 +1,15 @@
--- A unit segment reads the two cells beside it along a grid line, and one cell across a diagonal.
+-- A unit segment reads the two cells beside it along a grid line, and one cell across a diagonal; a segment of two
+-- columns and one row, or of one column and two rows, the two cells that it enters.
 --
 --   unit-still, -upright, -level, -slanted == whether no cell and no step is in the way, of two ends at most one column
 --                                             and one row apart
+--   two-columns, two-rows                  == the same of two ends two columns and one row apart, and one and two
+--   two-cells                              == both at once, as the code reads the cells
 --   unit-clear                             == none is named where none is
 --   upright-step, level-step, slanted-cell == the one that is named
-use Prim.Native.Nat.{ℕ, suc, _-_, _≤_, max}
-use mathlib.Core.Path.{_≡_, sym, ap, ap₂, _∙_}
-use mathlib.Core.Bool.{Bool, true, false, not, and-true}
+use Prim.Native.Nat.{ℕ, suc, _+_, _-_, _≤_, max}
+use mathlib.Core.Path.{_≡_, refl, sym, ap, ap₂, _∙_}
+use mathlib.Core.Bool.{Bool, true, false, _&&_, _||_, not, and-true, and-comm}
 use mathlib.Core.Logic.{⊎-elim, _≢_}
 use native.Mathlib.Omega.{arith}
 use Rattle.basics.specs.Bounded.{every}
@@ -55,9 +58,34 @@ module _ (a b : ℕ) (n : span a b ≡ 1) where
   cell-one =
       ⊎-elim (λ h. omega (arith, cellOn-up a b 0 h)) (λ h. omega (arith, cellOn-down a b 0 h)) (le-or-lt a b)
 
+-- The two cells between them are the one before the higher and the one before that.
+both-open : (a b : ℕ) (p : ℕ → Bool) → span a b ≡ 2
+    → (not (p (suc (cellOn a b 0))) && not (p (suc (cellOn a b 1)))) ≡ not (p (max a b - 1) || p (max a b))
+unfolding span
+both-open a b p n =
+    ⊎-elim
+    (λ h.
+    let c : suc (cellOn a b 0) ≡ max a b - 1 = omega (arith, cellOn-up a b 0 h) in
+    let d : suc (cellOn a b 1) ≡ max a b = omega (arith, cellOn-up a b 1 h) in
+    rw (c, d) (neither (p (max a b - 1)) (p (max a b))))
+    (λ h.
+    let c : suc (cellOn a b 0) ≡ max a b = omega (arith, cellOn-down a b 0 h) in
+    let d : suc (cellOn a b 1) ≡ max a b - 1 = omega (arith, cellOn-down a b 1 h) in
+    rw (c, d)
+    (and-comm (not (p (max a b))) (not (p (max a b - 1))) ∙ neither (p (max a b - 1)) (p (max a b))))
+    (le-or-lt a b)
+  where
+    neither : (c d : Bool) → (not c && not d) ≡ not (c || d)
+    neither true d = refl
+    neither false d = refl
+
 every-one : (n : ℕ) (p : ℕ → Bool) → n ≡ 1 → every n p ≡ p 0
 unfolding every
 every-one n p e = rw e
+
+every-two : (n : ℕ) (p : ℕ → Bool) → n ≡ 2 → every n p ≡ (p 0 && p 1)
+unfolding every
+every-two n p e = rw e
 
 first-one : (n : ℕ) (F : ℕ → Obstacle) → n ≡ 1 → first n F ≡ F 0
 unfolding first
@@ -93,6 +121,52 @@ module _ (f : Floor) (x0 y0 x1 y1 : ℕ) (e : Ends (f .wide) (f .high) x0 y0 x1 
   unit-slanted p q =
       slanted-sees f x0 y0 x1 y1 e (apart x0 x1 p) (apart y0 y1 q) ∙ every-one (span y0 y1) (rowFree f s) q
       ∙ every-one (span x0 x1) (cellFree f s 0) p ∙ free-one p q
+
+  -- ---- two columns and one row, or one and two
+
+  pub two-columns : span x0 x1 ≡ 2 → span y0 y1 ≡ 1
+      → unblocked f s ≡ not (blocked f (max x0 x1 - 1) (max y0 y1) || blocked f (max x0 x1) (max y0 y1))
+  unfolding rowFree cellFree touches span
+  two-columns p q =
+      let y = max y0 y1 in
+      slanted-sees f x0 y0 x1 y1 e (λ z. omega arith) (λ z. omega arith) ∙ every-one (span y0 y1) (rowFree f s) q
+      ∙ every-two (span x0 x1) (cellFree f s 0) p
+      ∙ rw (cell-one y0 y1 q, p, q)
+      (ap₂ (λ a b. not a && not b) (and-true (blocked f (suc (cellOn x0 x1 0)) y))
+      (and-true (blocked f (suc (cellOn x0 x1 1)) y)))
+      ∙ both-open x0 x1 (λ x. blocked f x y) p
+
+  pub two-rows : span x0 x1 ≡ 1 → span y0 y1 ≡ 2
+      → unblocked f s ≡ not (blocked f (max x0 x1) (max y0 y1 - 1) || blocked f (max x0 x1) (max y0 y1))
+  unfolding rowFree cellFree touches span
+  two-rows p q =
+      let x = max x0 x1 in
+      slanted-sees f x0 y0 x1 y1 e (λ z. omega arith) (λ z. omega arith) ∙ every-two (span y0 y1) (rowFree f s) q
+      ∙ ap₂ _&&_ (every-one (span x0 x1) (cellFree f s 0) p) (every-one (span x0 x1) (cellFree f s 1) p)
+      ∙ rw (cell-one x0 x1 p, p, q)
+      (ap₂ (λ a b. not a && not b) (and-true (blocked f x (suc (cellOn y0 y1 0))))
+      (and-true (blocked f x (suc (cellOn y0 y1 1)))))
+      ∙ both-open y0 y1 (blocked f x) q
+
+  -- The last cell in both ways, and the one before it in the way that is two long.
+  pub two-cells : span x0 x1 ≤ 2 → span y0 y1 ≤ 2 → span x0 x1 + span y0 y1 ≡ 3
+      → unblocked f s
+      ≡ not (blocked f (max x0 x1 + 1 - span x0 x1) (max y0 y1 + 1 - span y0 y1)
+      || blocked f (max x0 x1) (max y0 y1))
+  two-cells c r t =
+      ⊎-elim
+      (λ h.
+      let p : span x0 x1 ≡ 1 = omega arith in
+      let q : span y0 y1 ≡ 2 = omega arith in
+      let x : max x0 x1 + 1 - 1 ≡ max x0 x1 = omega arith in
+      let y : max y0 y1 + 1 - 2 ≡ max y0 y1 - 1 = omega arith in
+      rw (p, q, x, y) (two-rows p q))
+      (λ h.
+      let p : span x0 x1 ≡ 2 = omega arith in
+      let q : span y0 y1 ≡ 1 = omega arith in
+      let x : max x0 x1 + 1 - 2 ≡ max x0 x1 - 1 = omega arith in
+      let y : max y0 y1 + 1 - 1 ≡ max y0 y1 = omega arith in
+      rw (p, q, x, y) (two-columns p q)) (le-or-lt (span x0 x1) 1)
 
   -- ---- what is in the way
 

@@ -1,6 +1,6 @@
 // Line of sight between two vertices of a floor, and the sight question.
 ghost use mathlib.Core.Path.{_≡_};
-ghost use Prim.Native.Nat.{_<_, _≤_, max};
+ghost use Prim.Native.Nat.{_+_, _<_, _≤_, max};
 ghost use Rattle.floor.specs.Floor.{Sized, floorOf, vertices};
 ghost use Rattle.floor.specs.Refusals.{floorShape, endShape, andThen};
 ghost use Rattle.sight.specs.Sight.{segmentOf, segment, unblocked, pinch, sees};
@@ -182,9 +182,38 @@ fn look_along(
     pinches::nearest_pinch(w, h, map, x0, y0, x1, y1, columns, rows)
 }
 
+// Whether no blocked cell is in the way between two vertices two columns and one row apart, or one column and two rows.
+// The segment enters two cells and goes along no grid line. The last of them, by column and by row, is the one before
+// the higher lines; the other stands before it in its row or in its column. Both are read in any case, so that no
+// branch hangs on a cell.
+fn two_cells_unblocked(
+    w: usize,
+    h: usize,
+    map: &[u8],
+    x0: usize,
+    y0: usize,
+    x1: usize,
+    y1: usize,
+    columns: usize,
+    rows: usize,
+) -> bool
+    requires { ⌜ Sized w h (now map) × Ends w h x0 y0 x1 y1 × Apart x0 y0 x1 y1 columns rows
+        × (columns ≤ 2) × (rows ≤ 2) × (columns + rows ≡ 3) ⌝ }
+    ensures { λ r. ⌜ r ≡ unblocked (floorOf w h (now (map .entry))) (segmentOf x0 y0 x1 y1) ⌝ }
+{
+    let x = higher(x0, x1);
+    let y = higher(y0, y1);
+    let other = floor::blocked_at(w, h, map, x + 1 - columns, y + 1 - rows);
+    let last = floor::blocked_at(w, h, map, x, y);
+    if other {
+        return false;
+    }
+    !last
+}
+
 // Whether no blocked cell and no shut step is in the way between two vertices, `columns` and `rows` apart: what a move
-// has to ask beside the pinches at its ends. A caller with constant lengths, as for the moves of a table, spares the
-// tests of them.
+// has to ask beside the pinches at its ends. Of the segments of a move it reads the cells alone, and of others makes a
+// scan. A caller with constant lengths, as for the moves of a table, spares the tests of them.
 pub fn is_unblocked(
     w: usize,
     h: usize,
@@ -199,6 +228,18 @@ pub fn is_unblocked(
     requires { ⌜ Sized w h (now map) × Ends w h x0 y0 x1 y1 × Apart x0 y0 x1 y1 columns rows ⌝ }
     ensures { λ r. ⌜ r ≡ unblocked (floorOf w h (now (map .entry))) (segmentOf x0 y0 x1 y1) ⌝ }
 {
+    if columns <= 1 {
+        if rows <= 1 {
+            return unit_unblocked(w, h, map, x0, y0, x1, y1, columns, rows);
+        }
+    }
+    if columns <= 2 {
+        if rows <= 2 {
+            if columns + rows == 3 {
+                return two_cells_unblocked(w, h, map, x0, y0, x1, y1, columns, rows);
+            }
+        }
+    }
     is_clear(blockage_along(w, h, map, x0, y0, x1, y1, columns, rows))
 }
 
