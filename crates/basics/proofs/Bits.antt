@@ -6,6 +6,7 @@
 --   bit-zero == 0 has no bit
 --   pow-bit  == 2^j has bit j and no other
 --   bit-high == the bits of n from j on are those of n / 2^j
+--   row-bit  == 2^j where a test holds, else 0, has bit j where it holds
 --   bits-at  == the number made of a test's bits has those bits, and no others
 --   bits-cong == tests that agree below n make the same number
 --   byte-of-bits == a byte is the number made of its bits
@@ -124,7 +125,7 @@ without-bit n k j =
     rest true b = refl
     rest false b = refl
 
-row-bit : (t : Bool) (j k : ℕ) → bit (pick t (2 ^ j) 0) k ≡ (t && eqb j k)
+pub row-bit : (t : Bool) (j k : ℕ) → bit (pick t (2 ^ j) 0) k ≡ (t && eqb j k)
 row-bit true j k = pow-bit j k
 row-bit false j k = bit-zero k
 

@@ -21,7 +21,7 @@ use Rattle.floor.specs.Floor.{floorOf, number}
 use Rattle.floor.proofs.Numbers.{number-lt}
 use Rattle.moves.specs.declared.Rows.{Rows}
 use Rattle.moves.specs.Table.{OnFloor}
-use Rattle.masks.specs.Masks.{leavingMask}
+use Rattle.masks.specs.Masks.{Leaving}
 use Rattle.offsets.specs.Offsets.{Shifts}
 use Rattle.paths.specs.Graph.{Graph}
 use Rattle.paths.specs.Distance.{unreachable}
@@ -105,7 +105,7 @@ unfolding nextsTest
 nexts-rows w h l r b s = sym (every-rows (suc h) (suc w) (rightNext (floorGraph (floorOf w h l) r) b s))
 
 module _ {w h : ℕ} {l : List ℕ} {r : Rows} {b : ℕ} {s : Sheet} (p : Choosable w h l r b s) {m : List ℕ}
-    (S : Shifts w m) {x y mask v : ℕ} (o : OnFloor w h x y) (k : mask ≡ leavingMask (floorOf w h l) x y)
+    (S : Shifts w r m) {x y mask v : ℕ} (o : OnFloor w h x y) (k : Leaving (floorOf w h l) r x y mask)
     (numbered : v ≡ number w x y) where
   abbrev g : Graph
   g = floorGraph (floorOf w h l) r

@@ -17,7 +17,7 @@ use Rattle.floor.proofs.Numbers.{number-lt}
 use Rattle.moves.specs.declared.Rows.{Rows}
 use Rattle.moves.specs.Table.{OnFloor}
 use Rattle.moves.specs.Leaving.{leaves}
-use Rattle.masks.specs.Masks.{MaskAt, leavingMask}
+use Rattle.masks.specs.Masks.{MaskAt, Leaving}
 use Rattle.masks.proofs.Masks.{mask-number}
 use Rattle.offsets.specs.Offsets.{Shifts}
 use Rattle.paths.specs.Graph.{Graph}
@@ -49,7 +49,7 @@ vertices-rows w h l r j a b s = sym (every-rows (suc h) (suc w) (vertexTest j (l
 -- What the loop finds of the vertex in column x, said of the graph of the moves that leave: a flag falls where a test
 -- fails, and stays where it holds.
 module _ {w h : ℕ} {l : List ℕ} {r : Rows} {a b : ℕ} {s : Sheet} (p : Posed w h l r a b s) {m : List ℕ}
-    (S : Shifts w m) {x y mask v : ℕ} (o : OnFloor w h x y) (k : mask ≡ leavingMask (floorOf w h l) x y)
+    (S : Shifts w r m) {x y mask v : ℕ} (o : OnFloor w h x y) (k : Leaving (floorOf w h l) r x y mask)
     (numbered : v ≡ number w x y) where
   abbrev g : Graph
   g = leavingGraph (floorOf w h l) r
@@ -57,7 +57,7 @@ module _ {w h : ℕ} {l : List ℕ} {r : Rows} {a b : ℕ} {s : Sheet} (p : Pose
   inside : number w x y < vertices w h
   inside = number-lt w h x y (o .column) (o .row)
 
-  pub column-mask : MaskAt leaves (floorOf w h l) (number w x y) mask
+  pub column-mask : MaskAt leaves (floorOf w h l) r (number w x y) mask
   column-mask = mask-number (floorOf w h l) x y (o .column) k
 
   pub column-readable : Readable (length (s .d)) r m mask v

@@ -63,7 +63,7 @@ module _ {w h : ℕ} {l : List ℕ} {r : Rows} {a b : ℕ} {s : Sheet} (p : Pose
     next = p .shape .next ∙ sym (p .shape .d);
   }
 
-  module _ {m : List ℕ} (S : Shifts w m) {mask v : ℕ} (i : v < vertices w h) (o : MaskAt leaves (floorOf w h l) v mask) where
+  module _ {m : List ℕ} (S : Shifts w r m) {mask v : ℕ} (i : v < vertices w h) (o : MaskAt leaves (floorOf w h l) r v mask) where
     shown : Shows (leavingGraph (floorOf w h l) r) r m mask v
     shown =
         mask-shows leaves (floorOf w h l) r (listed-lawful (p .job .listed)) S (p .job .sized .wide)

@@ -69,7 +69,7 @@ fn row_right(
     y: usize,
 ) -> bool
     requires { ⌜ Choosable w h (now map) rows b (chosenOf (now d) (now e) (now f) (now back) (now next)) × (y ≤ h)
-        × WindowsTo 16 windows ⌝ }
+        × WindowsTo rows 16 windows ⌝ }
     ensures { λ r. ⌜ r ≡ nextRowTest (floorGraph (floorOf w h (now (map .entry))) rows) b
         (chosenOf (now (d .entry)) (now (e .entry)) (now (f .entry)) (now (back .entry)) (now (next .entry))) w y ⌝ }
 {
@@ -78,8 +78,8 @@ fn row_right(
     if !neighbours::any_on_way(d, e, b, first, past) {
         return crate::zeros::all_zero(next, first, past);
     }
-    let shifts = offsets::shifts_of(w);
-    let leaving = masks::leaving_row(w, h, map, y, windows);
+    let shifts = offsets::shifts_of(w, rows);
+    let leaving = masks::leaving_row(w, h, map, rows, y, windows);
     let mut right = true;
     for x in 0..w + 1 {
         if !next_right(rows, &shifts, leaving[x], b, d, e, f, back, next, first + x) {
@@ -108,7 +108,7 @@ pub fn nexts_right(
         (chosenOf (now (d .entry)) (now (e .entry)) (now (f .entry)) (now (back .entry)) (now (next .entry))) ⌝ }
 {
     let goal = b.0;
-    let windows = masks::window_masks();
+    let windows = masks::window_masks(rows);
     for y in 0..h + 1 {
         if !row_right(w, h, map, rows, goal, d, e, f, back, next, windows, y) {
             return false;

@@ -151,14 +151,14 @@ fn row_right(
     y: usize,
 ) -> bool
     requires { ⌜ Posed w h (now map) rows a b
-        (sheetOf (now d) (now e) (now f) (now back) (now route) (now next) 0) × (y ≤ h) × WindowsTo 16 windows ⌝ }
+        (sheetOf (now d) (now e) (now f) (now back) (now route) (now next) 0) × (y ≤ h) × WindowsTo rows 16 windows ⌝ }
     ensures { λ r. ⌜ r ≡ rowTest joined (leavingGraph (floorOf w h (now (map .entry))) rows) a b
         (sheetOf (now (d .entry)) (now (e .entry)) (now (f .entry)) (now (back .entry)) (now (route .entry))
         (now (next .entry)) 0) w y ⌝ }
 {
-    let shifts = offsets::shifts_of(w);
+    let shifts = offsets::shifts_of(w, rows);
     let classes = offsets::classes_of(rows);
-    let leaving = masks::leaving_row(w, h, map, y, windows);
+    let leaving = masks::leaving_row(w, h, map, rows, y, windows);
     let first = y * (w + 1);
     let mut right = true;
     for x in 0..w + 1 {
@@ -210,7 +210,7 @@ pub fn vertices_right(
 {
     let start = a.0;
     let goal = b.0;
-    let windows = masks::window_masks();
+    let windows = masks::window_masks(rows);
     for y in 0..h + 1 {
         if !row_right(
             w,

@@ -29,11 +29,11 @@ pub costing-on : {w h : ℕ} {map : List ℕ} {r : Rows} {a : ℕ} {d work work�
 costing-on J e = record { job = J .job; d-len = J .d-len; work-len = e ∙ J .work-len }
 
 module _ {w h : ℕ} {map : List ℕ} {r : Rows} {a : ℕ} {d work : List ℕ} (J : Costing w h map r a d work)
-    (o : MasksIn (floorOf w h map) work) where
+    (o : MasksIn (floorOf w h map) r work) where
   abbrev f : Floor
   f = floorOf w h map
 
-  pub mergeable : {shifts : List ℕ} {l : List Class} {x : ℕ} → Shifts w shifts → Classes r l → x < vertices w h
+  pub mergeable : {shifts : List ℕ} {l : List Class} {x : ℕ} → Shifts w r shifts → Classes r l → x < vertices w h
       → Mergeable (floorGraph f r) r shifts l x d work
   mergeable s C inside =
       let lawful = listed-lawful (J .job .listed) in

@@ -9,7 +9,7 @@
 --   farAt ..         == where a row leads from a vertex by its mask: the vertex itself where that move is shut
 --   far-at           == the same for the vertex, its mask and the row as the code reads them
 --   vertex-in        == the vertex that is relaxed is one of the graph's
---   row-low          == the first row of the class is below 32
+--   row-low          == the next row is below 32
 --   reaching         == the far end of the next row can be worked out
 --   offering         == and be offered the key
 --   relaxed-more     == after that the row is relaxed too
@@ -155,8 +155,8 @@ module _ {g : Graph} {r : Rows} {shifts : List ℕ} {c : Class} {a p key n : ℕ
     movable : Movable mask u k (shiftedBy shifts k)
     movable = rw is (rw (move .2) at (shown .readable .movable (move .0) (move .1)))
 
-    pub row-low : c .row < 32
-    row-low = omega (arith, movable .row)
+    pub row-low : k < 32
+    row-low = movable .row
 
     pub reaching : (k < length shifts) × Movable mask u k (shiftedBy shifts k)
     reaching =

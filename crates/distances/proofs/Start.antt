@@ -1,14 +1,17 @@
 -- The start of the merge: the source alone is settled, at cost 0.
 --
---   start-rest      == past the order the working slice is as it was
---   mergeable-start == where the merge could start, it can go on with the source settled
---   merging-start   == the invariant before the first turn
+--   classes-four    == the classes of an array, read one by one
+--   classes-two     == the same where the last two have no move
+--   begun-four      == where the merge could start, it can go on with the source settled, by four classes
+--   begun-two       == and by two, where the last two have no move
+--   costs-begun     == what it leaves then, told from where the merge started
 --   First v c p     == p is where the position of class c starts: at 0, or past v vertices for a class of no move
---   two-first       == so are two positions
---   classes-read    == the classes of an array, read one by one
+--   four-first      == so are the positions of four classes, the last two at one
+--   merging-start   == the invariant before the first turn
 use Prim.Native.Nat.{ℕ, zero, suc, _*_, _≤_, _<_}
 use mathlib.Core.Path.{_≡_, refl, sym, ap, _∙_, subst}
 use mathlib.Core.Logic.{⊎-elim}
+use mathlib.Core.Bool.{true}
 use mathlib.Core.List.{List, [], _∷_}
 use native.Mathlib.Omega.{arith}
 use borrow.Author.Tests.{le-ltb}
@@ -20,13 +23,17 @@ use Rattle.basics.proofs.Bounded.{pick-no}
 use Rattle.moves.specs.declared.Rows.{Rows}
 use Rattle.offsets.specs.declared.Class.{Class}
 use Rattle.moves.specs.Moves.{moveAt}
-use Rattle.offsets.specs.Classes.{classCount, Member, CostClass, Classes, classAt}
+use Rattle.moves.specs.Table.{lawfulRows}
+use Rattle.moves.proofs.Table.{lawful-move}
+use Rattle.offsets.specs.Classes.{classCount, Member, CostClass, Classes, classOf, classAt}
 use Rattle.paths.specs.Graph.{Graph}
 use Rattle.paths.specs.Distance.{unreachable}
 use Rattle.paths.specs.Local.{entry}
 use Rattle.paths.proofs.Listing.{HasWalk, stop}
 use Rattle.workspace.proofs.Regions.{masked-kept}
+use Rattle.distances.specs.Costs.{SettledCosts}
 use Rattle.distances.specs.Merge.{reached, Settled, Merging, Mergeable}
+use Rattle.distances.specs.Merge.{OnlySource, Begun, twoClasses, fourClasses}
 use Rattle.distances.proofs.Store.{reached-set}
 
 pub record First (v : ℕ) (c : Class) (p : ℕ) : Type 0 where
@@ -93,62 +100,122 @@ module _ (g : Graph) (a : ℕ) (work : List ℕ) (few : g .size ≤ 16384) (i : 
     bounded = λ j h. omega (arith, cost-0 j h);
   }
 
-  merging-first : (r : Rows) (l : List Class) (pos d : List ℕ) → d ≡ none
-      → ((k : ℕ) → k < classCount → First (g .size) (classAt l k) (getD pos k 0))
-      → Merging g r a 1 l pos (set d a 0) work₀ work₀
-  merging-first r l pos d e firsts = rw e (record {
-    settled = settled-start;
-    passed = λ k h. record {
-      unused = λ z. omega (arith, firsts k h .past z);
-      room = λ f. omega (arith, firsts k h .zeroth f);
-      relaxed = λ f j m w p M lt. absurd (omega (arith, firsts k h .zeroth f));
-      pending = λ j h p. omega (arith, cost-0 j h);
-    };
-    rest = λ j h. refl;
-  })
-
-pub start-rest : {v : ℕ} (work : List ℕ) (a j : ℕ) → v < j → entry (set work 0 a) j ≡ entry work j
+start-rest : {v : ℕ} (work : List ℕ) (a j : ℕ) → v < j → entry (set work 0 a) j ≡ entry work j
 start-rest work a j h = getD-set-other work 0 j a 0 (λ e. omega arith)
 
-pub two-first : {v : ℕ} (c₀ c₁ : Class) (p q : ℕ) → First v c₀ p → First v c₁ q
-    → (k : ℕ) → k < classCount → First v (classAt (c₀ ∷ c₁ ∷ []) k) (getD (p ∷ q ∷ []) k 0)
-two-first c₀ c₁ p q x y zero h = x
-two-first c₀ c₁ p q x y (suc zero) h = y
-two-first c₀ c₁ p q x y (suc (suc k)) h = absurd (omega arith)
+-- ---- the classes, one by one
 
--- the classes of an array, read one by one
-classes-read : {r : Rows} {l : List Class} → Classes r l → Classes r (classAt l 0 ∷ classAt l 1 ∷ [])
-classes-read {r} {l} C = record {
+pub classes-four : {r : Rows} {l : List Class} → Classes r l
+    → Classes r (fourClasses (classAt l 0) (classAt l 1) (classAt l 2) (classAt l 3))
+classes-four {r} {l} C = record {
   each = λ k h. subst (CostClass r) (sym (same k h)) (C .each k h);
   covers = λ m lt. let q = C .covers m lt in
       let e = sym (same (q .0) (q .1)) in
       (q .0, q .1, subst (λ c. Member r c m) e (q .2), subst (λ (c : Class). moveAt r m .cost ≡ c .cost) e (q .3));
+  paired = C .paired;
 }
   where
-    same : (k : ℕ) → k < classCount → classAt (classAt l 0 ∷ classAt l 1 ∷ []) k ≡ classAt l k
+    same : (k : ℕ) → k < classCount
+        → classAt (fourClasses (classAt l 0) (classAt l 1) (classAt l 2) (classAt l 3)) k ≡ classAt l k
     same zero h = refl
     same (suc zero) h = refl
-    same (suc (suc k)) h = absurd (omega arith)
+    same (suc (suc zero)) h = refl
+    same (suc (suc (suc zero))) h = refl
+    same (suc (suc (suc (suc k)))) h = absurd (omega arith)
 
-module _ {g : Graph} {r : Rows} {shifts : List ℕ} {l : List Class} {a : ℕ} where
-  pub mergeable-start : {d work : List ℕ} (d′ : List ℕ) → Mergeable g r shifts l a d work → length d′ ≡ length d
-      → Mergeable g r shifts (classAt l 0 ∷ classAt l 1 ∷ []) a (set d′ a 0) (set work 0 a)
-  mergeable-start {work = work} d′ M same = record {
-    few = M .few;
-    lawful = M .lawful;
-    masked = masked-kept (M .masked) (start-rest work a);
-    classes = classes-read (M .classes);
-    source = M .source;
-    d-len = length-set d′ a 0 ∙ same ∙ M .d-len;
-    work-len = length-set work 0 a ∙ M .work-len;
-  }
+pub classes-two : {r : Rows} {l : List Class} → lawfulRows r ≡ true → Classes r l → classAt l 2 .cost ≡ 0
+    → Classes r (twoClasses (classAt l 0) (classAt l 1))
+classes-two {r} {l} lawful C bare = record {
+  each = each;
+  covers = λ m lt. let q = C .covers m lt in one-of m lt (q .0) (q .1) (q .2) (q .3);
+  paired = refl;
+}
+  where
+    l′ : List Class
+    l′ = twoClasses (classAt l 0) (classAt l 1)
 
-  pub merging-start : (v : ℕ) (pos d work : List ℕ) → Mergeable g r shifts l a (set d a 0) (set work 0 a)
-      → d ≡ replicate v unreachable → ((k : ℕ) → k < classCount → First (length (set d a 0)) (classAt l k) (getD pos k 0))
-      → Merging g r a 1 l pos (set d a 0) (set work 0 a) (set work 0 a)
-  merging-start v pos d work M e firsts =
-      let size : v ≡ g .size =
-      sym (length-replicate v unreachable) ∙ sym (ap length e) ∙ sym (length-set d a 0) ∙ M .d-len in
-      merging-first g a work (M .few) (M .source) (sym (length-set work 0 a) ∙ M .work-len) r l pos d
-      (e ∙ ap (λ (k : ℕ). replicate k unreachable) size)
-      (λ k h. subst (λ z. First z (classAt l k) (getD pos k 0)) (M .d-len) (firsts k h))
+    unused : CostClass r (classOf 0 0)
+    unused = record { high = omega arith; move = λ pos j h. absurd (omega arith) }
+
+    each : (k : ℕ) → k < classCount → CostClass r (classAt l′ k)
+    each zero h = C .each 0 h
+    each (suc zero) h = C .each 1 h
+    each (suc (suc zero)) h = unused
+    each (suc (suc (suc zero))) h = unused
+    each (suc (suc (suc (suc k)))) h = absurd (omega arith)
+
+    -- a move costs something, so it is in the first class or the second
+    one-of : (m : ℕ) → m < r .count → (k : ℕ) → k < classCount → Member r (classAt l k) m
+        → moveAt r m .cost ≡ classAt l k .cost
+        → (k : ℕ) × (k < classCount) × Member r (classAt l′ k) m × (moveAt r m .cost ≡ classAt l′ k .cost)
+    one-of m lt zero h M e = (0, h, M, e)
+    one-of m lt (suc zero) h M e = (1, h, M, e)
+    one-of m lt (suc (suc zero)) h M e = absurd (omega (arith, lawful-move r m lawful lt .cost-low))
+    one-of m lt (suc (suc (suc zero))) h M e =
+        absurd (omega (arith, C .paired, lawful-move r m lawful lt .cost-low))
+    one-of m lt (suc (suc (suc (suc k)))) h M e = absurd (omega arith)
+
+-- ---- the source settled
+
+module _ {g : Graph} {r : Rows} {shifts : List ℕ} {l : List Class} {a : ℕ} {d work : List ℕ}
+    (M : Mergeable g r shifts l a d work) where
+  module _ {d′ work′ : List ℕ} (O : OnlySource a d d′ work work′) where
+    begun : {l′ : List Class} → Classes r l′ → Begun g r shifts l′ a d′ work′
+    begun C =
+        let same = ap (λ v. set (replicate v unreachable) a 0) (M .d-len) in
+        let S = settled-start g a work (M .few) (M .source) (M .work-len) in
+        rw (O .costs ∙ same, O .order) (record {
+          merges = record {
+            few = M .few;
+            lawful = M .lawful;
+            masked = masked-kept (M .masked) (start-rest work a);
+            classes = C;
+            source = M .source;
+            d-len = S .d-len;
+            work-len = S .work-len;
+          };
+          settled = S;
+        })
+
+    pub begun-four : Begun g r shifts (fourClasses (classAt l 0) (classAt l 1) (classAt l 2) (classAt l 3)) a d′ work′
+    begun-four = begun (classes-four (M .classes))
+
+    pub begun-two : classAt l 2 .cost ≡ 0 → Begun g r shifts (twoClasses (classAt l 0) (classAt l 1)) a d′ work′
+    begun-two bare =
+        begun (classes-two (M .masked .shows a (M .source) .readable .lawful) (M .classes) bare)
+
+    pub costs-begun : {n : ℕ} {d″ work″ : List ℕ} → SettledCosts g a n d″ work′ work″ → SettledCosts g a n d″ work work″
+    costs-begun S = record {
+      costs = S .costs;
+      few = S .few;
+      work-len = S .work-len;
+      ordered = S .ordered;
+      rest = λ i h. S .rest i h ∙ ap (λ w. entry w i) (O .order) ∙ start-rest work a i h;
+    }
+
+-- ---- the positions
+
+-- The last two classes have one position.
+pub four-first : {v : ℕ} (c0 c1 c2 c3 : Class) (p0 p1 p2 : ℕ) → First v c0 p0 → First v c1 p1 → First v c2 p2
+    → c2 .cost ≡ c3 .cost
+    → (k : ℕ) → k < classCount → First v (classAt (fourClasses c0 c1 c2 c3) k) (getD (p0 ∷ p1 ∷ p2 ∷ p2 ∷ []) k 0)
+four-first c0 c1 c2 c3 p0 p1 p2 x y z e zero h = x
+four-first c0 c1 c2 c3 p0 p1 p2 x y z e (suc zero) h = y
+four-first c0 c1 c2 c3 p0 p1 p2 x y z e (suc (suc zero)) h = z
+four-first c0 c1 c2 c3 p0 p1 p2 x y z e (suc (suc (suc zero))) h =
+    record { zeroth = λ f. z .zeroth (omega arith); past = λ f. z .past (omega arith) }
+four-first c0 c1 c2 c3 p0 p1 p2 x y z e (suc (suc (suc (suc k)))) h = absurd (omega arith)
+
+pub merging-start : {g : Graph} {r : Rows} {shifts : List ℕ} {l : List Class} {a : ℕ} {pos d work : List ℕ}
+    → Begun g r shifts l a d work → ((k : ℕ) → k < classCount → First (length d) (classAt l k) (getD pos k 0))
+    → Merging g r a 1 l pos d work work
+merging-start B firsts = let S = B .settled in record {
+  settled = S;
+  passed = λ k h. record {
+    unused = λ z. omega (arith, firsts k h .past z, S .d-len);
+    room = λ f. omega (arith, firsts k h .zeroth f);
+    relaxed = λ f j m w p M lt. absurd (omega (arith, firsts k h .zeroth f));
+    pending = λ j h p. omega (arith, S .bounded j h);
+  };
+  rest = λ j h. refl;
+}

@@ -6,12 +6,15 @@
 --   passed-same           == a position that stays
 --   passed-next           == the position that moves on by one
 --   Lowest ..             == position k has the least key
---   Keys ..               == the keys of both positions, as the code works them out
---   least-of              == so has the one whose key is at most both
---   MergingOn ..          == `Merging` on any graph and rows that the merge can run on: the invariant of the loop
+--   Keys ..               == the keys of the positions, as the code works them out
+--   least-of              == so has the one whose key is at most all
 --   Turn ..               == what a turn of class k takes and leaves: the invariant again, and a lower measure
 --   turn                  == the turn of the position with the least key is such a turn
+--   least-again           == after it that key is still the least, for another class at the same place and cost
 --   filled                == at the end every position has passed every settled vertex, so the costs are the distances
+--   MergingOn ..          == `Merging` on any graph, rows and source that the merge can run on: the loops' invariant
+--   TurnOn ..             == `Turn` on each of these
+--   turn-on, filled-on    == a turn and the end on each of these
 use Prim.Native.Nat.{ℕ, zero, suc, _+_, _*_, _≤_, _<_}
 use mathlib.Core.Path.{_≡_, sym, ap, _∙_, subst}
 use mathlib.Core.Logic.{⊎-elim}
@@ -35,7 +38,7 @@ use Rattle.paths.proofs.Costs.{walked-true}
 use Rattle.workspace.proofs.Regions.{masked-kept}
 use Rattle.distances.specs.Costs.{SettledCosts}
 use Rattle.distances.specs.Merge.{keyOf, Keyed, Settled, Ready, Grown}
-use Rattle.distances.specs.Merge.{Relaxing, Relaxed, Placed, Merging, Mergeable, remaining}
+use Rattle.distances.specs.Merge.{Relaxing, Relaxed, Placed, Merging, Mergeable, Begun, remaining}
 use Rattle.distances.proofs.Store.{last, settled-le}
 
 -- ---- keys
@@ -111,20 +114,24 @@ pub record Lowest (n k key : ℕ) (l : List Class) (pos d work : List ℕ) : Typ
   pub is : key ≡ keyOf n (getD pos k 0) (classAt l k .cost) d work
   pub least : (j : ℕ) → j < classCount → key ≤ keyOf n (getD pos j 0) (classAt l j .cost) d work
 
--- The two keys, as the code works them out.
-pub record Keys (n k0 k1 : ℕ) (l : List Class) (pos d work : List ℕ) : Type 0 where
+-- The keys, as the code works them out; the last two classes have one.
+pub record Keys (n k0 k1 k2 : ℕ) (l : List Class) (pos d work : List ℕ) : Type 0 where
   pub at-0 : k0 ≡ keyOf n (getD pos 0 0) (classAt l 0 .cost) d work
   pub at-1 : k1 ≡ keyOf n (getD pos 1 0) (classAt l 1 .cost) d work
+  pub at-2 : k2 ≡ keyOf n (getD pos 2 0) (classAt l 2 .cost) d work
+  pub at-3 : k2 ≡ keyOf n (getD pos 3 0) (classAt l 3 .cost) d work
 
-module _ {n k0 k1 key : ℕ} {l : List Class} {pos d work : List ℕ} (K : Keys n k0 k1 l pos d work) where
+module _ {n k0 k1 k2 key : ℕ} {l : List Class} {pos d work : List ℕ} (K : Keys n k0 k1 k2 l pos d work) where
   pub least-of : (k : ℕ) → k < classCount → key ≡ keyOf n (getD pos k 0) (classAt l k .cost) d work
-      → key ≤ k0 → key ≤ k1 → Lowest n k key l pos d work
-  least-of k h is l0 l1 = record { one = h; is = is; least = each }
+      → key ≤ k0 → key ≤ k1 → key ≤ k2 → Lowest n k key l pos d work
+  least-of k h is l0 l1 l2 = record { one = h; is = is; least = each }
     where
       each : (j : ℕ) → j < classCount → key ≤ keyOf n (getD pos j 0) (classAt l j .cost) d work
       each zero h = omega (arith, K .at-0)
       each (suc zero) h = omega (arith, K .at-1)
-      each (suc (suc j)) h = absurd (omega arith)
+      each (suc (suc zero)) h = omega (arith, K .at-2)
+      each (suc (suc (suc zero))) h = omega (arith, K .at-3)
+      each (suc (suc (suc (suc j)))) h = absurd (omega arith)
 
 -- ---- the measure
 
@@ -136,10 +143,6 @@ remaining-falls v (x ∷ l) zero h s = omega arith
 remaining-falls v (x ∷ l) (suc k) h s = omega (arith, remaining-falls v l k (omega arith) s)
 
 -- ---- a turn
-
-abbrev pub MergingOn : (shifts : List ℕ) (a n : ℕ) (l : List Class) (pos d₀ d work₀ work : List ℕ) → Type 0
-MergingOn shifts a n l pos d₀ d work₀ work =
-    (g : Graph) (r : Rows) → Mergeable g r shifts l a d₀ work₀ → Merging g r a n l pos d work₀ work
 
 -- What a turn of class k needs, and what it leaves.
 pub record Turn (g : Graph) (r : Rows) (shifts : List ℕ) (a n k key : ℕ) (l : List Class)
@@ -228,6 +231,58 @@ module _ {g : Graph} {r : Rows} {shifts : List ℕ} {a n k key : ℕ} {l : List 
         next = merging-next len;
       }
 
+      -- ---- the same key again, for another class at the same place and cost
+
+      module _ (len : length pos ≡ classCount) {s : ℕ} {d′ work′ : List ℕ}
+          (P : Relaxed g r a (entry work p) c key n s d d′ work work′) where
+        abbrev pos′ : List ℕ
+        pos′ = set pos k (p + 1)
+
+        key-later : (q c : ℕ) → key ≤ keyOf n q c d work → key ≤ keyOf s q c d′ work′
+        key-later q c le = ⊎-elim
+            (λ (in-s : suc q ≤ s). ⊎-elim
+            (λ (in-n : suc q ≤ n). omega (
+              arith,
+              key-in s q c d′ work′ in-s,
+              key-in n q c d work in-n,
+              stays (K .settled) (P .ready) (P .grown) q in-n,
+            ))
+            (λ (out : n < suc q). omega (arith, key-in s q c d′ work′ in-s, P .grown .fresh q (omega arith) in-s))
+            (le-or-lt (suc q) n))
+            (λ (out : s < suc q). omega (arith, key-out s q c d′ work′ (omega arith))) (le-or-lt (suc q) s)
+
+        -- the key of the next place is no less
+        key-next : key ≤ keyOf n (p + 1) (c .cost) d work
+        key-next = ⊎-elim
+            (λ (in-n : suc (p + 1) ≤ n). omega (
+              arith,
+              key-in n (p + 1) (c .cost) d work in-n,
+              key-is,
+              K .settled .ordered .rising p (p + 1) (omega arith) in-n,
+            ))
+            (λ (out : n < suc (p + 1)). omega (arith, key-out n (p + 1) (c .cost) d work (omega arith)))
+            (le-or-lt (suc (p + 1)) n)
+
+        least-later : (j : ℕ) → j < classCount → key ≤ keyOf s (getD pos′ j 0) (classAt l j .cost) d′ work′
+        least-later j h = key-later (getD pos′ j 0) (classAt l j .cost) (⊎-elim
+            (λ (e : j ≡ k). rw (e, getD-set-same pos k (p + 1) 0 (omega (arith, T .one))) key-next)
+            (λ (e : j ≡ k → ⊥). rw (getD-set-other pos k j (p + 1) 0 e) (T .least j h)) (eq-or-ne j k))
+
+        pub least-again : (j : ℕ) → j < classCount → (j ≡ k → ⊥) → getD pos j 0 ≡ p → classAt l j .cost ≡ c .cost
+            → Lowest s j key l pos′ d′ work′
+        least-again j h ne here same = record {
+          one = h;
+          is =
+              let q : getD pos′ j 0 ≡ p = getD-set-other pos k j (p + 1) 0 ne ∙ here in
+              rw (q, same) (omega (
+                arith,
+                key-is,
+                stays (K .settled) (P .ready) (P .grown) p before-end,
+                key-in s p (c .cost) d′ work′ (omega (arith, before-end, P .grown .more)),
+              ));
+          least = least-later;
+        }
+
     -- ---- the end
 
     module _ (end : key ≡ unreachable) where
@@ -260,14 +315,33 @@ module _ {g : Graph} {r : Rows} {shifts : List ℕ} {a n k key : ℕ} {l : List 
           omega (arith, x, ap (entry d) (f .2)))
           (le-or-lt unreachable (entry d u))
 
-      pub filled : {start : List ℕ} → ((i : ℕ) → g .size < i → entry work₀ i ≡ entry start i)
-          → SettledCosts g a n d start work
-      filled {start} same = let S = K .settled in record {
+      pub filled : SettledCosts g a n d work₀ work
+      filled = let S = K .settled in record {
         costs = tabulate-of (g .size) d (distance g a) (S .d-len)
             (walked-true g (M .lawful) a (S .source) (entry d)
             (record { start = S .start; at-most = S .at-most; relaxed = relaxed-end }) (S .walked));
         few = settled-le S;
         work-len = S .work-len;
         ordered = S .ordered;
-        rest = λ i h. K .rest i h ∙ same i h;
+        rest = K .rest;
       }
+
+-- ---- on any graph, rows and source
+
+abbrev pub MergingOn : (shifts : List ℕ) (n : ℕ) (l : List Class) (pos d₀ d work₀ work : List ℕ) → Type 0
+MergingOn shifts n l pos d₀ d work₀ work =
+    (g : Graph) (r : Rows) (a : ℕ) → Begun g r shifts l a d₀ work₀ → Merging g r a n l pos d work₀ work
+
+abbrev pub TurnOn : (shifts : List ℕ) (n k key : ℕ) (l : List Class) (pos d₀ d work₀ work : List ℕ) → Type 0
+TurnOn shifts n k key l pos d₀ d work₀ work =
+    (g : Graph) (r : Rows) (a : ℕ) → Begun g r shifts l a d₀ work₀
+    → Turn g r shifts a n k key l pos d₀ d work₀ work
+
+module _ {shifts : List ℕ} {n k key : ℕ} {l : List Class} {pos d₀ d work₀ work : List ℕ}
+    (I : MergingOn shifts n l pos d₀ d work₀ work) (T : Lowest n k key l pos d work) where
+  pub turn-on : key < unreachable → length pos ≡ classCount → TurnOn shifts n k key l pos d₀ d work₀ work
+  turn-on low len g r a B = turn (B .merges) (I g r a B) T low len
+
+  pub filled-on : key ≡ unreachable → (g : Graph) (r : Rows) (a : ℕ) → Begun g r shifts l a d₀ work₀
+      → SettledCosts g a n d work₀ work
+  filled-on end g r a B = filled (B .merges) (I g r a B) T end

@@ -40,7 +40,7 @@ pub record OrderedCosts (f : Floor) (r : Rows) (a n : ℕ) (d work : List ℕ) :
   pub few : n ≤ floorGraph f r .size
   pub work-len : length work ≡ 4 * floorGraph f r .size
   pub ordered : Ordered (floorGraph f r .size) n (entry d) (entry work)
-  pub masks : MasksIn f work
+  pub masks : MasksIn f r work
 
 pub record FilledCosts (g : Graph) (a : ℕ) (d work : List ℕ) : Type 0 where
   pub costs : d ≡ tabulate (g .size) (distance g a)

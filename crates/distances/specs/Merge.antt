@@ -16,17 +16,20 @@
 --   Placed ..                == what holds of one class and its position p in the order
 --   Merging ..               == what holds at each turn of the merge, of the classes l and their positions pos
 --   Mergeable ..             == what the merge takes
+--   OnlySource ..            == the source a alone has a cost, 0, and stands first in the order
+--   Begun ..                 == the merge can go on from there
+--   twoClasses, fourClasses  == two classes and two of no move, and four classes, as the loops take them one by one
 --   remaining v pos          == what the positions have before them: the merge's measure
 use Prim.Native.Nat.{ℕ, _+_, _-_, _*_, _≤_, _<_}
 use mathlib.Core.Path.{_≡_}
 use mathlib.Core.Option.{some}
 use mathlib.Core.List.{List, [], _∷_}
 use lib.Dec.{ltb, eqb}
-use lib.ListN.{length, getD, set}
+use lib.ListN.{length, getD, set, replicate}
 use Rattle.basics.specs.Bounded.{pick}
 use Rattle.offsets.specs.declared.Class.{Class}
 use Rattle.moves.specs.declared.Rows.{Rows}
-use Rattle.offsets.specs.Classes.{classCount, Member, CostClass, Classes, classAt}
+use Rattle.offsets.specs.Classes.{classCount, Member, CostClass, Classes, classOf, classAt}
 use Rattle.paths.specs.Graph.{Graph, Lawful}
 use Rattle.paths.specs.Distance.{unreachable}
 use Rattle.paths.specs.Local.{entry}
@@ -134,6 +137,20 @@ pub record Mergeable (g : Graph) (r : Rows) (shifts : List ℕ) (l : List Class)
   pub source : a < g .size
   pub d-len : length d ≡ g .size
   pub work-len : length work ≡ 4 * g .size
+
+pub record OnlySource (a : ℕ) (d d′ work work′ : List ℕ) : Type 0 where
+  pub costs : d′ ≡ set (replicate (length d) unreachable) a 0
+  pub order : work′ ≡ set work 0 a
+
+pub record Begun (g : Graph) (r : Rows) (shifts : List ℕ) (l : List Class) (a : ℕ) (d work : List ℕ) : Type 0 where
+  pub merges : Mergeable g r shifts l a d work
+  pub settled : Settled g a 1 d work
+
+abbrev pub fourClasses : Class → Class → Class → Class → List Class
+fourClasses c0 c1 c2 c3 = c0 ∷ c1 ∷ c2 ∷ c3 ∷ []
+
+abbrev pub twoClasses : Class → Class → List Class
+twoClasses c0 c1 = fourClasses c0 c1 (classOf 0 0) (classOf 0 0)
 
 unfoldable pub remaining : ℕ → List ℕ → ℕ
 remaining v [] = 0

@@ -20,10 +20,10 @@ pub fn costs_over_masks(
     work: &mut [u32],
 ) -> usize
     requires { ⌜ Costing w h (now map) rows (a .0) (now d) (now work) ⌝ }
-    requires { ⌜ MasksIn (floorOf w h (now map)) (now work) ⌝ }
+    requires { ⌜ MasksIn (floorOf w h (now map)) rows (now work) ⌝ }
     ensures { λ n. ⌜ OrderedCosts (floorOf w h (now (map .entry))) rows (a .0) n (now (d .exit)) (now (work .exit)) ⌝ }
 {
-    let shifts = offsets::shifts_of(w);
+    let shifts = offsets::shifts_of(w, rows);
     let classes = offsets::classes_of(rows);
     merge::settle(&shifts, classes, a.0, d, work)
 }
@@ -42,7 +42,7 @@ pub fn costs_from(
     ensures { λ _. ⌜ FilledCosts (floorGraph (floorOf w h (now (map .entry))) rows) (a .0) (now (d .exit))
         (now (work .exit)) ⌝ }
 {
-    workspace::store_masks(w, h, map, work);
+    workspace::store_masks(w, h, map, rows, work);
     costs_over_masks(w, h, map, rows, a, d, work);
     basics::fill_u32(work, 0);
 }

@@ -1,9 +1,9 @@
 // The ordered merge: the vertices settled in order of cost, with no queue. `work` begins with the settled vertices in
-// the order in which they were settled; each class of moves of one cost has a position in that order, and the least
-// key, a settled cost and the cost of a class, is given to the far ends of that class that have no cost yet. The
-// contracts are over any graph whose steps the masks and the offsets of the rows give.
+// the order in which they were settled; each cost of a class of moves has a position in that order, and the least key, a
+// settled cost and the cost of a class, is given to the far ends of that class that have no cost yet. The contracts are
+// over any graph whose steps the masks and the offsets of the rows give.
 ghost use mathlib.Core.Path.{_≡_};
-ghost use Prim.Native.Nat.{ℕ, _<_, _≤_};
+ghost use Prim.Native.Nat.{ℕ, _<_, _≤_, min};
 ghost use lib.ListN.{length};
 ghost use Rattle.moves.specs.declared.Rows.{Rows};
 ghost use Rattle.paths.specs.Graph.{Graph};
@@ -11,7 +11,7 @@ ghost use Rattle.paths.specs.Local.{entry};
 ghost use Rattle.distances.specs.Costs.{SettledCosts};
 ghost use Rattle.distances.specs.Merge.{costGiven, countGiven, Given, keyOf, Keyed};
 ghost use Rattle.offsets.specs.declared.Class.{Class};
-ghost use Rattle.distances.specs.Merge.{Relaxing, Relaxed, Mergeable};
+ghost use Rattle.distances.specs.Merge.{Relaxing, Relaxed, Mergeable, OnlySource, Begun, twoClasses, fourClasses};
 use floor::Vertex;
 use offsets::Class;
 
@@ -98,25 +98,34 @@ fn first_place(class: Class, v: usize) -> usize
     v
 }
 
-// Fills d with the costs from a, and the beginning of `work` with the vertices that have one, by rising cost; answers
-// how many those are. Each turn moves one position on by one place, so a vertex has at most one turn for each class.
-pub fn settle(
-    shifts: &[usize],
-    classes: [Class; offsets::CLASSES],
-    a: usize,
-    d: &mut [u32],
-    work: &mut [u32],
-) -> usize
-    requires { ⌜ ((g : Graph) × (r : Rows) × Mergeable g r (now shifts) classes a (now d) (now work)) ⌝ }
-    ensures { λ n. ⌜ ((g : Graph) → (r : Rows)
-        → Mergeable g r (now (shifts .entry)) classes a (now (d .entry)) (now (work .entry))
-        → SettledCosts g a n (now (d .exit)) (now (work .entry)) (now (work .exit))) ⌝ }
+// The lesser of two keys.
+fn lesser(x: u32, y: u32) -> u32
+    ensures { λ r. ⌜ r ≡ min x y ⌝ }
+{
+    if x < y {
+        return x;
+    }
+    y
+}
+
+// Nothing is settled but a, at cost 0.
+fn begin(a: usize, d: &mut [u32], work: &mut [u32])
+    requires { ⌜ (a < length (now d)) × (a < 16384) × (0 < length (now work)) ⌝ }
+    ensures { λ _. ⌜ OnlySource a (now (d .entry)) (now (d .exit)) (now (work .entry)) (now (work .exit)) ⌝ }
 {
     basics::fill_u32(d, paths::UNREACHABLE);
     d[a] = 0;
     work[0] = a as u32;
-    let c0 = classes[0];
-    let c1 = classes[1];
+}
+
+// The merge by two classes, from the source on; answers how many vertices have a cost. Each turn moves one position on by
+// one place, so a vertex has at most one turn for each.
+fn settle_two(shifts: &[usize], c0: Class, c1: Class, d: &mut [u32], work: &mut [u32]) -> usize
+    requires { ⌜ ((g : Graph) × (r : Rows) × (a : ℕ) × Begun g r (now shifts) (twoClasses c0 c1) a (now d) (now work)) ⌝ }
+    ensures { λ n. ⌜ ((g : Graph) → (r : Rows) → (a : ℕ)
+        → Begun g r (now (shifts .entry)) (twoClasses c0 c1) a (now (d .entry)) (now (work .entry))
+        → SettledCosts g a n (now (d .exit)) (now (work .entry)) (now (work .exit))) ⌝ }
+{
     let mut n: usize = 1;
     let mut p0 = first_place(c0, d.len());
     let mut p1 = first_place(c1, d.len());
@@ -134,4 +143,78 @@ pub fn settle(
         n = relax_class(shifts, c1, p1, k1, n, d, work);
         p1 += 1;
     }
+}
+
+// The same by four classes, the last two of one cost: these have one position, and a turn of it gives the key to the far
+// ends of both.
+fn settle_three(
+    shifts: &[usize],
+    c0: Class,
+    c1: Class,
+    c2: Class,
+    c3: Class,
+    d: &mut [u32],
+    work: &mut [u32],
+) -> usize
+    requires { ⌜ ((g : Graph) × (r : Rows) × (a : ℕ)
+        × Begun g r (now shifts) (fourClasses c0 c1 c2 c3) a (now d) (now work)) ⌝ }
+    ensures { λ n. ⌜ ((g : Graph) → (r : Rows) → (a : ℕ)
+        → Begun g r (now (shifts .entry)) (fourClasses c0 c1 c2 c3) a (now (d .entry)) (now (work .entry))
+        → SettledCosts g a n (now (d .exit)) (now (work .entry)) (now (work .exit))) ⌝ }
+{
+    let mut n: usize = 1;
+    let mut p0 = first_place(c0, d.len());
+    let mut p1 = first_place(c1, d.len());
+    let mut p2 = first_place(c2, d.len());
+    loop {
+        let k0 = key_at(n, p0, c0.cost, d, work);
+        let k1 = key_at(n, p1, c1.cost, d, work);
+        let k2 = key_at(n, p2, c2.cost, d, work);
+        if k0 <= lesser(k1, k2) {
+            if k0 == paths::UNREACHABLE {
+                return n;
+            }
+            n = relax_class(shifts, c0, p0, k0, n, d, work);
+            p0 += 1;
+            continue;
+        }
+        if k1 <= k2 {
+            n = relax_class(shifts, c1, p1, k1, n, d, work);
+            p1 += 1;
+            continue;
+        }
+        n = relax_class(shifts, c2, p2, k2, n, d, work);
+        n = relax_class(shifts, c3, p2, k2, n, d, work);
+        p2 += 1;
+    }
+}
+
+// Fills d with the costs from a, and the beginning of `work` with the vertices that have one, by rising cost; answers
+// how many those are. Where the third class has no move, and so neither has the fourth, it goes by two positions: with a
+// third to look at, every turn takes longer.
+pub fn settle(
+    shifts: &[usize],
+    classes: [Class; offsets::CLASSES],
+    a: usize,
+    d: &mut [u32],
+    work: &mut [u32],
+) -> usize
+    requires { ⌜ ((g : Graph) × (r : Rows) × Mergeable g r (now shifts) classes a (now d) (now work)) ⌝ }
+    ensures { λ n. ⌜ ((g : Graph) → (r : Rows)
+        → Mergeable g r (now (shifts .entry)) classes a (now (d .entry)) (now (work .entry))
+        → SettledCosts g a n (now (d .exit)) (now (work .entry)) (now (work .exit))) ⌝ }
+{
+    begin(a, d, work);
+    if classes[2].cost == 0 {
+        return settle_two(shifts, classes[0], classes[1], d, work);
+    }
+    settle_three(
+        shifts,
+        classes[0],
+        classes[1],
+        classes[2],
+        classes[3],
+        d,
+        work,
+    )
 }

@@ -21,7 +21,7 @@ use Rattle.floor.specs.Floor.{floorOf, vertices, number}
 use Rattle.moves.specs.declared.Rows.{Rows}
 use Rattle.moves.specs.Table.{OnFloor}
 use Rattle.moves.proofs.Table.{listed-lawful}
-use Rattle.masks.specs.Masks.{leavingMask}
+use Rattle.masks.specs.Masks.{Leaving}
 use Rattle.offsets.specs.declared.Class.{Class}
 use Rattle.offsets.specs.Offsets.{Shifts}
 use Rattle.offsets.specs.Classes.{Classes}
@@ -76,8 +76,8 @@ module _ {w h : ℕ} {l : List ℕ} {r : Rows} {a : ℕ} (J : GoodJob w h l r a 
   abbrev k : Graph
   k = leavingGraph (floorOf w h l) r
 
-  module _ {s : List ℕ} (S : Shifts w s) {x y mask v : ℕ} (o : OnFloor w h x y)
-      (is : mask ≡ leavingMask (floorOf w h l) x y) (numbered : v ≡ number w x y) where
+  module _ {s : List ℕ} (S : Shifts w r s) {x y mask v : ℕ} (o : OnFloor w h x y)
+      (is : Leaving (floorOf w h l) r x y mask) (numbered : v ≡ number w x y) where
     shown : Shows k r s mask v
     shown = column-shows J S o is numbered
 

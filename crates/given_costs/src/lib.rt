@@ -47,12 +47,12 @@ fn row_right(
     windows: [u32; 16],
     y: usize,
 ) -> bool
-    requires { ⌜ GoodJob w h (now map) rows a a × (length (now d) ≡ vertices w h) × (y ≤ h) × WindowsTo 16 windows ⌝ }
+    requires { ⌜ GoodJob w h (now map) rows a a × (length (now d) ≡ vertices w h) × (y ≤ h) × WindowsTo rows 16 windows ⌝ }
     ensures { λ r. ⌜ r ≡ rowTest (leavingGraph (floorOf w h (now (map .entry))) rows) a (now (d .entry)) w y ⌝ }
 {
-    let shifts = offsets::shifts_of(w);
+    let shifts = offsets::shifts_of(w, rows);
     let classes = offsets::classes_of(rows);
-    let leaving = masks::leaving_row(w, h, map, y, windows);
+    let leaving = masks::leaving_row(w, h, map, rows, y, windows);
     let first = y * (w + 1);
     let mut right = true;
     for x in 0..w + 1 {
@@ -73,7 +73,7 @@ pub fn costs_true(w: usize, h: usize, map: &[u8], rows: Rows, a: Vertex, d: &[u3
     if d[start] != 0 {
         return false;
     }
-    let windows = masks::window_masks();
+    let windows = masks::window_masks(rows);
     for y in 0..h + 1 {
         if !row_right(w, h, map, rows, start, d, windows, y) {
             return false;

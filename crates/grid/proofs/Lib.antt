@@ -1,3 +1,4 @@
 pub mod Lawful
 pub mod Jobs
 pub mod Masks
+pub mod Costs

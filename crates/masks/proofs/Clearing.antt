@@ -1,10 +1,11 @@
 -- The masks of the moves that leave each vertex become those of the open moves: at each pinch in turn, the bits of the moves
 -- that lead to it are cleared.
 --
---   row-off, row-cleared    == one row from a vertex: off the floor, or to a vertex whose opposite bit is cleared
---   clears-none, clears-more == the rows one after the other
---   far-back                == the opposite row leads back
---   leads-all               == the rows that lead from v to u, turned, are those that lead from u to v
+--   move-off, move-cleared  == one move from a vertex: off the floor, or to a vertex whose opposite bit is cleared
+--   clears-none, clears-more == the moves one after the other
+--   turned-twice, turned-xor == the opposite of the opposite; where the row opposite to a row stands
+--   far-back                == the opposite move leads back
+--   leads-all               == the moves that lead from v to u, turned, are those that lead from u to v
 --   cleared-none            == before the first vertex no bit is cleared
 --   cleared-skip, cleared-hit == past a vertex that is no pinch, and past one that is
 --   past-skip, past-hit     == the same of the vertex (x, y), by its mask
@@ -16,8 +17,8 @@ use mathlib.Core.Bool.{Bool, true, false, _&&_, _||_, not, and-true, and-false, 
 use mathlib.Core.List.{List}
 use mathlib.Core.Option.{Option, none, some}
 use native.Mathlib.Omega.{arith}
-use native.Mathlib.Nat.{mod-lt}
 use borrow.Author.Tests.{lt-ltb, le-ltb, eq-eqb, ne-eqb, eqb-true, ltb-true}
+use lib.Bits.{bitXor}
 use lib.Dec.{ltb, eqb}
 use lib.ListN.{length, set, length-set, getD}
 use lib.Seq.{getD-set-same, getD-set-other}
@@ -33,24 +34,21 @@ use Rattle.floor.proofs.Numbers.{number-lt, number-of, column-le, column-number
 use Rattle.sight.specs.Sight.{Segment, segment, pinch, sees}
 use Rattle.moves.specs.declared.Move.{Move}
 use Rattle.moves.specs.declared.Step.the-variants.{To, Off}
-use Rattle.moves.specs.Moves.{moves, moveOf, rowMove, rowsOf, rowAt, moveAt}
+use Rattle.moves.specs.declared.Rows.{Rows}
+use Rattle.moves.specs.Moves.{moveOf, rowMove, rowAt, moveAt}
 use Rattle.moves.specs.Steps.{shifted, thenAt, farEndAt, endIf, isSome, stepOf}
 use Rattle.moves.proofs.Steps.{shifted-is}
-use Rattle.moves.specs.AnyTable.{Turned}
 use Rattle.moves.specs.Leaving.{leaves}
-use Rattle.moves.proofs.Table.{whole-lawful, lawful-move, table-short}
+use Rattle.moves.specs.Table.{Listed, oppositeOf}
+use Rattle.moves.proofs.Table.{LawfulMove, lawful-move, listed-lawful, each-listed}
 use Rattle.moves.proofs.Steps.{goes-end}
 use Rattle.moves.proofs.Opposites.{goes, goes-back}
 use Rattle.moves.proofs.Leaving.{seen-far}
-use Rattle.masks.specs.Masks.{rowIf, OpenMasks, pinchBit, leavingMask, LeavingTo, clearedTo, Cleared}
-use Rattle.masks.specs.Masks.{WithoutBit, rowEndAt, leadsTo, turnedRow, leadsBack, ClearsRow, ClearsTo}
-use Rattle.masks.proofs.Masks.{leaving-bits, leaving-mark}
+use Rattle.masks.specs.Masks.{rowIf, OpenMasks, pinchBit, LeavingTo, clearedTo, Cleared}
+use Rattle.masks.proofs.Windows.{row-apart}
+use Rattle.masks.specs.Masks.{WithoutBit, rowEndAt, leadsTo, turnedRow, leadsBack, ClearsMove, ClearsTo}
 
 -- ---- where a row leads
-
--- A row of the neighbourhood that has the whole table.
-pub whole-row : (k : ℕ) → moveAt (rowsOf 0 1 (length moves)) k ≡ rowMove k
-whole-row k = let z : rowAt (rowsOf 0 1 (length moves)) k ≡ k = omega arith in ap rowMove z
 
 pub end-off : (o : Option ℕ) → stepOf o ≡ Off → o ≡ none
 unfolding stepOf
@@ -83,36 +81,36 @@ end-inside w h x y k u e = cases (shifted w x (m .dx)) (shifted h y (m .dy)) ref
         let same : number w i j ≡ u = cc in
         rw (← same) (number-lt w h i j (shifted-is w x i (m .dx) p .inside) (shifted-is h y j (m .dy) q .inside))
 
--- ---- one row, and all
+-- ---- one move, and all
 
-module _ {w h x y k : ℕ} {l : List ℕ} where
-  pub row-off : rowEndAt w h x y k ≡ none → ClearsRow w h x y k l l
+module _ {w h x y m : ℕ} {r : Rows} {l : List ℕ} where
+  pub move-off : rowEndAt w h x y (rowAt r m) ≡ none → ClearsMove w h r x y m l l
   unfolding leadsTo
-  row-off e = record { len = refl; at = λ u j i. sym (rw e (and-true (bit (getD l u 0) j))) }
+  move-off e = record { len = refl; at = λ u j i. sym (rw e (and-true (bit (getD l u 0) j))) }
 
-  pub row-cleared : {u m : ℕ} → rowEndAt w h x y k ≡ some u → u < length l → WithoutBit (turnedRow k) (getD l u 0) m
-      → ClearsRow w h x y k l (set l u m)
+  pub move-cleared : {u n : ℕ} → rowEndAt w h x y (rowAt r m) ≡ some u → u < length l
+      → WithoutBit (turnedRow r m) (getD l u 0) n → ClearsMove w h r x y m l (set l u n)
   unfolding leadsTo
-  row-cleared {u} {m} e i W = record {
-    len = length-set l u m;
+  move-cleared {u} {n} e i W = record {
+    len = length-set l u n;
     at = λ v j lv. ⊎-elim
-        (λ (s : u ≡ v). rw (e, ← s, getD-set-same l u m 0 i, eq-eqb u u refl) (W .at j))
-        (λ (n : u ≡ v → ⊥).
-        rw (e, getD-set-other l u v m 0 (λ q. n (sym q)), ne-eqb u v n) (sym (and-true (bit (getD l v 0) j)))) (eq-or-ne u v);
+        (λ (s : u ≡ v). rw (e, ← s, getD-set-same l u n 0 i, eq-eqb u u refl) (W .at j))
+        (λ (ne : u ≡ v → ⊥).
+        rw (e, getD-set-other l u v n 0 (λ q. ne (sym q)), ne-eqb u v ne) (sym (and-true (bit (getD l v 0) j)))) (eq-or-ne u v);
   }
 
-pub clears-none : {w h x y : ℕ} {l : List ℕ} → ClearsTo w h x y 0 l l
+pub clears-none : {w h x y : ℕ} {r : Rows} {l : List ℕ} → ClearsTo w h r x y 0 l l
 unfolding any
 clears-none {l = l} = record { len = refl; at = λ u j i. sym (and-true (bit (getD l u 0) j)) }
 
-pub clears-more : {w h x y n : ℕ} {l r t : List ℕ} → ClearsTo w h x y n l r → ClearsRow w h x y n r t
-    → ClearsTo w h x y (suc n) l t
+pub clears-more : {w h x y n : ℕ} {r : Rows} {l k t : List ℕ} → ClearsTo w h r x y n l k → ClearsMove w h r x y n k t
+    → ClearsTo w h r x y (suc n) l t
 unfolding any
-clears-more {w} {h} {x} {y} {n} {l} {r} {t} A B = record {
+clears-more {w} {h} {x} {y} {n} {r} {l} {k} {t} A B = record {
   len = B .len ∙ A .len;
   at = λ u j i.
-      B .at u j (omega (arith, A .len)) ∙ ap (λ b. b && not (leadsBack w h x y u j n)) (A .at u j i)
-      ∙ both (bit (getD l u 0) j) (any n (leadsBack w h x y u j)) (leadsBack w h x y u j n);
+      B .at u j (omega (arith, A .len)) ∙ ap (λ b. b && not (leadsBack w h r x y u j n)) (A .at u j i)
+      ∙ both (bit (getD l u 0) j) (any n (leadsBack w h r x y u j)) (leadsBack w h r x y u j n);
 }
   where
     both : (a b c : Bool) → ((a && not b) && not c) ≡ (a && not (b || c))
@@ -134,14 +132,23 @@ end-anyway f m x y = cases (farEndAt (f .wide) (f .high) m x y)
     cases none = refl
     cases (some u) = refl
 
-turned-below : (k : ℕ) → k < length moves → turnedRow k < length moves
-turned-below k l = mod-lt _ (omega arith)
-
-turned-twice : (k : ℕ) → k < length moves → turnedRow (turnedRow k) ≡ k
+-- The opposite of the opposite is the move itself.
+pub turned-twice : {r : Rows} → Listed r → (m : ℕ) → m < r .count → oppositeOf r (oppositeOf r m) ≡ m
 unfolding bounded-opened
-turned-twice k l = eqb-true _ _ (every-at (length moves) (λ k. eqb (turnedRow (turnedRow k)) k) refl k l)
+turned-twice {r} h m l =
+    eqb-true _ _
+    (every-at (r .count) (λ m. eqb (oppositeOf r (oppositeOf r m)) m)
+    (each-listed (λ r. every (r .count) (λ m. eqb (oppositeOf r (oppositeOf r m)) m) ≡ true) refl refl refl h) m l)
 
-module _ (f : Floor) where
+-- It stands eight rows on or back.
+pub turned-xor : {r : Rows} → Listed r → (m : ℕ) → m < r .count → bitXor (rowAt r m) 8 ≡ turnedRow r m
+unfolding bounded-opened
+turned-xor {r} h m l =
+    eqb-true _ _
+    (every-at (r .count) (λ m. eqb (bitXor (rowAt r m) 8) (turnedRow r m))
+    (each-listed (λ r. every (r .count) (λ m. eqb (bitXor (rowAt r m) 8) (turnedRow r m)) ≡ true) refl refl refl h) m l)
+
+module _ (f : Floor) (r : Rows) (listed : Listed r) where
   abbrev W : ℕ
   W = f .wide
 
@@ -154,20 +161,19 @@ module _ (f : Floor) where
   abbrev Y : ℕ → ℕ
   Y = row W
 
+  law : (m : ℕ) → m < r .count → LawfulMove r m
+  law m l = lawful-move r m (listed-lawful listed) l
+
   abbrev end : ℕ → ℕ → Option ℕ
   end v k = rowEndAt W H (X v) (Y v) k
 
-  far-back : (u v k : ℕ) → u < vertices W H → k < length moves → end u k ≡ some v → end v (turnedRow k) ≡ some u
-  far-back u v k i l e =
-      let law = lawful-move (rowsOf 0 1 (length moves)) k whole-lawful l in
-      let dx : Turned (rowMove (turnedRow k) .dx) (rowMove k .dx) =
-      rw (whole-row k, whole-row (turnedRow k)) at (law .opposite-dx) in
-      let dy : Turned (rowMove (turnedRow k) .dy) (rowMove k .dy) =
-      rw (whole-row k, whole-row (turnedRow k)) at (law .opposite-dy) in
-      let g = goes anyway f (rowMove k) u v (end-anyway f (rowMove k) (X u) (Y u) ∙ e) in
-      sym (end-anyway f (rowMove (turnedRow k)) (X v) (Y v))
-      ∙ goes-end anyway f (rowMove (turnedRow k)) (X v) (Y v) u (column-le W v)
-      (goes-back anyway f (λ s. refl) (rowMove k) (rowMove (turnedRow k)) u v i dx dy g)
+  far-back : (u v m : ℕ) → u < vertices W H → m < r .count → end u (rowAt r m) ≡ some v → end v (turnedRow r m) ≡ some u
+  far-back u v m i l e =
+      let g = goes anyway f (moveAt r m) u v (end-anyway f (moveAt r m) (X u) (Y u) ∙ e) in
+      let back = moveAt r (oppositeOf r m) in
+      sym (end-anyway f back (X v) (Y v))
+      ∙ goes-end anyway f back (X v) (Y v) u (column-le W v)
+      (goes-back anyway f (λ s. refl) (moveAt r m) back u v i (law m l .opposite-dx) (law m l .opposite-dy) g)
 
   leads-is : (o : Option ℕ) (v : ℕ) → leadsTo o v ≡ true → o ≡ some v
   unfolding leadsTo
@@ -178,31 +184,32 @@ module _ (f : Floor) where
   unfolding leadsTo
   is-leads o v e = rw e (eq-eqb v v refl)
 
-  leads-all : (u v k : ℕ) → u < vertices W H → v < vertices W H → k < length moves
-      → any (length moves) (leadsBack W H (X v) (Y v) u k) ≡ leadsTo (end u k) v
-  leads-all u v k i j l = iff-eq _ _
+  leads-all : (u v m : ℕ) → u < vertices W H → v < vertices W H → m < r .count
+      → any (r .count) (leadsBack W H r (X v) (Y v) u (rowAt r m)) ≡ leadsTo (end u (rowAt r m)) v
+  leads-all u v m i j l = iff-eq _ _
       (λ t.
-      let c = any-cases (length moves) (leadsBack W H (X v) (Y v) u k) t in
-      let there = leads-is (end v (c .0)) u (and-left (leadsTo (end v (c .0)) u) (eqb (turnedRow (c .0)) k) (c .2)) in
-      let turned : turnedRow (c .0) ≡ k =
-      eqb-true (turnedRow (c .0)) k (and-right (leadsTo (end v (c .0)) u) (eqb (turnedRow (c .0)) k) (c .2)) in
-      is-leads (end u k) v (rw turned at (far-back v u (c .0) j (c .1) there)))
+      let c = any-cases (r .count) (leadsBack W H r (X v) (Y v) u (rowAt r m)) t in
+      let there = and-left (leadsTo (end v (rowAt r (c .0))) u) (eqb (turnedRow r (c .0)) (rowAt r m)) (c .2) in
+      let turned : turnedRow r (c .0) ≡ rowAt r m =
+      eqb-true _ _ (and-right (leadsTo (end v (rowAt r (c .0))) u) (eqb (turnedRow r (c .0)) (rowAt r m)) (c .2)) in
+      is-leads (end u (rowAt r m)) v
+      (rw turned at (far-back v u (c .0) j (c .1) (leads-is (end v (rowAt r (c .0))) u there))))
       (λ t.
-      any-one (length moves) (turnedRow k) (leadsBack W H (X v) (Y v) u k) (turned-below k l)
-      (and-intro _ _ (is-leads (end v (turnedRow k)) u (far-back u v k i l (leads-is (end u k) v t)))
-      (eq-eqb _ _ (turned-twice k l))))
+      any-one (r .count) (oppositeOf r m) (leadsBack W H r (X v) (Y v) u (rowAt r m)) (law m l .opposite-listed)
+      (and-intro _ _ (is-leads (end v (turnedRow r m)) u (far-back u v m i l (leads-is (end u (rowAt r m)) v t)))
+      (eq-eqb _ _ (ap (rowAt r) (turned-twice listed m l)))))
 
-  -- No bit but those of the rows is cleared.
-  leads-none : (u v j : ℕ) → length moves ≤ j → any (length moves) (leadsBack W H (X v) (Y v) u j) ≡ false
-  leads-none u v j l = cases (any (length moves) (leadsBack W H (X v) (Y v) u j)) refl
+  -- The bit of a pinch is not cleared.
+  leads-none : (u v : ℕ) → any (r .count) (leadsBack W H r (X v) (Y v) u pinchBit) ≡ false
+  leads-none u v = cases (any (r .count) (leadsBack W H r (X v) (Y v) u pinchBit)) refl
     where
-      cases : (t : Bool) → any (length moves) (leadsBack W H (X v) (Y v) u j) ≡ t → t ≡ false
+      cases : (t : Bool) → any (r .count) (leadsBack W H r (X v) (Y v) u pinchBit) ≡ t → t ≡ false
       cases false e = refl
       cases true e =
-          let c = any-cases (length moves) (leadsBack W H (X v) (Y v) u j) e in
-          let turned : turnedRow (c .0) ≡ j =
-          eqb-true (turnedRow (c .0)) j (and-right (leadsTo (end v (c .0)) u) (eqb (turnedRow (c .0)) j) (c .2)) in
-          absurd (omega (arith, turned, turned-below (c .0) (c .1)))
+          let c = any-cases (r .count) (leadsBack W H r (X v) (Y v) u pinchBit) e in
+          let turned : turnedRow r (c .0) ≡ pinchBit =
+          eqb-true _ _ (and-right (leadsTo (end v (rowAt r (c .0))) u) (eqb (turnedRow r (c .0)) pinchBit) (c .2)) in
+          absurd (row-apart listed (oppositeOf r (c .0)) (law (c .0) (c .1) .opposite-listed) turned)
 
   -- ---- past one vertex after the other
 
@@ -234,11 +241,13 @@ module _ (f : Floor) where
   cleared-to t v w = rw (number-of W w)
 
   -- The masks of the moves that leave.
-  pub cleared-none : {l : List ℕ} → LeavingTo f (vertices W H) l → Cleared f 0 l
+  pub cleared-none : {l : List ℕ} → LeavingTo f r (vertices W H) l → Cleared f r 0 l
   cleared-none {l} L = record {
     len = L .len;
-    at = λ v i. record { at = λ k h. ap (λ n. bit n k) (L .at v i) ∙ leaving-bits f (X v) (Y v) (column-le W v) .at k h ∙ none-yet v k (end v k) refl };
-    mark = λ v i. ap (λ n. bit n pinchBit) (L .at v i) ∙ leaving-mark f (X v) (Y v);
+    at = λ v i. record {
+      at = λ m h. L .at v i .rows .at m h ∙ none-yet v (rowAt r m) (end v (rowAt r m)) refl;
+    };
+    mark = λ v i. L .at v i .mark;
   }
     where
       none-yet : (v k : ℕ) (o : Option ℕ) → end v k ≡ o → rowIf leaves f (X v) (Y v) k ≡ rowIf (clearedTo 0) f (X v) (Y v) k
@@ -272,18 +281,19 @@ module _ (f : Floor) where
         ap (λ b. b && not (eqb w v)) (row-to (clearedTo v) u k w e ∙ cleared-to v u w)
         ∙ past (leaves f (segment W u w)) w p ∙ sym (row-to (clearedTo (suc v)) u k w e ∙ cleared-to (suc v) u w)
 
-    pub cleared-hit : {l r : List ℕ} → v < vertices W H → pinch f (X v) (Y v) ≡ true → Cleared f v l
-        → ClearsTo W H (X v) (Y v) (length moves) l r → Cleared f (suc v) r
-    cleared-hit {l} {r} j p C R = record {
+    pub cleared-hit : {l l′ : List ℕ} → v < vertices W H → pinch f (X v) (Y v) ≡ true → Cleared f r v l
+        → ClearsTo W H r (X v) (Y v) (r .count) l l′ → Cleared f r (suc v) l′
+    cleared-hit {l} {l′} j p C R = record {
       len = R .len ∙ C .len;
       at = λ u i. record {
-        at = λ k h.
-            R .at u k (omega (arith, C .len)) ∙ ap₂ (λ a b. a && not b) (C .at u i .at k h) (leads-all u v k i j h)
+        at = λ m h.
+            let k = rowAt r m in
+            R .at u k (omega (arith, C .len)) ∙ ap₂ (λ a b. a && not b) (C .at u i .at m h) (leads-all u v m i j h)
             ∙ row-past u k p (end u k) refl;
       };
       mark = λ u i.
           R .at u pinchBit (omega (arith, C .len))
-          ∙ ap₂ (λ a b. a && not b) (C .mark u i) (leads-none u v pinchBit (omega arith))
+          ∙ ap₂ (λ a b. a && not b) (C .mark u i) (leads-none u v)
           ∙ and-true (pinch f (X u) (Y u));
     }
 
@@ -301,15 +311,15 @@ module _ (f : Floor) where
             (λ (n : w ≡ v → ⊥). rw (le-ltb w v (omega arith), le-ltb w (suc v) (omega (arith, n)))) (eq-or-ne w v))
             (le-or-lt (suc w) v)
 
-    pub cleared-skip : {l : List ℕ} → pinch f (X v) (Y v) ≡ false → Cleared f v l → Cleared f (suc v) l
+    pub cleared-skip : {l : List ℕ} → pinch f (X v) (Y v) ≡ false → Cleared f r v l → Cleared f r (suc v) l
     cleared-skip p C = record {
       len = C .len;
-      at = λ u i. record { at = λ k h. C .at u i .at k h ∙ row-same u k p (end u k) refl };
+      at = λ u i. record { at = λ m h. C .at u i .at m h ∙ row-same u (rowAt r m) p (end u (rowAt r m)) refl };
       mark = C .mark;
     }
 
   -- The same of the vertex (x, y), by the bit of its mask that says whether it is a pinch.
-  module _ (x y : ℕ) (on : x ≤ W) (in-y : y ≤ H) {l : List ℕ} (C : Cleared f (number W x y) l) where
+  module _ (x y : ℕ) (on : x ≤ W) (in-y : y ≤ H) {l : List ℕ} (C : Cleared f r (number W x y) l) where
     abbrev v : ℕ
     v = number W x y
 
@@ -322,28 +332,28 @@ module _ (f : Floor) where
     next : suc v ≡ number W (suc x) y
     next = omega arith
 
-    pub past-skip : bit (getD l v 0) pinchBit ≡ false → Cleared f (number W (suc x) y) l
+    pub past-skip : bit (getD l v 0) pinchBit ≡ false → Cleared f r (number W (suc x) y) l
     past-skip e = rw next at (cleared-skip v (sym is-pinch ∙ e) C)
 
-    pub past-hit : {r : List ℕ} → bit (getD l v 0) pinchBit ≡ true → ClearsTo W H x y (length moves) l r
-        → Cleared f (number W (suc x) y) r
-    past-hit {r} e R =
+    pub past-hit : {l′ : List ℕ} → bit (getD l v 0) pinchBit ≡ true → ClearsTo W H r x y (r .count) l l′
+        → Cleared f r (number W (suc x) y) l′
+    past-hit {l′} e R =
         rw next
-        at (cleared-hit v {r = r} inside (sym is-pinch ∙ e) C (rw (column-number W x y on, row-number W x y on) R))
+        at (cleared-hit v {l′ = l′} inside (sym is-pinch ∙ e) C (rw (column-number W x y on, row-number W x y on) R))
 
-  pub cleared-all : {t : ℕ} {l : List ℕ} → vertices W H ≤ t → Cleared f t l → OpenMasks f l
+  pub cleared-all : {t : ℕ} {l : List ℕ} → vertices W H ≤ t → Cleared f r t l → OpenMasks f r l
   cleared-all {t} {l} all C = record {
     len = C .len;
-    at = λ v i. record { at = λ k h. C .at v i .at k h ∙ open-row v k i h (end v k) refl };
+    at = λ v i. record { at = λ m h. C .at v i .at m h ∙ open-row v m i h (end v (rowAt r m)) refl };
   }
     where
-      open-row : (v k : ℕ) → v < vertices W H → k < length moves → (o : Option ℕ) → end v k ≡ o
-          → rowIf (clearedTo t) f (X v) (Y v) k ≡ rowIf sees f (X v) (Y v) k
-      open-row v k i h none e = row-nowhere (clearedTo t) v k e ∙ sym (row-nowhere sees v k e)
-      open-row v k i h (some w) e =
-          let law = rw (whole-row k) at (lawful-move (rowsOf 0 1 (length moves)) k whole-lawful h .is-narrow) in
+      open-row : (v m : ℕ) → v < vertices W H → m < r .count → (o : Option ℕ) → end v (rowAt r m) ≡ o
+          → rowIf (clearedTo t) f (X v) (Y v) (rowAt r m) ≡ rowIf sees f (X v) (Y v) (rowAt r m)
+      open-row v m i h none e = row-nowhere (clearedTo t) v (rowAt r m) e ∙ sym (row-nowhere sees v (rowAt r m) e)
+      open-row v m i h (some w) e =
+          let k = rowAt r m in
           let g = goes anyway f (rowMove k) v w (end-anyway f (rowMove k) (X v) (Y v) ∙ e) in
           let below = end-inside W H (X v) (Y v) k w e in
           row-to (clearedTo t) v k w e ∙ cleared-to t v w
           ∙ rw (lt-ltb w t (omega arith), and-true (pinch f (X w) (Y w)))
-          (sym (row-to sees v k w e ∙ seen-far f (rowMove k) (table-short k h) law v i anyway w g))
+          (sym (row-to sees v k w e ∙ seen-far f (rowMove k) (law m h .is-short) (law m h .is-narrow) v i anyway w g))

@@ -1,130 +1,65 @@
--- The mask of a vertex off the floor's edge is told by the four cells at it: two such vertices with the same four cells have
--- the same mask.
+-- The four cells at a vertex tell which moves pass between or across them: the mask of a floor of 2 by 2 cells, made from the
+-- tests of sight, is that of every such window, also at the edge of the floor, whose outside is blocked.
 --
---   row-same       == a row of the table leads from both vertices with something in the way, or from both with nothing
---   leaving-same   == the masks are the same
---   window-tells   == so the mask of a floor of 2 by 2 cells is that of every vertex with the same four
---   pair-small, window-small == the numbers of two cells and of four
---   windows-none, -more, window-read == the masks of all sixteen, made one after the other, and read
-use Prim.Native.Nat.{ℕ, zero, suc, _+_, _-_, _*_, _≤_, _<_}
-use mathlib.Core.Path.{_≡_, refl, sym, ap, ap₂, _∙_}
+--   window-bits, window-cells == the four cells are the bits of their number
+--   start-centre    == from its start a move has the middle of a floor of 2 by 2 as the vertex between its cells
+--   open-window     == what sight says of a move in a floor of 2 by 2 cells
+--   pinch-window    == and of its middle
+--   Gathered ..     == the rows of the moves before m, gathered in a mask
+--   gathered-none, -more, -all == one move after the other
+--   row-apart       == no row of a neighbourhood has the bit of a pinch
+--   pinch-alone     == the mask of a pinch
+--   windows-none, -more == the masks of all sixteen, made one after the other
+--   Cells r f x y n == n is the mask of the window at (x, y)
+--   window-read     == so is the one that is read by the number of the window
+--   read-none, -more == a row of windows, read one after the other
+--   listed-sixteen, listed-unit == a neighbourhood of sixteen has that table, and no other goes two columns or rows
+--   unit-leaving    == where no move goes two columns or rows, it is that of the moves that leave (x, y)
+--   joined-leaving  == the masks of five windows, joined, are that of the sixteen moves that leave (x, y)
+use Prim.Native.Nat.{ℕ, zero, suc, _+_, _-_, _*_, _%_, _^_, _≤_, _<_}
+use mathlib.Core.Path.{_≡_, refl, sym, ap, ap₂, _∙_, subst}
 use mathlib.Core.Logic.{⊎-elim}
-use mathlib.Core.Bool.{Bool, true, false, _&&_}
+use mathlib.Core.Bool.{Bool, true, false, _&&_, _||_, not, and-true, and-false, or-false}
 use mathlib.Core.List.{List}
-use mathlib.Core.Option.{some}
 use native.Mathlib.Omega.{arith}
-use borrow.Author.Tests.{leb-true}
-use lib.Dec.{leb}
+use borrow.Author.Tests.{eq-eqb, eqb-true, leb-true, not-true}
+use lib.Bits.{bitOr, bitAnd}
+use lib.Dec.{leb, eqb}
 use lib.IntN.{ℤ, pos, negsuc, natAbs}
 use lib.ListN.{length, set, length-set, getD}
 use lib.Seq.{getD-set-same, getD-set-other}
-use Rattle.basics.specs.Bounded.{pick, every, bounded-opened}
-use Rattle.basics.specs.Bits.{bit, bitsOf}
-use Rattle.basics.proofs.Bits.{bits-cong}
-use Rattle.basics.proofs.Bools.{and-left, and-right}
-use Rattle.basics.proofs.Bounded.{every-at}
+use Rattle.basics.specs.Bounded.{pick, every, any, bounded-opened}
+use Rattle.basics.specs.Bits.{bit}
+use Rattle.basics.proofs.Bits.{bit-zero, bit-or, bit-and, row-bit}
+use Rattle.basics.proofs.Bools.{iff-eq, and-intro, and-left, and-right, not-both}
+use Rattle.basics.proofs.Bounded.{every-at, any-cases, any-one}
 use Rattle.basics.proofs.Order.{le-or-lt}
 use Rattle.floor.specs.Floor.{Floor, cellNumber, floorOf, blocked}
 use Rattle.floor.specs.Window.{WindowMap}
 use Rattle.floor.proofs.Cells.{blocked-inside}
-use Rattle.sight.specs.Sight.{unblocked}
-use Rattle.sight.proofs.Corners.{Corners, Alike, stay, up, down, unit-corners, pinch-corners}
+use Rattle.sight.specs.Sight.{unblocked, pinch}
 use Rattle.moves.specs.declared.Move.{Move}
-use Rattle.moves.specs.Moves.{moves, rowMove}
-use Rattle.moves.specs.Steps.{shifted, up as upBy, down as downBy}
-use Rattle.moves.specs.Table.{Reaches}
-use Rattle.moves.proofs.Steps.{shifted-at, end-there}
-use Rattle.masks.specs.Masks.{rowIf, leavingMask}
-use Rattle.masks.specs.Windows.{Inside, windowAt, WindowMask, WindowsTo}
+use Rattle.moves.specs.declared.Rows.{Rows}
+use Rattle.moves.specs.Moves.{rowCount, rowAt, moveAt, neighbourhoodOf}
+use Rattle.moves.specs.Steps.{up, down, endIf, isSome}
+use Rattle.moves.specs.Leaving.{leaves}
+use Rattle.moves.specs.Cells.{beside, windowBlocked, centre}
+use Rattle.moves.specs.Table.{Listed, Short, narrow, lawfulRows}
+use Rattle.moves.proofs.Table.{lawful-move, listed-lawful, same-row, each-listed}
+use Rattle.moves.proofs.Cells.{cells-tell}
+use Rattle.masks.specs.Masks.{rowIf, pinchBit, pinchMask, Leaving, LeavingRow}
+use Rattle.masks.specs.Windows.{windowAt, pinchOf, openIn, startOf, Window, WindowsTo, WindowRow}
+use Rattle.masks.specs.Windows.{sixteenRows, unitRows, unitMask, leftMask, rightMask, upperMask, lowerMask, joinedMask}
+use Rattle.masks.proofs.Masks.{leaves-row}
 
--- Where an offset of at most one leads from a, on a side of n, and from b, on a side of m: inside both.
-record Both (n a m b : ℕ) (d : ℤ) : Type 0 where
-  i : ℕ
-  p : ℕ
-  first : shifted n a d ≡ some i
-  second : shifted m b d ≡ some p
-  first-in : i ≤ n
-  second-in : p ≤ m
-  alike : Alike a i b p
-
-both : {n a m b : ℕ} → 1 ≤ a → suc a ≤ n → 1 ≤ b → suc b ≤ m → (d : ℤ) → natAbs d ≤ 1 → Both n a m b d
-unfolding upBy downBy
-both {n} {a} {m} {b} l r k s (pos zero) h = record {
-  i = a;
-  p = b;
-  first = shifted-at n a a (pos 0) (omega arith) (omega arith);
-  second = shifted-at m b b (pos 0) (omega arith) (omega arith);
-  first-in = omega arith;
-  second-in = omega arith;
-  alike = stay refl refl;
-}
-both {n} {a} {m} {b} l r k s (pos (suc zero)) h = record {
-  i = suc a;
-  p = suc b;
-  first = shifted-at n a (suc a) (pos 1) (omega arith) (omega arith);
-  second = shifted-at m b (suc b) (pos 1) (omega arith) (omega arith);
-  first-in = omega arith;
-  second-in = omega arith;
-  alike = up refl refl;
-}
-both l r k s (pos (suc (suc j))) h = absurd (omega arith)
-both {n} {a} {m} {b} l r k s (negsuc zero) h = record {
-  i = a - 1;
-  p = b - 1;
-  first = shifted-at n a (a - 1) (negsuc 0) (omega arith) (omega arith);
-  second = shifted-at m b (b - 1) (negsuc 0) (omega arith) (omega arith);
-  first-in = omega arith;
-  second-in = omega arith;
-  alike = down (omega arith) (omega arith);
-}
-both l r k s (negsuc (suc j)) h = absurd (omega arith)
-
--- The rows go at most one column and one row.
-abbrev unit-row : ℕ → Bool
-unit-row k = leb (natAbs (rowMove k .dx)) 1 && leb (natAbs (rowMove k .dy)) 1
-
-rows-unit : (k : ℕ) → k < length moves → unit-row k ≡ true
-unfolding bounded-opened
-rows-unit = every-at (length moves) unit-row refl
-
-module _ {f g : Floor} {x y u v : ℕ} (C : Corners f g x y u v) (F : Inside f x y) (G : Inside g u v) where
-  pub row-same : (k : ℕ) → k < length moves → rowIf unblocked f x y k ≡ rowIf unblocked g u v k
-  row-same k l =
-      let m : Move = rowMove k in
-      let t = rows-unit k l in
-      let c = both (F .left) (F .right) (G .left) (G .right) (m .dx)
-      (leb-true _ 1 (and-left (leb (natAbs (m .dx)) 1) (leb (natAbs (m .dy)) 1) t)) in
-      let r = both (F .top) (F .bottom) (G .top) (G .bottom) (m .dy)
-      (leb-true _ 1 (and-right (leb (natAbs (m .dx)) 1) (leb (natAbs (m .dy)) 1) t)) in
-      let here : Reaches (f .wide) (f .high) m x y (c .i) (r .i) = record { columns = c .first; rows = r .first } in
-      let there : Reaches (g .wide) (g .high) m u v (c .p) (r .p) = record { columns = c .second; rows = r .second } in
-      sym (end-there unblocked f m x y (c .i) (r .i) (omega (arith, F .right)) here)
-      ∙ unit-corners C (record {
-        x-first = omega (arith, F .right);
-        y-first = omega (arith, F .bottom);
-        x-last = c .first-in;
-        y-last = r .first-in;
-      }) (record {
-        x-first = omega (arith, G .right);
-        y-first = omega (arith, G .bottom);
-        x-last = c .second-in;
-        y-last = r .second-in;
-      }) (c .alike) (r .alike)
-      ∙ end-there unblocked g m u v (c .p) (r .p) (omega (arith, G .right)) there
-
-  pub leaving-same : leavingMask f x y ≡ leavingMask g u v
-  leaving-same =
-      ap₂ (λ (p : Bool) (n : ℕ). pick p 65536 n) (pinch-corners C)
-      (bits-cong (length moves) (rowIf unblocked f x y) (rowIf unblocked g u v) row-same)
-
--- ---- the sixteen
+-- ---- the four cells
 
 -- The four cells are the bits of their number.
-record Bits (a b c d : Bool) (n : ℕ) : Type 0 where
-  first : bit n 0 ≡ a
-  second : bit n 1 ≡ b
-  third : bit n 2 ≡ c
-  fourth : bit n 3 ≡ d
+pub record Bits (a b c d : Bool) (n : ℕ) : Type 0 where
+  pub first : bit n 0 ≡ a
+  pub second : bit n 1 ≡ b
+  pub third : bit n 2 ≡ c
+  pub fourth : bit n 3 ≡ d
 
 window-bits : (a b c d : Bool) → Bits a b c d ((pick a 1 0 + pick c 4 0) + 2 * (pick b 1 0 + pick d 4 0))
 window-bits true true true true = record { first = refl; second = refl; third = refl; fourth = refl }
@@ -144,38 +79,9 @@ window-bits false false true false = record { first = refl; second = refl; third
 window-bits false false false true = record { first = refl; second = refl; third = refl; fourth = refl }
 window-bits false false false false = record { first = refl; second = refl; third = refl; fourth = refl }
 
-pub window-tells : {b n : ℕ} {l : List ℕ} → WindowMap b l → n ≡ leavingMask (floorOf 2 2 l) 1 1 → WindowMask b n
-window-tells {b} {n} {l} M e = record {
-  at = λ f x y F is.
-      let g = floorOf 2 2 l in
-      let B : Bits (blocked f x y) (blocked f (suc x) y) (blocked f x (suc y)) (blocked f (suc x) (suc y)) b =
-      rw is at (window-bits (blocked f x y) (blocked f (suc x) y) (blocked f x (suc y)) (blocked f (suc x) (suc y))) in
-      let cell : (i j k : ℕ) (c : Bool) → i < 2 → j < 2 → cellNumber 2 i j ≡ k → bit b k ≡ c
-      → blocked g (suc i) (suc j) ≡ c
-      = λ i j k c p q r t.
-      let a : suc i - 1 ≡ i = omega arith in
-      let d : suc j - 1 ≡ j = omega arith in
-      blocked-inside g (suc i) (suc j) (omega arith) (omega arith) (omega arith) (omega arith)
-      ∙ ap₂ (g .cell) a d ∙ M .cell i j p q ∙ ap (bit b) r ∙ t in
-      e ∙ leaving-same {f = g} {g = f} (record {
-        upper-left = cell 0 0 0 (blocked f x y) (omega arith) (omega arith) refl (B .first);
-        upper-right = cell 1 0 1 (blocked f (suc x) y) (omega arith) (omega arith) refl (B .second);
-        lower-left = cell 0 1 2 (blocked f x (suc y)) (omega arith) (omega arith) refl (B .third);
-        lower-right = cell 1 1 3 (blocked f (suc x) (suc y)) (omega arith) (omega arith) refl (B .fourth);
-      }) (record { left = omega arith; right = omega arith; top = omega arith; bottom = omega arith }) F;
-}
-
-pub windows-none : {l : List ℕ} → length l ≡ 16 → WindowsTo 0 l
-windows-none e = record { len = e; at = λ b h. absurd (omega arith) }
-
-pub windows-more : {k m : ℕ} {l : List ℕ} → WindowsTo k l → k < 16 → WindowMask k m → WindowsTo (suc k) (set l k m)
-windows-more {k} {m} {l} W i M = record {
-  len = length-set l k m ∙ W .len;
-  at = λ b h. ⊎-elim (λ (lt : suc b ≤ k). rw (getD-set-other l k b m 0 (λ e. omega arith)) (W .at b lt))
-      (λ (ge : k < suc b).
-      let e : b ≡ k = omega arith in
-      rw (e, getD-set-same l k m 0 (omega (arith, W .len))) M) (le-or-lt (suc b) k);
-}
+window-cells : (f : Floor) (x y : ℕ)
+    → Bits (blocked f x y) (blocked f (suc x) y) (blocked f x (suc y)) (blocked f (suc x) (suc y)) (windowAt f x y)
+window-cells f x y = window-bits (blocked f x y) (blocked f (suc x) y) (blocked f x (suc y)) (blocked f (suc x) (suc y))
 
 pub pair-small : (a b : Bool) → pick a 1 0 + pick b 4 0 ≤ 5
 pair-small true true = omega arith
@@ -191,6 +97,438 @@ window-small f x y =
       pair-small (blocked f (suc x) y) (blocked f (suc x) (suc y)),
     )
 
-pub window-read : {l : List ℕ} {b : ℕ} → WindowsTo 16 l → (f : Floor) (x y : ℕ) → Inside f x y → b ≡ windowAt f x y
-    → getD l b 0 ≡ leavingMask f x y
-window-read {l} {b} W f x y F e = W .at b (omega (arith, window-small f x y)) .at f x y F (sym e)
+-- The cells of a floor of 2 by 2.
+module _ {b : ℕ} {l : List ℕ} (M : WindowMap b l) where
+  abbrev g : Floor
+  g = floorOf 2 2 l
+
+  cell : (i j k : ℕ) → i < 2 → j < 2 → cellNumber 2 i j ≡ k → blocked g (suc i) (suc j) ≡ bit b k
+  cell i j k p q r =
+      let a : suc i - 1 ≡ i = omega arith in
+      let d : suc j - 1 ≡ j = omega arith in
+      blocked-inside g (suc i) (suc j) (omega arith) (omega arith) (omega arith) (omega arith)
+      ∙ ap₂ (g .cell) a d ∙ M .cell i j p q ∙ ap (bit b) r
+
+  of-window : (F : Bool → Bool → Bool → Bool → Bool)
+      → F (blocked g 1 1) (blocked g 2 1) (blocked g 1 2) (blocked g 2 2) ≡ F (bit b 0) (bit b 1) (bit b 2) (bit b 3)
+  of-window F =
+      rw (
+        cell 0 0 0 (omega arith) (omega arith) refl,
+        cell 1 0 1 (omega arith) (omega arith) refl,
+        cell 0 1 2 (omega arith) (omega arith) refl,
+        cell 1 1 3 (omega arith) (omega arith) refl,
+      )
+
+  pub pinch-window : pinch g 1 1 ≡ pinchOf (bit b 0) (bit b 1) (bit b 2) (bit b 3)
+  unfolding pinch
+  pinch-window = of-window pinchOf
+
+  pub open-window : (m : Move) (x y : ℕ) → Short m → narrow m ≡ true → x ≤ 2 → y ≤ 2 → centre (m .dx) x ≡ 1
+      → centre (m .dy) y ≡ 1 → pinchOf (bit b 0) (bit b 1) (bit b 2) (bit b 3) ≡ false
+      → isSome (endIf unblocked g m x y) ≡ openIn m (bit b 0) (bit b 1) (bit b 2) (bit b 3)
+  open-window m x y s n p q c d free =
+      let told : isSome (endIf unblocked g m x y)
+      ≡ not (windowBlocked (m .dx) (m .dy) (blocked g 1 1) (blocked g 2 1) (blocked g 1 2) (blocked g 2 2)) =
+      rw (c, d) at (cells-tell g m x y p q s n) in
+      let shut = windowBlocked (m .dx) (m .dy) (bit b 0) (bit b 1) (bit b 2) (bit b 3) in
+      told ∙ of-window (λ ul ur ll lr. not (windowBlocked (m .dx) (m .dy) ul ur ll lr))
+      ∙ sym (ap (λ t. not shut && not t) free ∙ and-true (not shut))
+
+pub start-centre : (d : ℤ) → natAbs d ≤ 2 → centre d (startOf d) ≡ 1
+unfolding centre up down
+start-centre (pos zero) h = refl
+start-centre (pos (suc zero)) h = refl
+start-centre (pos (suc (suc zero))) h = refl
+start-centre (pos (suc (suc (suc n)))) h = absurd (omega arith)
+start-centre (negsuc zero) h = refl
+start-centre (negsuc (suc zero)) h = refl
+start-centre (negsuc (suc (suc n))) h = absurd (omega arith)
+
+-- ---- the mask of one window
+
+-- A bit of a row is below 2^32.
+pub row-shifted : (k : ℕ) → k < rowCount → 1 * 2 ^ k % 4294967296 ≡ 2 ^ k
+unfolding bounded-opened
+row-shifted k l = eqb-true _ _ (every-at rowCount (λ k. eqb (1 * 2 ^ k % 4294967296) (2 ^ k)) refl k l)
+
+-- A mask has row k where it is the row of one of the first n moves of r, and that move passes the test.
+pub record Gathered (r : Rows) (T : ℕ → Bool) (n mask : ℕ) : Type 0 where
+  pub at : (k : ℕ) → bit mask k ≡ any n (λ m. T m && eqb (rowAt r m) k)
+
+pub gathered-none : {r : Rows} {T : ℕ → Bool} → Gathered r T 0 0
+unfolding any
+gathered-none = record { at = bit-zero }
+
+pub gathered-more : {r : Rows} {T : ℕ → Bool} {n mask t : ℕ} → Gathered r T n mask → t ≡ pick (T n) (2 ^ rowAt r n) 0
+    → Gathered r T (suc n) (bitOr mask t)
+unfolding any
+gathered-more {r} {T} {n} {mask} G e = record {
+  at = λ k. rw e (bit-or mask (pick (T n) (2 ^ rowAt r n) 0) k ∙ ap₂ _||_ (G .at k) (row-bit (T n) (rowAt r n) k));
+}
+
+-- No row of a neighbourhood has the bit of a pinch.
+pub row-apart : {r : Rows} → Listed r → (m : ℕ) → m < r .count → rowAt r m ≡ pinchBit → ⊥
+unfolding bounded-opened
+row-apart {r} h m l e =
+    not-both _ (eq-eqb (rowAt r m) pinchBit e)
+    (not-true _
+    (every-at (r .count) (λ m. not (eqb (rowAt r m) pinchBit))
+    (each-listed (λ r. every (r .count) (λ m. not (eqb (rowAt r m) pinchBit)) ≡ true) refl refl refl h) m l))
+
+module _ {r : Rows} (listed : Listed r) where
+  gathered-row : {T : ℕ → Bool} {mask : ℕ} → Gathered r T (r .count) mask → (m : ℕ) → m < r .count
+      → bit mask (rowAt r m) ≡ T m
+  gathered-row {T} {mask} G m l =
+      let test : ℕ → Bool = λ n. T n && eqb (rowAt r n) (rowAt r m) in
+      G .at (rowAt r m)
+      ∙ iff-eq (any (r .count) test) (T m)
+      (λ t.
+      let c = any-cases (r .count) test t in
+      let e = eqb-true (rowAt r (c .0)) (rowAt r m) (and-right (T (c .0)) (eqb (rowAt r (c .0)) (rowAt r m)) (c .2)) in
+      ap T (sym (same-row r (listed-lawful listed) (c .0) m (c .1) l e)) ∙ and-left (T (c .0)) (eqb (rowAt r (c .0)) (rowAt r m)) (c .2))
+      (λ t. any-one (r .count) m test l (and-intro _ _ t (eq-eqb (rowAt r m) (rowAt r m) refl)))
+
+  -- No bit but those of the rows is set.
+  gathered-past : {T : ℕ → Bool} {mask : ℕ} → Gathered r T (r .count) mask → bit mask pinchBit ≡ false
+  gathered-past {T} {mask} G = G .at pinchBit ∙ cases (any (r .count) (λ m. T m && eqb (rowAt r m) pinchBit)) refl
+    where
+      cases : (t : Bool) → any (r .count) (λ m. T m && eqb (rowAt r m) pinchBit) ≡ t → t ≡ false
+      cases false e = refl
+      cases true e =
+          let c = any-cases (r .count) (λ m. T m && eqb (rowAt r m) pinchBit) e in
+          let is = eqb-true (rowAt r (c .0)) pinchBit (and-right (T (c .0)) (eqb (rowAt r (c .0)) pinchBit) (c .2)) in
+          absurd (row-apart listed (c .0) (c .1) is)
+
+  pub gathered-all : {b mask : ℕ} → pinchOf (bit b 0) (bit b 1) (bit b 2) (bit b 3) ≡ false
+      → Gathered r (λ m. openIn (moveAt r m) (bit b 0) (bit b 1) (bit b 2) (bit b 3)) (r .count) mask → Window r b mask
+  gathered-all free G = record { rows = λ m l. gathered-row G m l; mark = gathered-past G ∙ sym free }
+
+  -- No row's bit is set in the mask of a pinch.
+  pinch-row : (m : ℕ) → m < r .count → bit pinchMask (rowAt r m) ≡ false
+  unfolding bounded-opened
+  pinch-row m l =
+      not-true _
+      (every-at (r .count) (λ m. not (bit pinchMask (rowAt r m)))
+      (each-listed (λ r. every (r .count) (λ m. not (bit pinchMask (rowAt r m))) ≡ true) refl refl refl listed) m l)
+
+  pub pinch-alone : {b : ℕ} → pinchOf (bit b 0) (bit b 1) (bit b 2) (bit b 3) ≡ true → Window r b pinchMask
+  pinch-alone {b} is = record {
+    rows = λ m l.
+        pinch-row m l
+        ∙ sym (rw is (and-false (not (windowBlocked (moveAt r m .dx) (moveAt r m .dy) (bit b 0) (bit b 1) (bit b 2) (bit b 3)))));
+    mark = sym is;
+  }
+
+-- ---- the sixteen
+
+pub windows-none : {r : Rows} {l : List ℕ} → length l ≡ 16 → WindowsTo r 0 l
+windows-none e = record { len = e; at = λ b h. absurd (omega arith) }
+
+pub windows-more : {r : Rows} {k n : ℕ} {l : List ℕ} → WindowsTo r k l → k < 16 → Window r k n
+    → WindowsTo r (suc k) (set l k n)
+windows-more {r} {k} {n} {l} W i M = record {
+  len = length-set l k n ∙ W .len;
+  at = λ b h. ⊎-elim (λ (lt : suc b ≤ k). rw (getD-set-other l k b n 0 (λ e. omega arith)) (W .at b lt))
+      (λ (ge : k < suc b).
+      let e : b ≡ k = omega arith in
+      rw (e, getD-set-same l k n 0 (omega (arith, W .len))) M) (le-or-lt (suc b) k);
+}
+
+-- The mask of the window at (x, y), by its cells.
+pub record Cells (r : Rows) (f : Floor) (x y n : ℕ) : Type 0 where
+  pub rows : (m : ℕ) → m < r .count
+      → bit n (rowAt r m)
+      ≡ openIn (moveAt r m) (blocked f x y) (blocked f (suc x) y) (blocked f x (suc y)) (blocked f (suc x) (suc y))
+  pub mark : bit n pinchBit ≡ pinch f x y
+
+pub window-read : {r : Rows} {l : List ℕ} {b : ℕ} → WindowsTo r 16 l → (f : Floor) (x y : ℕ) → b ≡ windowAt f x y
+    → Cells r f x y (getD l b 0)
+unfolding pinch
+window-read {r} {l} {b} W f x y e =
+    let w = W .at b (omega (arith, e, window-small f x y)) in
+    let B : Bits (blocked f x y) (blocked f (suc x) y) (blocked f x (suc y)) (blocked f (suc x) (suc y)) b =
+    rw e (window-cells f x y) in
+    record {
+      rows = λ m l. w .rows m l ∙ rw (B .first, B .second, B .third, B .fourth);
+      mark = w .mark ∙ rw (B .first, B .second, B .third, B .fourth);
+    }
+
+pub read-none : {f : Floor} {y : ℕ} {t l : List ℕ} → length l ≡ 128 → WindowRow f y t 0 l
+read-none e = record { len = e; at = λ x h. absurd (omega arith) }
+
+pub read-more : {f : Floor} {y n b : ℕ} {t l : List ℕ} → WindowRow f y t n l → n < 128 → b ≡ windowAt f n y
+    → WindowRow f y t (suc n) (set l n (getD t b 0))
+read-more {f} {y} {n} {b} {t} {l} R i e = record {
+  len = length-set l n (getD t b 0) ∙ R .len;
+  at = λ x h. ⊎-elim (λ (lt : suc x ≤ n). getD-set-other l n x (getD t b 0) 0 (λ e. omega arith) ∙ R .at x lt)
+      (λ (ge : n < suc x).
+      let s : x ≡ n = omega arith in
+      rw (s, getD-set-same l n (getD t b 0) 0 (omega (arith, R .len))) (ap (λ k. getD t k 0) e)) (le-or-lt (suc x) n);
+}
+
+pub sixteen-listed : Listed sixteenRows
+unfolding neighbourhoodOf
+sixteen-listed = record { number = 16; known = refl }
+
+pub listed-sixteen : {r : Rows} → Listed r → r .count ≡ 16 → r ≡ sixteenRows
+listed-sixteen h =
+    each-listed (λ r. r .count ≡ 16 → r ≡ sixteenRows) (λ e. absurd (omega arith)) (λ e. absurd (omega arith)) (λ e. refl) h
+
+pub listed-unit : {r : Rows} → Listed r → (r .count ≡ 16 → ⊥) → unitRows r ≡ true
+unfolding bounded-opened
+listed-unit h =
+    each-listed (λ r. (r .count ≡ 16 → ⊥) → unitRows r ≡ true) (λ n. refl) (λ n. refl) (λ n. absurd (n refl)) h
+
+-- ---- the mask of a vertex
+
+centre-unit : (d : ℤ) (a : ℕ) → natAbs d ≤ 1 → centre d a ≡ a
+unfolding centre
+centre-unit (pos zero) a h = refl
+centre-unit (pos (suc zero)) a h = refl
+centre-unit (pos (suc (suc n))) a h = absurd (omega arith)
+centre-unit (negsuc zero) a h = refl
+centre-unit (negsuc (suc n)) a h = absurd (omega arith)
+
+module _ {r : Rows} (listed : Listed r) (f : Floor) (x y : ℕ) (on : x ≤ f .wide) (in-y : y ≤ f .high) where
+  abbrev closed : ℕ → ℕ → ℕ → Bool
+  closed m X Y =
+      windowBlocked (moveAt r m .dx) (moveAt r m .dy) (blocked f X Y) (blocked f (suc X) Y) (blocked f X (suc Y))
+      (blocked f (suc X) (suc Y))
+
+  -- A move that leaves (x, y), by the cells at the vertex between them.
+  leaves-told : (m X Y : ℕ) → m < r .count → centre (moveAt r m .dx) x ≡ X → centre (moveAt r m .dy) y ≡ Y
+      → rowIf leaves f x y (rowAt r m) ≡ (not (closed m X Y) && not (pinch f x y))
+  leaves-told m X Y l p q =
+      let t = lawful-move r m (listed-lawful listed) l in
+      leaves-row f x y on (rowAt r m)
+      ∙ ap (λ b. b && not (pinch f x y))
+      (cells-tell f (moveAt r m) x y on in-y (t .is-short) (t .is-narrow)
+      ∙ ap₂ (λ i j. not (closed m i j)) p q)
+
+  pub unit-leaving : {n : ℕ} → unitRows r ≡ true → Cells r f x y n → Leaving f r x y n
+  unfolding pinch
+  unit-leaving u C = record {
+    rows = record {
+      at = λ m l.
+          let t = every-at (r .count) (λ m. leb (natAbs (moveAt r m .dx)) 1 && leb (natAbs (moveAt r m .dy)) 1) u m l in
+          let dx = leb-true _ 1 (and-left (leb (natAbs (moveAt r m .dx)) 1) (leb (natAbs (moveAt r m .dy)) 1) t) in
+          let dy = leb-true _ 1 (and-right (leb (natAbs (moveAt r m .dx)) 1) (leb (natAbs (moveAt r m .dy)) 1) t) in
+          C .rows m l ∙ sym (leaves-told m x y l (centre-unit (moveAt r m .dx) x dx) (centre-unit (moveAt r m .dy) y dy));
+    };
+    mark = C .mark;
+  }
+
+-- The same of a row.
+pub unit-rows : {r : Rows} {f : Floor} {y : ℕ} {t l : List ℕ} → Listed r → unitRows r ≡ true → y ≤ f .high
+    → WindowsTo r 16 t → WindowRow f y t (suc (f .wide)) l → LeavingRow f r y (suc (f .wide)) l
+unit-rows {r} {f} {y} {t} {l} listed u in-y W R = record {
+  len = R .len;
+  at = λ x h. rw (R .at x h) (unit-leaving listed f x y (omega arith) in-y u (window-read W f x y refl));
+}
+
+-- ---- five windows
+
+-- Of a pinch's four cells, one of each two that lie side by side is blocked.
+upper-shut : (ul ur ll lr : Bool) → (not (ul || ur) && not (pinchOf ul ur ll lr)) ≡ not (ul || ur)
+upper-shut true ur ll lr = refl
+upper-shut false true ll lr = refl
+upper-shut false false ll true = refl
+upper-shut false false ll false = refl
+
+lower-shut : (ul ur ll lr : Bool) → (not (ll || lr) && not (pinchOf ul ur ll lr)) ≡ not (ll || lr)
+lower-shut ul ur true lr = refl
+lower-shut ul ur false true = refl
+lower-shut true true false false = refl
+lower-shut true false false false = refl
+lower-shut false true false false = refl
+lower-shut false false false false = refl
+
+left-shut : (ul ur ll lr : Bool) → (not (ul || ll) && not (pinchOf ul ur ll lr)) ≡ not (ul || ll)
+left-shut true ur ll lr = refl
+left-shut false ur true lr = refl
+left-shut false true false true = refl
+left-shut false true false false = refl
+left-shut false false false true = refl
+left-shut false false false false = refl
+
+right-shut : (ul ur ll lr : Bool) → (not (ur || lr) && not (pinchOf ul ur ll lr)) ≡ not (ur || lr)
+right-shut ul true ll lr = refl
+right-shut ul false ll true = refl
+right-shut true false ll false = refl
+right-shut false false true false = refl
+right-shut false false false false = refl
+
+or-none : (t b : Bool) → (t || (b && false)) ≡ t
+or-none true b = refl
+or-none false true = refl
+or-none false false = refl
+
+module _ (here left right upper lower : ℕ) where
+  abbrev rest : ℕ
+  rest =
+      bitOr
+      (bitOr (bitOr (bitOr (bitAnd here unitMask) (bitAnd left leftMask)) (bitAnd right rightMask)) (bitAnd upper upperMask))
+      (bitAnd lower lowerMask)
+
+  -- A bit of the five, by the bits of the constants.
+  abbrev five : ℕ → Bool → Bool → Bool → Bool → Bool → Bool
+  five k a b c d e =
+      ((((bit here k && a) || (bit left k && b)) || (bit right k && c)) || (bit upper k && d)) || (bit lower k && e)
+
+  rest-bit : (k : ℕ)
+      → bit rest k ≡ five k (bit unitMask k) (bit leftMask k) (bit rightMask k) (bit upperMask k) (bit lowerMask k)
+  rest-bit k =
+      bit-or (bitOr (bitOr (bitOr (bitAnd here unitMask) (bitAnd left leftMask)) (bitAnd right rightMask)) (bitAnd upper upperMask))
+      (bitAnd lower lowerMask) k
+      ∙ ap₂ _||_
+      (bit-or (bitOr (bitOr (bitAnd here unitMask) (bitAnd left leftMask)) (bitAnd right rightMask)) (bitAnd upper upperMask) k
+      ∙ ap₂ _||_
+      (bit-or (bitOr (bitAnd here unitMask) (bitAnd left leftMask)) (bitAnd right rightMask) k
+      ∙ ap₂ _||_
+      (bit-or (bitAnd here unitMask) (bitAnd left leftMask) k
+      ∙ ap₂ _||_ (bit-and here unitMask k) (bit-and left leftMask k)) (bit-and right rightMask k))
+      (bit-and upper upperMask k)) (bit-and lower lowerMask k)
+
+  module _ (k : ℕ) where
+    abbrev A : Bool
+    A = bit here k
+
+    abbrev B : Bool
+    B = bit left k
+
+    abbrev C : Bool
+    C = bit right k
+
+    abbrev D : Bool
+    D = bit upper k
+
+    abbrev E : Bool
+    E = bit lower k
+
+    none-2 : ((A && false) || (B && false)) ≡ false
+    none-2 = or-none (A && false) B ∙ and-false A
+
+    none-3 : (((A && false) || (B && false)) || (C && false)) ≡ false
+    none-3 = or-none ((A && false) || (B && false)) C ∙ none-2
+
+    none-4 : ((((A && false) || (B && false)) || (C && false)) || (D && false)) ≡ false
+    none-4 = or-none (((A && false) || (B && false)) || (C && false)) D ∙ none-3
+
+    of-here : five k true false false false false ≡ A
+    of-here =
+        or-none ((((A && true) || (B && false)) || (C && false)) || (D && false)) E
+        ∙ or-none (((A && true) || (B && false)) || (C && false)) D ∙ or-none ((A && true) || (B && false)) C
+        ∙ or-none (A && true) B ∙ and-true A
+
+    of-left : five k false true false false false ≡ B
+    of-left =
+        or-none ((((A && false) || (B && true)) || (C && false)) || (D && false)) E
+        ∙ or-none (((A && false) || (B && true)) || (C && false)) D ∙ or-none ((A && false) || (B && true)) C
+        ∙ ap (λ t. t || (B && true)) (and-false A) ∙ and-true B
+
+    of-right : five k false false true false false ≡ C
+    of-right =
+        or-none ((((A && false) || (B && false)) || (C && true)) || (D && false)) E
+        ∙ or-none (((A && false) || (B && false)) || (C && true)) D
+        ∙ ap (λ t. t || (C && true)) none-2 ∙ and-true C
+
+    of-upper : five k false false false true false ≡ D
+    of-upper =
+        or-none ((((A && false) || (B && false)) || (C && false)) || (D && true)) E
+        ∙ ap (λ t. t || (D && true)) none-3 ∙ and-true D
+
+    of-lower : five k false false false false true ≡ E
+    of-lower = ap (λ t. t || (E && true)) none-4 ∙ and-true E
+
+    of-none : five k false false false false false ≡ false
+    of-none = or-none ((((A && false) || (B && false)) || (C && false)) || (D && false)) E ∙ none-4
+
+module _ (listed : Listed sixteenRows) (f : Floor) (x y : ℕ) (on : x ≤ f .wide) (in-y : y ≤ f .high)
+    {here left right upper lower : ℕ} (H : Cells sixteenRows f x y here) (L : Cells sixteenRows f (x - 1) y left)
+    (R : Cells sixteenRows f (suc x) y right) (U : Cells sixteenRows f x (y - 1) upper)
+    (D : Cells sixteenRows f x (suc y) lower) where
+  abbrev J : ℕ
+  J = rest here left right upper lower
+
+  module _ (free : pinch f x y ≡ false) where
+    abbrev Says : ℕ → Type 0
+    Says m = bit J (rowAt sixteenRows m) ≡ rowIf leaves f x y (rowAt sixteenRows m)
+
+    abbrev told : (m X Y : ℕ) → m < 16 → centre (moveAt sixteenRows m .dx) x ≡ X → centre (moveAt sixteenRows m .dy) y ≡ Y
+        → rowIf leaves f x y (rowAt sixteenRows m) ≡ (not (closed listed f x y on in-y m X Y) && not (pinch f x y))
+    told = leaves-told listed f x y on in-y
+
+    unit : (m : ℕ) → m < 16 → bit J (rowAt sixteenRows m) ≡ bit here (rowAt sixteenRows m)
+        → centre (moveAt sixteenRows m .dx) x ≡ x → centre (moveAt sixteenRows m .dy) y ≡ y → Says m
+    unfolding pinch
+    unit m l e p q = e ∙ H .rows m l ∙ sym (told m x y l p q)
+
+    -- A move by two columns or rows, with its cells at (X, Y).
+    far : (m X Y n : ℕ) → m < 16 → Cells sixteenRows f X Y n → bit J (rowAt sixteenRows m) ≡ bit n (rowAt sixteenRows m)
+        → centre (moveAt sixteenRows m .dx) x ≡ X → centre (moveAt sixteenRows m .dy) y ≡ Y
+        → ((ul ur ll lr : Bool) → openIn (moveAt sixteenRows m) ul ur ll lr
+        ≡ not (windowBlocked (moveAt sixteenRows m .dx) (moveAt sixteenRows m .dy) ul ur ll lr)) → Says m
+    far m X Y n l C e p q shut =
+        e ∙ C .rows m l ∙ shut (blocked f X Y) (blocked f (suc X) Y) (blocked f X (suc Y)) (blocked f (suc X) (suc Y))
+        ∙ sym (told m X Y l p q ∙ rw free (and-true (not (closed listed f x y on in-y m X Y))))
+
+    abbrev b : (k : ℕ) → bit J k ≡ five here left right upper lower k (bit unitMask k) (bit leftMask k) (bit rightMask k)
+        (bit upperMask k) (bit lowerMask k)
+    b = rest-bit here left right upper lower
+
+    says-10 : (m : ℕ) → 10 + m < 16 → Says (10 + m)
+    unfolding centre beside
+    says-10 zero l = unit 10 l (b 26 ∙ of-here here left right upper lower 26) refl refl
+    says-10 (suc zero) l = far 11 x (y - 1) upper l U (b 27 ∙ of-upper here left right upper lower 27) refl refl left-shut
+    says-10 (suc (suc zero)) l = unit 12 l (b 28 ∙ of-here here left right upper lower 28) refl refl
+    says-10 (suc (suc (suc zero))) l =
+        far 13 x (y - 1) upper l U (b 29 ∙ of-upper here left right upper lower 29) refl refl right-shut
+    says-10 (suc (suc (suc (suc zero)))) l = unit 14 l (b 30 ∙ of-here here left right upper lower 30) refl refl
+    says-10 (suc (suc (suc (suc (suc zero))))) l =
+        far 15 (suc x) y right l R (b 31 ∙ of-right here left right upper lower 31) refl refl upper-shut
+    says-10 (suc (suc (suc (suc (suc (suc m)))))) l = absurd (omega arith)
+
+    says-5 : (m : ℕ) → 5 + m < 16 → Says (5 + m)
+    unfolding centre beside
+    says-5 zero l = far 5 x (suc y) lower l D (b 21 ∙ of-lower here left right upper lower 21) refl refl left-shut
+    says-5 (suc zero) l = unit 6 l (b 22 ∙ of-here here left right upper lower 22) refl refl
+    says-5 (suc (suc zero)) l = far 7 (x - 1) y left l L (b 23 ∙ of-left here left right upper lower 23) refl refl lower-shut
+    says-5 (suc (suc (suc zero))) l = unit 8 l (b 24 ∙ of-here here left right upper lower 24) refl refl
+    says-5 (suc (suc (suc (suc zero)))) l =
+        far 9 (x - 1) y left l L (b 25 ∙ of-left here left right upper lower 25) refl refl upper-shut
+    says-5 (suc (suc (suc (suc (suc m))))) l =
+        let e : 10 + m ≡ 5 + suc (suc (suc (suc (suc m)))) = omega arith in
+        subst Says e (says-10 m (omega arith))
+
+    says : (m : ℕ) → m < 16 → Says m
+    unfolding centre beside
+    says zero l = unit 0 l (b 16 ∙ of-here here left right upper lower 16) refl refl
+    says (suc zero) l = far 1 (suc x) y right l R (b 17 ∙ of-right here left right upper lower 17) refl refl lower-shut
+    says (suc (suc zero)) l = unit 2 l (b 18 ∙ of-here here left right upper lower 18) refl refl
+    says (suc (suc (suc zero))) l = far 3 x (suc y) lower l D (b 19 ∙ of-lower here left right upper lower 19) refl refl right-shut
+    says (suc (suc (suc (suc zero)))) l = unit 4 l (b 20 ∙ of-here here left right upper lower 20) refl refl
+    says (suc (suc (suc (suc (suc m))))) l =
+        let e : 5 + m ≡ suc (suc (suc (suc (suc m)))) = omega arith in
+        subst Says e (says-5 m (omega arith))
+
+  pub joined-leaving : Leaving f sixteenRows x y (joinedMask here left right upper lower)
+  joined-leaving = cases (bit here pinchBit) refl
+    where
+      cases : (p : Bool) → bit here pinchBit ≡ p → Leaving f sixteenRows x y (pick p pinchMask J)
+      cases true e =
+          let is : pinch f x y ≡ true = sym (H .mark) ∙ e in
+          record {
+            rows = record {
+              at = λ m l.
+                  pinch-row listed m l
+                  ∙ sym (leaves-row f x y on (rowAt sixteenRows m)
+                  ∙ rw is (and-false (rowIf unblocked f x y (rowAt sixteenRows m))));
+            };
+            mark = sym is;
+          }
+      cases false e =
+          let free : pinch f x y ≡ false = sym (H .mark) ∙ e in
+          record {
+            rows = record { at = λ m l. says free m l };
+            mark = rest-bit here left right upper lower pinchBit ∙ of-none here left right upper lower pinchBit ∙ sym free;
+          }

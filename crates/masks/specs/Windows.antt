@@ -1,25 +1,39 @@
 -- The masks of the sixteen ways in which the four cells at a vertex can be blocked. Nobody has to believe these: laws in
--- proofs/ tie them to `leavingMask`.
+-- proofs/ tie them to `Leaving`.
 --
---   Inside f x y     == the vertex (x, y) is off the edge of floor f
 --   pairAt f x y     == the two cells to the left of column line x at row line y: 1 where the upper is blocked, and 4 where
 --                       the lower is
 --   windowAt f x y   == the four cells at the vertex (x, y) as a number: a bit for each, in the order of a floor of 2 by 2
---   WindowMask b n   == n is the mask of every vertex off the edge whose four cells are b
---   WindowsTo k l    == the list l has these masks for the numbers below k
-use Prim.Native.Nat.{ℕ, suc, _+_, _*_, _≤_, _<_}
+--   pinchOf ul ur ll lr == a vertex with these four cells is a pinch
+--   openIn m ul ur ll lr == no cell and no step is in the way of a move of these offsets that has these four cells beside it,
+--                       and their vertex is no pinch
+--   startOf d        == the line of a floor of 2 by 2 from which an offset d has all its cells in that floor
+--   Window r b n     == n is the mask of the rows r where the four cells are b
+--   WindowsTo r k l  == the list l has these masks for the numbers below k
+--   WindowRow f y t n l == the list l begins with the masks, of those in t, of the windows at the first n vertices of row y
+--   sixteenRows      == the rows of the table of sixteen
+--   unitRows r       == no move of the rows r goes two columns or two rows
+--   unitMask, leftMask, rightMask, upperMask, lowerMask == of the rows of the sixteen, those of the eight moves by at most
+--                       one column and one row, and of those by two, those that go left, right, up and down
+--   joinedMask here left right upper lower == the rows of each from the masks of five windows; the mask of a pinch where
+--                       the first is that of one
+use Prim.Native.Nat.{ℕ, suc, _+_, _-_, _*_, _/_, _≤_, _<_}
 use mathlib.Core.Path.{_≡_}
+use mathlib.Core.Bool.{Bool, _&&_, _||_, not}
 use mathlib.Core.List.{List}
+use lib.Bits.{bitOr, bitAnd}
+use lib.Dec.{leb}
+use lib.IntN.{ℤ, natAbs}
 use lib.ListN.{length, getD}
-use Rattle.basics.specs.Bounded.{pick}
+use Rattle.basics.specs.Bounded.{pick, every}
+use Rattle.basics.specs.Bits.{bit}
 use Rattle.floor.specs.Floor.{Floor, blocked}
-use Rattle.masks.specs.Masks.{leavingMask}
-
-pub record Inside (f : Floor) (x y : ℕ) : Type 0 where
-  pub left : 1 ≤ x
-  pub right : suc x ≤ f .wide
-  pub top : 1 ≤ y
-  pub bottom : suc y ≤ f .high
+use Rattle.moves.specs.declared.Move.{Move}
+use Rattle.moves.specs.declared.Rows.{Rows}
+use Rattle.moves.specs.Moves.{rowsOf, rowAt, moveAt}
+use Rattle.moves.specs.Steps.{up, down}
+use Rattle.moves.specs.Cells.{windowBlocked}
+use Rattle.masks.specs.Masks.{pinchBit, pinchMask}
 
 abbrev pub pairAt : Floor → ℕ → ℕ → ℕ
 pairAt f x y = pick (blocked f x y) 1 0 + pick (blocked f x (suc y)) 4 0
@@ -27,9 +41,53 @@ pairAt f x y = pick (blocked f x y) 1 0 + pick (blocked f x (suc y)) 4 0
 abbrev pub windowAt : Floor → ℕ → ℕ → ℕ
 windowAt f x y = pairAt f x y + 2 * pairAt f (suc x) y
 
-pub record WindowMask (b n : ℕ) : Type 0 where
-  pub at : (f : Floor) (x y : ℕ) → Inside f x y → windowAt f x y ≡ b → n ≡ leavingMask f x y
+abbrev pub pinchOf : Bool → Bool → Bool → Bool → Bool
+pinchOf ul ur ll lr = (ul && lr && (not ur && not ll)) || (not ul && not lr && (ur && ll))
 
-pub record WindowsTo (k : ℕ) (l : List ℕ) : Type 0 where
+abbrev pub openIn : Move → Bool → Bool → Bool → Bool → Bool
+openIn m ul ur ll lr = not (windowBlocked (m .dx) (m .dy) ul ur ll lr) && not (pinchOf ul ur ll lr)
+
+abbrev pub startOf : ℤ → ℕ
+startOf d = 1 + down d / 2 - up d / 2
+
+pub record Window (r : Rows) (b n : ℕ) : Type 0 where
+  pub rows : (m : ℕ) → m < r .count → bit n (rowAt r m) ≡ openIn (moveAt r m) (bit b 0) (bit b 1) (bit b 2) (bit b 3)
+  pub mark : bit n pinchBit ≡ pinchOf (bit b 0) (bit b 1) (bit b 2) (bit b 3)
+
+pub record WindowsTo (r : Rows) (k : ℕ) (l : List ℕ) : Type 0 where
   pub len : length l ≡ 16
-  pub at : (b : ℕ) → b < k → WindowMask b (getD l b 0)
+  pub at : (b : ℕ) → b < k → Window r b (getD l b 0)
+
+pub record WindowRow (f : Floor) (y : ℕ) (t : List ℕ) (n : ℕ) (l : List ℕ) : Type 0 where
+  pub len : length l ≡ 128
+  pub at : (x : ℕ) → x < n → getD l x 0 ≡ getD t (windowAt f x y) 0
+
+-- ---- the rows of the sixteen by where their cells are
+
+abbrev pub sixteenRows : Rows
+sixteenRows = rowsOf 16 1 16
+
+abbrev pub unitRows : Rows → Bool
+unitRows r = every (r .count) (λ m. leb (natAbs (moveAt r m .dx)) 1 && leb (natAbs (moveAt r m .dy)) 1)
+
+abbrev pub unitMask : ℕ
+unitMask = 1431633920
+
+abbrev pub leftMask : ℕ
+leftMask = 41943040
+
+abbrev pub rightMask : ℕ
+rightMask = 2147614720
+
+abbrev pub upperMask : ℕ
+upperMask = 671088640
+
+abbrev pub lowerMask : ℕ
+lowerMask = 2621440
+
+abbrev pub joinedMask : ℕ → ℕ → ℕ → ℕ → ℕ → ℕ
+joinedMask here left right upper lower =
+    pick (bit here pinchBit) pinchMask
+    (bitOr
+    (bitOr (bitOr (bitOr (bitAnd here unitMask) (bitAnd left leftMask)) (bitAnd right rightMask)) (bitAnd upper upperMask))
+    (bitAnd lower lowerMask))

@@ -1,24 +1,37 @@
-// The moves of a vertex as a mask, a bit for each row of the table: those that leave it, and those of all vertices of a floor
+// The moves of a vertex as a mask, a bit for each row of the tables: those that leave it, and those of all vertices of a floor
 // that are open. Every bit of a mask comes from the test of a move, and the pinches from that of a vertex, both in sight:
-// off the floor's edge they are asked of the sixteen floors of 2 by 2 cells, and the cells at a vertex say which.
+// they are asked of the sixteen floors of 2 by 2 cells, and the cells at a vertex say which.
 ghost use mathlib.Core.Path.{_≡_};
-ghost use Prim.Native.Nat.{suc, _+_, _<_, _≤_};
+ghost use mathlib.Core.Bool.{false};
+ghost use Prim.Native.Nat.{suc, _+_, _-_, _^_, _<_, _≤_};
+ghost use lib.IntN.{natAbs};
 ghost use lib.ListN.{length};
 ghost use Rattle.basics.specs.Bounded.{pick};
-ghost use Rattle.basics.specs.Bits.{bitsOf};
+ghost use Rattle.basics.specs.Bits.{bit};
 ghost use Rattle.floor.specs.Floor.{Sized, floorOf, vertices, number};
-ghost use Rattle.sight.specs.Sight.{unblocked};
-ghost use Rattle.moves.specs.Moves.{moves, moveOf};
-ghost use Rattle.moves.specs.Steps.{endIf, isSome};
-ghost use Rattle.moves.specs.Table.{Short, OnFloor};
-ghost use Rattle.masks.specs.Masks.{rowIf, OpenMasks, leavingMask, LeavingRow, LeavingTo};
-ghost use Rattle.masks.specs.Windows.{pairAt, WindowMask, WindowsTo};
-ghost use Rattle.masks.specs.Masks.{Cleared, WithoutBit, turnedRow, ClearsRow, ClearsTo};
-use moves::MOVES;
+ghost use Rattle.moves.specs.Moves.{rowCount, moveAt};
+ghost use Rattle.moves.specs.Table.{Listed, OnFloor};
+ghost use Rattle.masks.specs.Masks.{OpenMasks, LeavingRow, LeavingTo};
+ghost use Rattle.masks.specs.Windows.{pairAt, startOf, openIn, pinchOf, Window, WindowsTo};
+ghost use Rattle.masks.specs.Windows.{WindowRow, sixteenRows, joinedMask};
+ghost use Rattle.masks.specs.Masks.{Cleared, WithoutBit, turnedRow, ClearsMove, ClearsTo};
+use moves::Rows;
 use moves::Step;
 
-// The mask of a pinch: no row, and a bit above those of the rows.
-const PINCH: u32 = 65536;
+// The mask of a pinch: no row, and a bit that is no row's of a neighbourhood.
+const PINCH: u32 = 32768;
+
+// Of the rows of the sixteen, those of the eight moves by at most one column and one row; and of those by two columns or
+// rows, those that go left, right, up and down.
+const UNIT: u32 = 1431633920;
+
+const LEFT: u32 = 41943040;
+
+const RIGHT: u32 = 2147614720;
+
+const UPPER: u32 = 671088640;
+
+const LOWER: u32 = 2621440;
 
 // The bit where a test holds.
 fn bit_where(held: bool, bit: usize) -> usize
@@ -30,104 +43,70 @@ fn bit_where(held: bool, bit: usize) -> usize
     0
 }
 
-// The bit, where nothing is in the way of the move of these offsets from (x, y).
-fn unblocked_bit(
-    w: usize,
-    h: usize,
-    map: &[u8],
-    x: usize,
-    y: usize,
-    dx: i8,
-    dy: i8,
-    bit: u32,
-) -> u32
-    requires { ⌜ Sized w h (now map) × OnFloor w h x y × Short (moveOf dx dy 0) ⌝ }
-    ensures { λ r. ⌜ r ≡ pick (isSome (endIf unblocked (floorOf w h (now (map .entry))) (moveOf dx dy 0) x y)) bit 0 ⌝ }
+// The bit of row k where a test holds.
+fn row_where(held: bool, k: usize) -> u32
+    requires { ⌜ k < rowCount ⌝ }
+    ensures { λ r. ⌜ r ≡ pick held (2 ^ k) 0 ⌝ }
 {
-    if moves::is_unblocked(w, h, map, x, y, dx, dy) {
-        return bit;
+    if held {
+        return 1 << k;
     }
     0
 }
 
-// The rows of the vertex (x, y) that nothing is in the way of. They are named one by one, so that each test is compiled for its offsets.
-fn rows_unblocked(w: usize, h: usize, map: &[u8], x: usize, y: usize) -> u32
-    requires { ⌜ Sized w h (now map) × OnFloor w h x y ⌝ }
-    ensures { λ r. ⌜ r ≡ bitsOf (length moves) (rowIf unblocked (floorOf w h (now (map .entry))) x y) ⌝ }
+// The line of a floor of 2 by 2 cells from which an offset has all its cells in that floor: the middle one, but for two
+// columns or rows the first or the last.
+fn start_of(d: i8) -> usize
+    requires { ⌜ natAbs d ≤ 2 ⌝ }
+    ensures { λ r. ⌜ (r ≡ startOf d) × (r ≤ 2) ⌝ }
 {
-    let r0 = MOVES[0];
-    let r1 = MOVES[1];
-    let r2 = MOVES[2];
-    let r3 = MOVES[3];
-    let r4 = MOVES[4];
-    let r5 = MOVES[5];
-    let r6 = MOVES[6];
-    let r7 = MOVES[7];
-    unblocked_bit(w, h, map, x, y, r0.dx, r0.dy, 1)
-        | unblocked_bit(w, h, map, x, y, r1.dx, r1.dy, 2)
-        | unblocked_bit(w, h, map, x, y, r2.dx, r2.dy, 4)
-        | unblocked_bit(w, h, map, x, y, r3.dx, r3.dy, 8)
-        | unblocked_bit(w, h, map, x, y, r4.dx, r4.dy, 16)
-        | unblocked_bit(w, h, map, x, y, r5.dx, r5.dy, 32)
-        | unblocked_bit(w, h, map, x, y, r6.dx, r6.dy, 64)
-        | unblocked_bit(w, h, map, x, y, r7.dx, r7.dy, 128)
+    let o = moves::parts_of(d);
+    1 + o.down / 2 - o.up / 2
 }
 
-// The mask of a vertex whose rows are given.
-fn marked(mask: u32, pinched: bool) -> u32
-    ensures { λ r. ⌜ r ≡ pick pinched 65536 mask ⌝ }
+// Whether move m of the rows is open in a floor of 2 by 2 cells, of which cell c is blocked where b has bit c, and whose
+// middle is no pinch: the cells beside the move are these four.
+fn window_open(b: u8, rows: Rows, m: usize) -> bool
+    requires { ⌜ Listed rows × (m < rows .count)
+        × (pinchOf (bit b 0) (bit b 1) (bit b 2) (bit b 3) ≡ false) ⌝ }
+    ensures { λ r. ⌜ r ≡ openIn (moveAt rows m) (bit b 0) (bit b 1) (bit b 2) (bit b 3) ⌝ }
 {
-    if pinched {
+    let map = floor::window_map(b);
+    let t = moves::move_at(rows, m);
+    moves::is_unblocked(2, 2, &map, start_of(t.dx), start_of(t.dy), t.dx, t.dy)
+}
+
+// The mask of the rows where the four cells beside a move are b.
+fn window_mask(b: u8, rows: Rows) -> u32
+    requires { ⌜ Listed rows ⌝ }
+    ensures { λ r. ⌜ Window rows b r ⌝ }
+{
+    let map = floor::window_map(b);
+    if sight::is_pinch(2, 2, &map, 1, 1) {
         return PINCH;
+    }
+    let mut mask: u32 = 0;
+    for m in 0..rows.count {
+        mask = mask | row_where(window_open(b, rows, m), moves::row_at(rows, m));
     }
     mask
 }
 
-// The mask of the moves that leave the vertex (x, y).
-fn leaving_at(w: usize, h: usize, map: &[u8], x: usize, y: usize) -> u32
-    requires { ⌜ Sized w h (now map) × OnFloor w h x y ⌝ }
-    ensures { λ r. ⌜ r ≡ leavingMask (floorOf w h (now (map .entry))) x y ⌝ }
-{
-    marked(
-        rows_unblocked(w, h, map, x, y),
-        sight::is_pinch(w, h, map, x, y),
-    )
-}
-
-// The masks of the vertices of row y.
-fn edge_row(w: usize, h: usize, map: &[u8], y: usize) -> [u32; 128]
-    requires { ⌜ Sized w h (now map) × (y ≤ h) ⌝ }
-    ensures { λ r. ⌜ LeavingRow (floorOf w h (now (map .entry))) y (suc w) r ⌝ }
-{
-    let mut masks = [0; 128];
-    for x in 0..w + 1 {
-        masks[x] = leaving_at(w, h, map, x, y);
-    }
-    masks
-}
-
-// The mask of a vertex off the floor's edge whose four cells are b: that of the middle of a floor of these cells.
-fn window_mask(b: u8) -> u32
-    ensures { λ r. ⌜ WindowMask b r ⌝ }
-{
-    let map = floor::window_map(b);
-    leaving_at(2, 2, &map, 1, 1)
-}
-
 // These masks for all sixteen: what is asked of sight is asked of these floors, once for each pass over the floor.
-pub fn window_masks() -> [u32; 16]
-    ensures { λ r. ⌜ WindowsTo 16 r ⌝ }
+pub fn window_masks(rows: Rows) -> [u32; 16]
+    requires { ⌜ Listed rows ⌝ }
+    ensures { λ r. ⌜ WindowsTo rows 16 r ⌝ }
 {
     let mut masks = [0; 16];
     for b in 0..16 {
-        masks[b] = window_mask(b as u8);
+        masks[b] = window_mask(b as u8, rows);
     }
     masks
 }
 
 // The two cells to the left of column line x at row line y, as two bits of a window.
 fn pair_at(w: usize, h: usize, map: &[u8], x: usize, y: usize) -> usize
-    requires { ⌜ Sized w h (now map) × (y ≤ h) ⌝ }
+    requires { ⌜ Sized w h (now map) × (y ≤ 128) ⌝ }
     ensures { λ r. ⌜ (r ≡ pairAt (floorOf w h (now (map .entry))) x y) × (r ≤ 5) ⌝ }
 {
     let upper = floor::blocked_at(w, h, map, x, y);
@@ -135,116 +114,193 @@ fn pair_at(w: usize, h: usize, map: &[u8], x: usize, y: usize) -> usize
     bit_where(upper, 1) + bit_where(lower, 4)
 }
 
-// The masks of the vertices of row y. Off the floor's edge they are read from `windows` by the four cells at each: the two
-// on its left are those that were on the right of the vertex before.
-pub fn leaving_row(w: usize, h: usize, map: &[u8], y: usize, windows: [u32; 16]) -> [u32; 128]
-    requires { ⌜ Sized w h (now map) × (y ≤ h) × WindowsTo 16 windows ⌝ }
-    ensures { λ r. ⌜ LeavingRow (floorOf w h (now (map .entry))) y (suc w) r ⌝ }
+// The masks of the windows of row y: each is read from `windows` by the four cells at the vertex, of which the two on its left
+// are those that were on the right of the vertex before. Where no move goes two columns or rows, they are the masks of the
+// vertices.
+fn unit_row(w: usize, h: usize, map: &[u8], y: usize, windows: [u32; 16]) -> [u32; 128]
+    requires { ⌜ Sized w h (now map) × (y ≤ h) × (length windows ≡ 16) ⌝ }
+    ensures { λ r. ⌜ WindowRow (floorOf w h (now (map .entry))) y windows (suc w) r ⌝ }
 {
-    if y == 0 {
-        return edge_row(w, h, map, y);
-    }
-    if h <= y {
-        return edge_row(w, h, map, y);
-    }
     let mut masks = [0; 128];
-    masks[0] = leaving_at(w, h, map, 0, y);
-    let mut left = pair_at(w, h, map, 1, y);
-    for x in 1..w {
+    let mut left = pair_at(w, h, map, 0, y);
+    for x in 0..w + 1 {
         let right = pair_at(w, h, map, x + 1, y);
         masks[x] = windows[left + 2 * right];
         left = right;
     }
-    masks[w] = leaving_at(w, h, map, w, y);
     masks
 }
 
-// Stores the masks of the vertices of row y, where those of the rows before it are stored.
-fn fill_row(w: usize, h: usize, map: &[u8], y: usize, windows: [u32; 16], masks: &mut [u32])
-    requires { ⌜ Sized w h (now map) × (y ≤ h) × WindowsTo 16 windows
-        × LeavingTo (floorOf w h (now map)) (number w 0 y) (now masks) ⌝ }
-    ensures { λ _. ⌜ LeavingTo (floorOf w h (now (map .entry))) (number w 0 (y + 1)) (now (masks .exit)) ⌝ }
+// The mask of the sixteen moves that leave a vertex, from the windows at the vertex and at those on its left, its right,
+// above and below it: a move by two columns or rows has its cells in the window that it goes through.
+fn joined(here: u32, left: u32, right: u32, upper: u32, lower: u32) -> u32
+    ensures { λ r. ⌜ r ≡ joinedMask here left right upper lower ⌝ }
 {
-    let leaving = leaving_row(w, h, map, y, windows);
+    if (here >> 15) % 2 == 1 {
+        return PINCH;
+    }
+    (here & UNIT) | (left & LEFT) | (right & RIGHT) | (upper & UPPER) | (lower & LOWER)
+}
+
+// The row line above line y; line 0 itself, above which every cell is blocked as in its own upper cells.
+fn line_above(y: usize) -> usize
+    ensures { λ r. ⌜ (r ≡ y - 1) × (r ≤ y) ⌝ }
+{
+    if y == 0 {
+        return 0;
+    }
+    y - 1
+}
+
+// The masks of the vertices of row y, for the sixteen. The windows are read with the pairs of cells that were on the right of
+// the vertex before.
+fn sixteen_row(w: usize, h: usize, map: &[u8], y: usize, windows: [u32; 16]) -> [u32; 128]
+    requires { ⌜ Sized w h (now map) × (y ≤ h) × WindowsTo sixteenRows 16 windows ⌝ }
+    ensures { λ r. ⌜ LeavingRow (floorOf w h (now (map .entry))) sixteenRows y (suc w) r ⌝ }
+{
+    let above = line_above(y);
+    let mut masks = [0; 128];
+    let mut upper = pair_at(w, h, map, 0, above);
+    let mut lower = pair_at(w, h, map, 0, y + 1);
+    let first = pair_at(w, h, map, 0, y);
+    let mut right = pair_at(w, h, map, 1, y);
+    let mut here = windows[first + 2 * right];
+    let mut before = here;
+    for x in 0..w + 1 {
+        let next_upper = pair_at(w, h, map, x + 1, above);
+        let next_lower = pair_at(w, h, map, x + 1, y + 1);
+        let next_right = pair_at(w, h, map, x + 2, y);
+        let next = windows[right + 2 * next_right];
+        masks[x] = joined(
+            here,
+            before,
+            next,
+            windows[upper + 2 * next_upper],
+            windows[lower + 2 * next_lower],
+        );
+        before = here;
+        here = next;
+        right = next_right;
+        upper = next_upper;
+        lower = next_lower;
+    }
+    masks
+}
+
+// The masks of the moves that leave the vertices of row y, by the masks of the windows.
+pub fn leaving_row(
+    w: usize,
+    h: usize,
+    map: &[u8],
+    rows: Rows,
+    y: usize,
+    windows: [u32; 16],
+) -> [u32; 128]
+    requires { ⌜ Sized w h (now map) × (y ≤ h) × Listed rows × WindowsTo rows 16 windows ⌝ }
+    ensures { λ r. ⌜ LeavingRow (floorOf w h (now (map .entry))) rows y (suc w) r ⌝ }
+{
+    if rows.count == 16 {
+        return sixteen_row(w, h, map, y, windows);
+    }
+    unit_row(w, h, map, y, windows)
+}
+
+// Stores the masks of the vertices of row y, where those of the rows before it are stored.
+fn fill_row(
+    w: usize,
+    h: usize,
+    map: &[u8],
+    rows: Rows,
+    y: usize,
+    windows: [u32; 16],
+    masks: &mut [u32],
+)
+    requires { ⌜ Sized w h (now map) × (y ≤ h) × Listed rows × WindowsTo rows 16 windows
+        × LeavingTo (floorOf w h (now map)) rows (number w 0 y) (now masks) ⌝ }
+    ensures { λ _. ⌜ LeavingTo (floorOf w h (now (map .entry))) rows (number w 0 (y + 1)) (now (masks .exit)) ⌝ }
+{
+    let leaving = leaving_row(w, h, map, rows, y, windows);
     let first = y * (w + 1);
     for x in 0..w + 1 {
         masks[first + x] = leaving[x];
     }
 }
 
-// The row opposite to row k.
-fn turned_row(k: usize) -> usize
-    requires { ⌜ k < length moves ⌝ }
-    ensures { λ r. ⌜ (r ≡ turnedRow k) × (r < length moves) ⌝ }
+// The row opposite to that of move m: eight rows, half a turn, on or back.
+fn turned_row(rows: Rows, m: usize) -> usize
+    requires { ⌜ Listed rows × (m < rows .count) ⌝ }
+    ensures { λ r. ⌜ (r ≡ turnedRow rows m) × (r < rowCount) ⌝ }
 {
-    (k + 4) % 8
+    moves::row_at(rows, m) ^ 8
 }
 
 // The mask without bit k.
 fn without(mask: u32, k: usize) -> u32
-    requires { ⌜ k < length moves ⌝ }
+    requires { ⌜ k < rowCount ⌝ }
     ensures { λ r. ⌜ WithoutBit k mask r ⌝ }
 {
     let bit: u32 = 1 << k;
     mask ^ (mask & bit)
 }
 
-// Clears the bit of the move that leads back to (x, y), from where row k leads to.
-fn clear_back(w: usize, h: usize, x: usize, y: usize, k: usize, masks: &mut [u32])
-    requires { ⌜ OnFloor w h x y × (k < length moves) × (length (now masks) ≡ vertices w h) ⌝ }
-    ensures { λ _. ⌜ ClearsRow w h x y k (now (masks .entry)) (now (masks .exit)) ⌝ }
+// Clears the bit of the move that leads back to (x, y), from where move m leads to.
+fn clear_back(w: usize, h: usize, rows: Rows, x: usize, y: usize, m: usize, masks: &mut [u32])
+    requires { ⌜ OnFloor w h x y × Listed rows × (m < rows .count) × (length (now masks) ≡ vertices w h) ⌝ }
+    ensures { λ _. ⌜ ClearsMove w h rows x y m (now (masks .entry)) (now (masks .exit)) ⌝ }
 {
-    let m = moves::move_at(moves::all_rows(), k);
-    let Step::To(u) = moves::step_from(w, h, x, y, m.dx, m.dy) else {
+    let t = moves::move_at(rows, m);
+    let Step::To(u) = moves::step_from(w, h, x, y, t.dx, t.dy) else {
         return;
     };
     let at = u.0;
-    masks[at] = without(masks[at], turned_row(k));
+    masks[at] = without(masks[at], turned_row(rows, m));
 }
 
 // Clears the bit of every move that leads to (x, y).
-fn clear_to(w: usize, h: usize, x: usize, y: usize, masks: &mut [u32])
-    requires { ⌜ OnFloor w h x y × (length (now masks) ≡ vertices w h) ⌝ }
-    ensures { λ _. ⌜ ClearsTo w h x y (length moves) (now (masks .entry)) (now (masks .exit)) ⌝ }
+fn clear_to(w: usize, h: usize, rows: Rows, x: usize, y: usize, masks: &mut [u32])
+    requires { ⌜ OnFloor w h x y × Listed rows × (length (now masks) ≡ vertices w h) ⌝ }
+    ensures { λ _. ⌜ ClearsTo w h rows x y (rows .count) (now (masks .entry)) (now (masks .exit)) ⌝ }
 {
-    for k in 0..8 {
-        clear_back(w, h, x, y, k, masks);
+    for m in 0..rows.count {
+        clear_back(w, h, rows, x, y, m, masks);
     }
 }
 
 // Clears the bits of the moves that lead to (x, y) where it is a pinch. The map is for the contract only.
-fn clear_at(w: usize, h: usize, map: &[u8], x: usize, y: usize, masks: &mut [u32])
-    requires { ⌜ Sized w h (now map) × OnFloor w h x y × Cleared (floorOf w h (now map)) (number w x y) (now masks) ⌝ }
-    ensures { λ _. ⌜ Cleared (floorOf w h (now (map .entry))) (number w (x + 1) y) (now (masks .exit)) ⌝ }
+fn clear_at(w: usize, h: usize, map: &[u8], rows: Rows, x: usize, y: usize, masks: &mut [u32])
+    requires { ⌜ Sized w h (now map) × OnFloor w h x y × Listed rows
+        × Cleared (floorOf w h (now map)) rows (number w x y) (now masks) ⌝ }
+    ensures { λ _. ⌜ Cleared (floorOf w h (now (map .entry))) rows (number w (x + 1) y) (now (masks .exit)) ⌝ }
 {
     let mask = masks[y * (w + 1) + x];
-    if (mask >> 16) % 2 != 1 {
+    if (mask >> 15) % 2 != 1 {
         return;
     }
-    clear_to(w, h, x, y, masks);
+    clear_to(w, h, rows, x, y, masks);
 }
 
 // Clears the bits of the moves that lead to pinches of row y, where those to pinches of the rows before it are cleared.
-fn clear_row(w: usize, h: usize, map: &[u8], y: usize, masks: &mut [u32])
-    requires { ⌜ Sized w h (now map) × (y ≤ h) × Cleared (floorOf w h (now map)) (number w 0 y) (now masks) ⌝ }
-    ensures { λ _. ⌜ Cleared (floorOf w h (now (map .entry))) (number w 0 (y + 1)) (now (masks .exit)) ⌝ }
+fn clear_row(w: usize, h: usize, map: &[u8], rows: Rows, y: usize, masks: &mut [u32])
+    requires { ⌜ Sized w h (now map) × (y ≤ h) × Listed rows
+        × Cleared (floorOf w h (now map)) rows (number w 0 y) (now masks) ⌝ }
+    ensures { λ _. ⌜ Cleared (floorOf w h (now (map .entry))) rows (number w 0 (y + 1)) (now (masks .exit)) ⌝ }
 {
     for x in 0..w + 1 {
-        clear_at(w, h, map, x, y, masks);
+        clear_at(w, h, map, rows, x, y, masks);
     }
 }
 
 // Fills `masks` with the masks of the open moves of all vertices: the moves that leave each, then without those that lead
 // to a pinch.
-pub fn fill_masks(w: usize, h: usize, map: &[u8], masks: &mut [u32])
-    requires { ⌜ Sized w h (now map) × (length (now masks) ≡ vertices w h) ⌝ }
-    ensures { λ _. ⌜ OpenMasks (floorOf w h (now (map .entry))) (now (masks .exit)) ⌝ }
+pub fn fill_masks(w: usize, h: usize, map: &[u8], rows: Rows, masks: &mut [u32])
+    requires { ⌜ Sized w h (now map) × Listed rows × (length (now masks) ≡ vertices w h) ⌝ }
+    ensures { λ _. ⌜ OpenMasks (floorOf w h (now (map .entry))) rows (now (masks .exit)) ⌝ }
 {
-    let windows = window_masks();
+    let windows = window_masks(rows);
     for y in 0..h + 1 {
-        fill_row(w, h, map, y, windows, masks);
+        fill_row(w, h, map, rows, y, windows, masks);
     }
     for y in 0..h + 1 {
-        clear_row(w, h, map, y, masks);
+        clear_row(w, h, map, rows, y, masks);
     }
 }

@@ -3,3 +3,4 @@ pub mod Signs
 pub mod Steps
 pub mod Opposites
 pub mod Leaving
+pub mod Cells

@@ -1,21 +1,25 @@
 -- The laws of the move table, each proved once by a test that antt computes over the rows of a neighbourhood.
 --
---   neighbourhood-8, -4  == their moves: the whole table, and its cardinal rows in the same order
+--   neighbourhood-8, -4, -16 == their moves: document 01's table, its cardinal rows in the same order, and the sixteen
+--   each-listed          == what holds of the rows of 4, of 8 and of 16 holds of every neighbourhood's
 --   LawfulMove r m       == what the test gives of move m
+--   same-row             == a row is that of one move
 --   rows-lawful          == rows that pass the test are a lawful table
 --   listed-lawful        == the rows of a neighbourhood pass the test
---   listed-few           == they are no more than the table has
---   table-short          == every row of the table is short
+--   listed-few           == it has at most sixteen moves
+--   dearest, listed-cost == no move of a neighbourhood costs more than 577, or with sixteen 2,236
+--   rowCost, row-cost    == the cost of a row, by where it stands in a quarter turn
+--   table-short          == every row of the tables is short
 --   offset-eq            == an offset is known by where it leads
-use Prim.Native.Nat.{ℕ, zero, suc, _+_, _*_, _≤_, _<_}
-use mathlib.Core.Path.{_≡_, refl, sym, ap, ap₂}
-use mathlib.Core.Logic.{_⊎_, inl, inr, ⊎-elim}
+use Prim.Native.Nat.{ℕ, zero, suc, _+_, _*_, _%_, _≤_, _<_}
+use mathlib.Core.Path.{_≡_, refl, sym, ap, ap₂, subst}
+use mathlib.Core.Logic.{⊎-elim}
 use mathlib.Core.Bool.{Bool, true, false, _&&_, _||_, not}
 use mathlib.Core.List.{List, [], _∷_, _++_}
 use native.Mathlib.Omega.{arith}
 use native.Mathlib.Nat.{mod-lt}
 use borrow.Author.Tests.{eqb-true, eq-eqb, leb-true, ltb-true, not-true}
-use lib.Dec.{eqb}
+use lib.Dec.{eqb, leb, ltb}
 use lib.IntN.{ℤ, pos, negsuc, natAbs}
 use lib.ListN.{length, getD}
 use Rattle.basics.specs.Bounded.{pick, every, bounded-opened}
@@ -26,7 +30,7 @@ use Rattle.moves.specs.declared.Move.{Move}
 use Rattle.moves.specs.declared.Rows.{Rows}
 use Rattle.moves.specs.declared.Neighbourhood.{Neighbourhood}
 use Rattle.moves.specs.declared.Neighbourhood.the-variants.{Known, Unknown}
-use Rattle.moves.specs.Moves.{moves, rowMove, rowsOf, rowAt, moveAt, neighbourhoodOf}
+use Rattle.moves.specs.Moves.{moves, sixteen, rowCount, rowMove, rowsOf, rowAt, moveAt, neighbourhoodOf}
 use Rattle.moves.specs.Steps.{up, down}
 use Rattle.moves.specs.AnyTable.{Turned, LawfulTable}
 use Rattle.moves.specs.Table.{Listed, Short, oppositeOf, turned, sameOffset, narrow, lawfulTests, lawfulRow, lawfulRows}
@@ -55,40 +59,60 @@ known-is q r e = cc
 
 pub neighbourhood-8 : (r : Rows) → neighbourhoodOf 8 ≡ Known r → movesOf r ≡ moves
 unfolding neighbourhoodOf movesOf firstMoves
-neighbourhood-8 r e = ap movesOf (known-is (rowsOf 0 1 8) r e)
+neighbourhood-8 r e = ap movesOf (known-is (rowsOf 0 2 8) r e)
 
 pub neighbourhood-4 : (r : Rows) → neighbourhoodOf 4 ≡ Known r → movesOf r ≡ kept cardinal moves
 unfolding neighbourhoodOf movesOf firstMoves kept cardinal
-neighbourhood-4 r e = ap movesOf (known-is (rowsOf 0 2 4) r e)
+neighbourhood-4 r e = ap movesOf (known-is (rowsOf 0 4 4) r e)
 
--- The rows of a neighbourhood, by its number.
-pub record Found (r : Rows) : Type 0 where
-  pub is : (r ≡ rowsOf 0 1 8) ⊎ (r ≡ rowsOf 0 2 4)
+pub neighbourhood-16 : (r : Rows) → neighbourhoodOf 16 ≡ Known r → movesOf r ≡ sixteen
+unfolding neighbourhoodOf movesOf firstMoves
+neighbourhood-16 r e = ap movesOf (known-is (rowsOf 16 1 16) r e)
 
-pub listed-found : {r : Rows} → Listed r → Found r
+pub each-listed : (P : Rows → Type 0) → P (rowsOf 0 4 4) → P (rowsOf 0 2 8) → P (rowsOf 16 1 16)
+    → {r : Rows} → Listed r → P r
 unfolding neighbourhoodOf
-listed-found {r} h = cases (eqb (h .number) 8) (eqb (h .number) 4) (h .known)
+each-listed P four eight more {r} h =
+    cases (eqb (h .number) 16) (eqb (h .number) 8) (eqb (h .number) 4) (h .known)
   where
-    cases : (a b : Bool) → pick a (Known (rowsOf 0 1 8)) (pick b (Known (rowsOf 0 2 4)) Unknown) ≡ Known r → Found r
-    cases true b e = record { is = inl (known-is (rowsOf 0 1 8) r e) }
-    cases false true e = record { is = inr (known-is (rowsOf 0 2 4) r e) }
-    cases false false e = let z : _≡_ {A = ℕ} 0 1 = cc in absurd (omega arith)
+    cases : (a b c : Bool)
+        → pick a (Known (rowsOf 16 1 16)) (pick b (Known (rowsOf 0 2 8)) (pick c (Known (rowsOf 0 4 4)) Unknown)) ≡ Known r
+        → P r
+    cases true b c e = subst P (sym (known-is (rowsOf 16 1 16) r e)) more
+    cases false true c e = subst P (sym (known-is (rowsOf 0 2 8) r e)) eight
+    cases false false true e = subst P (sym (known-is (rowsOf 0 4 4) r e)) four
+    cases false false false e = let z : _≡_ {A = ℕ} 0 1 = cc in absurd (omega arith)
 
 -- ---- the test, and what it gives
 
-pub whole-lawful : lawfulRows (rowsOf 0 1 (length moves)) ≡ true
-unfolding lawfulRows bounded-opened turned sameOffset up down
-whole-lawful = refl
-
-cardinal-lawful : lawfulRows (rowsOf 0 2 4) ≡ true
+cardinal-lawful : lawfulRows (rowsOf 0 4 4) ≡ true
 unfolding lawfulRows bounded-opened turned sameOffset up down
 cardinal-lawful = refl
 
-pub listed-lawful : {r : Rows} → Listed r → lawfulRows r ≡ true
-listed-lawful h = ⊎-elim (λ e. rw e whole-lawful) (λ e. rw e cardinal-lawful) (listed-found h .is)
+eight-lawful : lawfulRows (rowsOf 0 2 8) ≡ true
+unfolding lawfulRows bounded-opened turned sameOffset up down
+eight-lawful = refl
 
-pub listed-few : {r : Rows} → Listed r → r .count ≤ length moves
-listed-few h = ⊎-elim (λ e. rw e (omega arith)) (λ e. rw e (omega arith)) (listed-found h .is)
+sixteen-lawful : lawfulRows (rowsOf 16 1 16) ≡ true
+unfolding lawfulRows bounded-opened turned sameOffset up down
+sixteen-lawful = refl
+
+pub listed-lawful : {r : Rows} → Listed r → lawfulRows r ≡ true
+listed-lawful h = each-listed (λ r. lawfulRows r ≡ true) cardinal-lawful eight-lawful sixteen-lawful h
+
+pub listed-few : {r : Rows} → Listed r → r .count ≤ 16
+listed-few h = each-listed (λ r. r .count ≤ 16) (omega arith) (omega arith) (omega arith) h
+
+-- 2,236 where there are sixteen, else 577.
+abbrev pub dearest : Rows → ℕ
+dearest r = pick (eqb (r .count) 16) 2236 577
+
+pub listed-cost : {r : Rows} → Listed r → (m : ℕ) → m < r .count → moveAt r m .cost ≤ dearest r
+unfolding bounded-opened
+listed-cost {r} h m l =
+    leb-true _ (dearest r)
+    (every-at (r .count) (λ m. leb (moveAt r m .cost) (dearest r))
+    (each-listed (λ r. every (r .count) (λ m. leb (moveAt r m .cost) (dearest r)) ≡ true) refl refl refl h) m l)
 
 turned-true : (a b : ℤ) → turned a b ≡ true → Turned a b
 unfolding turned
@@ -109,7 +133,7 @@ offset-eq (negsuc m) (pos n) e = absurd (omega arith)
 offset-eq (negsuc m) (negsuc n) e = ap negsuc (omega arith)
 
 pub record LawfulMove (r : Rows) (m : ℕ) : Type 0 where
-  pub in-table : rowAt r m < length moves
+  pub in-table : rowAt r m < rowCount
   pub cost-low : 1 ≤ moveAt r m .cost
   pub cost-high : moveAt r m .cost ≤ 4095
   pub is-short : Short (moveAt r m)
@@ -170,8 +194,27 @@ module _ (r : Rows) (e : lawfulRows r ≡ true) where
     opposite-dy = λ m l. law m l .opposite-dy;
   }
 
--- Every row of the table is short.
-pub table-short : (k : ℕ) → k < length moves → Short (rowMove k)
+  -- A row is that of one move.
+  pub same-row : (m n : ℕ) → m < r .count → n < r .count → rowAt r m ≡ rowAt r n → m ≡ n
+  same-row m n l k p = same-move m n l k (ap (λ z. rowMove z .dx) p) (ap (λ z. rowMove z .dy) p)
+
+-- The cost of a row, by where it stands in a quarter turn.
+abbrev pub rowCost : ℕ → ℕ
+rowCost k =
+    pick (ltb k 16) (pick (ltb (k % 4) 2) 408 577) (pick (eqb (k % 2) 1) 2236 (pick (eqb (k % 4) 0) 1000 1414))
+
+pub row-cost : (k : ℕ) → k < rowCount → rowMove k .cost ≡ rowCost k
+unfolding bounded-opened
+row-cost k l = eqb-true _ _ (every-at rowCount (λ k. eqb (rowMove k .cost) (rowCost k)) refl k l)
+
+-- Every row of the tables is short.
+abbrev short : ℕ → Bool
+short k = leb (natAbs (rowMove k .dx)) 2 && leb (natAbs (rowMove k .dy)) 2
+
+pub table-short : (k : ℕ) → k < rowCount → Short (rowMove k)
+unfolding bounded-opened
 table-short k l =
-    let e : 0 + 1 * k ≡ k = omega arith in
-    rw e at (lawful-move (rowsOf 0 1 8) k whole-lawful l .is-short)
+    let t = every-at rowCount short refl k l in
+    let columns = leb (natAbs (rowMove k .dx)) 2 in
+    let rows = leb (natAbs (rowMove k .dy)) 2 in
+    record { columns = leb-true _ 2 (and-left columns rows t); rows = leb-true _ 2 (and-right columns rows t) }

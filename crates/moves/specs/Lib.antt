@@ -3,3 +3,4 @@ pub mod Steps
 pub mod AnyTable
 pub mod Table
 pub mod Leaving
+pub mod Cells

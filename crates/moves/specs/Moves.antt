@@ -1,15 +1,20 @@
--- Document 01, "Moves": the table, and which of its rows a neighbourhood has.
+-- Document 01, "Moves", and request 8 of document 02, "Sixteen ways to move": the tables, and which of their rows a
+-- neighbourhood has.
 --
---   moves               == the table, row by row: signed offsets and cost
---   rowAt r m           == the table's row of move m of a neighbourhood whose rows are r
+--   moves               == document 01's table, row by row: signed offsets and cost
+--   sixteen             == the table of request 8: the eight moves and, between each two of them, their sum, in order of
+--                          angle, with costs of their own
+--   rowMove k           == row k of 32, each a sixteenth of a turn after the one before: in rows 0 to 15 document 01's moves,
+--                          each at two rows, and in rows 16 to 31 the sixteen; so a quarter turn is four rows in both
+--   rowAt r m           == the row of move m of a neighbourhood whose rows are r
 --   moveAt r m          == the move itself
---   neighbourhoodOf n   == refusal 4: the rows of neighbourhood n; 8 has the whole table, 4 its cardinal rows in the
---                          same order
-use Prim.Native.Nat.{ℕ, _+_, _*_}
+--   neighbourhoodOf n   == refusal 4: the rows of neighbourhood n; 8 has the table of eight, 4 its cardinal rows in the
+--                          same order, 16 the table of sixteen
+use Prim.Native.Nat.{ℕ, _+_, _-_, _*_, _/_}
 use mathlib.Core.List.{List, [], _∷_}
-use lib.Dec.{eqb}
+use lib.Dec.{ltb, eqb}
 use lib.IntN.{ℤ, pos, negsuc}
-use lib.ListN.{length, getD}
+use lib.ListN.{getD}
 use Rattle.basics.specs.Bounded.{pick}
 use Rattle.moves.specs.declared.Move.{Move}
 use Rattle.moves.specs.declared.Rows.{Rows}
@@ -32,9 +37,36 @@ moves =
     ∷ moveOf (pos 1) (negsuc 0) 577
     ∷ []
 
--- The move of a row; past the table, no offset at no cost.
+-- `negsuc 1` is -2.
+abbrev pub sixteen : List Move
+sixteen =
+    moveOf (pos 1) (pos 0) 1000
+    ∷ moveOf (pos 2) (pos 1) 2236
+    ∷ moveOf (pos 1) (pos 1) 1414
+    ∷ moveOf (pos 1) (pos 2) 2236
+    ∷ moveOf (pos 0) (pos 1) 1000
+    ∷ moveOf (negsuc 0) (pos 2) 2236
+    ∷ moveOf (negsuc 0) (pos 1) 1414
+    ∷ moveOf (negsuc 1) (pos 1) 2236
+    ∷ moveOf (negsuc 0) (pos 0) 1000
+    ∷ moveOf (negsuc 1) (negsuc 0) 2236
+    ∷ moveOf (negsuc 0) (negsuc 0) 1414
+    ∷ moveOf (negsuc 0) (negsuc 1) 2236
+    ∷ moveOf (pos 0) (negsuc 0) 1000
+    ∷ moveOf (pos 1) (negsuc 1) 2236
+    ∷ moveOf (pos 1) (negsuc 0) 1414
+    ∷ moveOf (pos 2) (negsuc 0) 2236
+    ∷ []
+
+abbrev pub rowCount : ℕ
+rowCount = 32
+
+-- Past a table: no offset at no cost.
+abbrev pub noMove : Move
+noMove = moveOf (pos 0) (pos 0) 0
+
 abbrev pub rowMove : ℕ → Move
-rowMove k = getD moves k (moveOf (pos 0) (pos 0) 0)
+rowMove k = pick (ltb k 16) (getD moves (k / 2) noMove) (getD sixteen (k - 16) noMove)
 
 abbrev pub rowsOf : ℕ → ℕ → ℕ → Rows
 rowsOf first stride count = record { first = first; stride = stride; count = count }
@@ -46,4 +78,6 @@ abbrev pub moveAt : Rows → ℕ → Move
 moveAt r m = rowMove (rowAt r m)
 
 unfoldable pub neighbourhoodOf : ℕ → Neighbourhood
-neighbourhoodOf n = pick (eqb n 8) (Known (rowsOf 0 1 (length moves))) (pick (eqb n 4) (Known (rowsOf 0 2 4)) Unknown)
+neighbourhoodOf n =
+    pick (eqb n 16) (Known (rowsOf 16 1 16))
+    (pick (eqb n 8) (Known (rowsOf 0 2 8)) (pick (eqb n 4) (Known (rowsOf 0 4 4)) Unknown))

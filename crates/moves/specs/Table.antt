@@ -2,7 +2,7 @@
 -- these: the test is computed in proofs/, and the parts stand in contracts of private functions.
 --
 --   Listed r       == r are the rows of a neighbourhood
---   lawfulRows r   == the rows are in the table; each costs 1 to 4,095, goes at most 2 columns and 2 rows, leads where
+--   lawfulRows r   == the rows are in the tables; each costs 1 to 4,095, goes at most 2 columns and 2 rows, leads where
 --                     no other row leads, has its opposite, half the rows on, at the same cost, and is narrow
 --   narrow m       == move m goes one column or one row: it passes its two ends and no vertex between them
 --   Short m        == move m goes at most 2 columns and 2 rows: what a step takes
@@ -28,7 +28,7 @@ use Rattle.moves.specs.declared.Place.{Place}
 use Rattle.moves.specs.declared.Place.the-variants.{Is, Past}
 use Rattle.moves.specs.declared.Spot.{Spot}
 use Rattle.moves.specs.declared.Spot.the-variants.{At, Outside}
-use Rattle.moves.specs.Moves.{moves, rowAt, moveAt, neighbourhoodOf}
+use Rattle.moves.specs.Moves.{rowCount, rowAt, moveAt, neighbourhoodOf}
 use Rattle.moves.specs.Steps.{up, down, shifted}
 
 pub record Listed (r : Rows) : Type 0 where
@@ -56,7 +56,7 @@ narrow m = eqb (natAbs (m .dx)) 1 || eqb (natAbs (m .dy)) 1
 -- What is tested of move m of the rows r.
 abbrev pub lawfulTests : Rows → ℕ → List Bool
 lawfulTests r m =
-    ltb (rowAt r m) (length moves)
+    ltb (rowAt r m) rowCount
     ∷ leb 1 (moveAt r m .cost)
     ∷ leb (moveAt r m .cost) 4095
     ∷ leb (natAbs (moveAt r m .dx)) 2

@@ -3,10 +3,10 @@ ghost use mathlib.Core.Path.{_≡_};
 ghost use mathlib.Core.Bool.{true};
 ghost use Prim.Native.Nat.{_+_, _-_, _<_, _≤_};
 ghost use lib.IntN.{natAbs};
-ghost use lib.ListN.{length};
+ghost use lib.ListN.{getD};
 ghost use Rattle.floor.specs.Floor.{Sized, floorOf};
 ghost use Rattle.sight.specs.Sight.{segmentOf, unblocked};
-ghost use Rattle.moves.specs.Moves.{moves, moveOf, neighbourhoodOf, rowsOf, rowMove, rowAt, moveAt};
+ghost use Rattle.moves.specs.Moves.{moves, sixteen, noMove, moveOf, rowCount, neighbourhoodOf, rowMove, rowAt, moveAt};
 ghost use Rattle.moves.specs.Steps.{up, down, shifted, farEndAt, endIf, isSome, stepOf};
 ghost use Rattle.moves.specs.Table.{lawfulRows, Short, OnFloor, Reaches, partsOf, placeOf, spotOf};
 use floor::Vertex;
@@ -18,7 +18,7 @@ pub struct Move {
     pub cost: u32,
 }
 
-// The rows of the table that a neighbourhood has: `count` of them, from `first` on, each `stride` after the one before.
+// The rows that a neighbourhood has: `count` of them, from `first` on, each `stride` after the one before.
 pub struct Rows {
     pub first: usize,
     pub stride: usize,
@@ -55,8 +55,8 @@ enum Spot {
     Outside,
 }
 
-// The table, row by row.
-pub const MOVES: [Move; 8] = [
+// Document 01's table, row by row.
+const MOVES: [Move; 8] = [
     Move {
         dx: 1,
         dy: 0,
@@ -99,49 +99,133 @@ pub const MOVES: [Move; 8] = [
     },
 ];
 
-// The rows of the neighbourhood with number n: 8 has the whole table, 4 its cardinal rows.
+// The sixteen moves of request 8 of document 02, in order of angle: the eight and, between each two of them, their sum.
+const SIXTEEN: [Move; 16] = [
+    Move {
+        dx: 1,
+        dy: 0,
+        cost: 1000,
+    },
+    Move {
+        dx: 2,
+        dy: 1,
+        cost: 2236,
+    },
+    Move {
+        dx: 1,
+        dy: 1,
+        cost: 1414,
+    },
+    Move {
+        dx: 1,
+        dy: 2,
+        cost: 2236,
+    },
+    Move {
+        dx: 0,
+        dy: 1,
+        cost: 1000,
+    },
+    Move {
+        dx: -1,
+        dy: 2,
+        cost: 2236,
+    },
+    Move {
+        dx: -1,
+        dy: 1,
+        cost: 1414,
+    },
+    Move {
+        dx: -2,
+        dy: 1,
+        cost: 2236,
+    },
+    Move {
+        dx: -1,
+        dy: 0,
+        cost: 1000,
+    },
+    Move {
+        dx: -2,
+        dy: -1,
+        cost: 2236,
+    },
+    Move {
+        dx: -1,
+        dy: -1,
+        cost: 1414,
+    },
+    Move {
+        dx: -1,
+        dy: -2,
+        cost: 2236,
+    },
+    Move {
+        dx: 0,
+        dy: -1,
+        cost: 1000,
+    },
+    Move {
+        dx: 1,
+        dy: -2,
+        cost: 2236,
+    },
+    Move {
+        dx: 1,
+        dy: -1,
+        cost: 1414,
+    },
+    Move {
+        dx: 2,
+        dy: -1,
+        cost: 2236,
+    },
+];
+
+// The rows of the neighbourhood with number n: 8 has the table of eight, 4 its cardinal rows, 16 the table of sixteen.
 pub fn rows_of(n: usize) -> Neighbourhood
     ensures { λ r. ⌜ r ≡ neighbourhoodOf n ⌝ }
 {
+    if n == 16 {
+        return Neighbourhood::Known(Rows {
+            first: 16,
+            stride: 1,
+            count: 16,
+        });
+    }
     if n == 8 {
-        return Neighbourhood::Known(all_rows());
+        return Neighbourhood::Known(Rows {
+            first: 0,
+            stride: 2,
+            count: 8,
+        });
     }
     if n == 4 {
         return Neighbourhood::Known(Rows {
             first: 0,
-            stride: 2,
+            stride: 4,
             count: 4,
         });
     }
     Neighbourhood::Unknown
 }
 
-// The rows of the whole table, in its order: move k of these is row k.
-pub fn all_rows() -> Rows
-    ensures { λ r. ⌜ r ≡ rowsOf 0 1 (length moves) ⌝ }
-{
-    Rows {
-        first: 0,
-        stride: 1,
-        count: 8,
-    }
-}
-
 // The table's row of move m of a neighbourhood.
 pub fn row_at(rows: Rows, m: usize) -> usize
     requires { ⌜ (lawfulRows rows ≡ true) × (m < rows .count) ⌝ }
-    ensures { λ r. ⌜ (r ≡ rowAt rows m) × (r < length moves) ⌝ }
+    ensures { λ r. ⌜ (r ≡ rowAt rows m) × (r < rowCount) ⌝ }
 {
     let first = rows.first;
     let past = rows.stride * m;
     first + past
 }
 
-// Row k of the table. The rows are named one by one: a place of the table that is known when the program is compiled is a
-// number there, and the table by a place that is not would be put together again at each reading.
-fn row_move(k: usize) -> Move
-    requires { ⌜ k < length moves ⌝ }
-    ensures { λ r. ⌜ r ≡ rowMove k ⌝ }
+// Move k of the eight. The moves are named one by one: a place of a table that is known when the program is compiled is a
+// number there, and a table by a place that is not would be put together again at each reading.
+fn eight_move(k: usize) -> Move
+    requires { ⌜ k < 8 ⌝ }
+    ensures { λ r. ⌜ r ≡ getD moves k noMove ⌝ }
 {
     match k {
         0 => MOVES[0],
@@ -155,12 +239,77 @@ fn row_move(k: usize) -> Move
     }
 }
 
+// Move k of the sixteen.
+fn sixteen_move(k: usize) -> Move
+    requires { ⌜ k < 16 ⌝ }
+    ensures { λ r. ⌜ r ≡ getD sixteen k noMove ⌝ }
+{
+    match k {
+        0 => SIXTEEN[0],
+        1 => SIXTEEN[1],
+        2 => SIXTEEN[2],
+        3 => SIXTEEN[3],
+        4 => SIXTEEN[4],
+        5 => SIXTEEN[5],
+        6 => SIXTEEN[6],
+        7 => SIXTEEN[7],
+        8 => SIXTEEN[8],
+        9 => SIXTEEN[9],
+        10 => SIXTEEN[10],
+        11 => SIXTEEN[11],
+        12 => SIXTEEN[12],
+        13 => SIXTEEN[13],
+        14 => SIXTEEN[14],
+        _ => SIXTEEN[15],
+    }
+}
+
+// Row k: each is a sixteenth of a turn after the one before, and the eight stand at every second of the first sixteen.
+fn row_move(k: usize) -> Move
+    requires { ⌜ k < rowCount ⌝ }
+    ensures { λ r. ⌜ r ≡ rowMove k ⌝ }
+{
+    if k < 16 {
+        return eight_move(k / 2);
+    }
+    sixteen_move(k - 16)
+}
+
+// The cost of row k. A move costs what the one a quarter turn on costs, so a few moves of the tables tell it, which the
+// compiler can put into a loop.
+fn row_cost(k: usize) -> u32
+    requires { ⌜ k < rowCount ⌝ }
+    ensures { λ r. ⌜ r ≡ rowMove k .cost ⌝ }
+{
+    if k < 16 {
+        if k % 4 < 2 {
+            return MOVES[0].cost;
+        }
+        return MOVES[1].cost;
+    }
+    if k % 2 == 1 {
+        return SIXTEEN[1].cost;
+    }
+    if k % 4 == 0 {
+        return SIXTEEN[0].cost;
+    }
+    SIXTEEN[2].cost
+}
+
 // Move m of a neighbourhood.
 pub fn move_at(rows: Rows, m: usize) -> Move
     requires { ⌜ (lawfulRows rows ≡ true) × (m < rows .count) ⌝ }
     ensures { λ r. ⌜ r ≡ moveAt rows m ⌝ }
 {
     row_move(row_at(rows, m))
+}
+
+// The cost of move m of a neighbourhood.
+pub fn cost_at(rows: Rows, m: usize) -> u32
+    requires { ⌜ (lawfulRows rows ≡ true) × (m < rows .count) ⌝ }
+    ensures { λ r. ⌜ r ≡ moveAt rows m .cost ⌝ }
+{
+    row_cost(row_at(rows, m))
 }
 
 // A signed offset as how far it goes up and how far down.

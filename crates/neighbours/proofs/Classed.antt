@@ -35,6 +35,7 @@ module _ {r : Rows} {l : List Class} (C : Classes r l) (s : List ℕ) (mask v : 
           omega (arith, k .3, lawful-move r m lawful lt .cost-low),
           record { row = j .1; listed = lt; step = ap (rowEnd s mask v) (j .2); cost = k .3 },
         );
+    paired = C .paired;
   }
 
   module _ {n : ℕ} (R : Readable n r s mask v) where

@@ -15,15 +15,15 @@ use Rattle.moves.specs.declared.Rows.{Rows}
 use Rattle.moves.specs.Table.{OnFloor}
 use Rattle.moves.proofs.Table.{listed-lawful}
 use Rattle.moves.specs.Leaving.{leaves}
-use Rattle.masks.specs.Masks.{leavingMask}
+use Rattle.masks.specs.Masks.{Leaving}
 use Rattle.masks.proofs.Masks.{mask-number}
 use Rattle.offsets.specs.Offsets.{Shifts}
 use Rattle.grid.specs.Leaving.{leavingGraph}
 use Rattle.grid.specs.Known.{GoodJob}
 use Rattle.neighbours.proofs.Shown.{Shows, mask-shows}
 
-pub column-shows : {w h a b x y mask v : ℕ} {map s : List ℕ} {r : Rows} → GoodJob w h map r a b → Shifts w s
-    → OnFloor w h x y → mask ≡ leavingMask (floorOf w h map) x y → v ≡ number w x y
+pub column-shows : {w h a b x y mask v : ℕ} {map s : List ℕ} {r : Rows} → GoodJob w h map r a b → Shifts w r s
+    → OnFloor w h x y → Leaving (floorOf w h map) r x y mask → v ≡ number w x y
     → Shows (leavingGraph (floorOf w h map) r) r s mask v
 column-shows {w} {h} {x = x} {y} {mask} {map = map} {r = r} J S o is numbered =
     let f = floorOf w h map in

@@ -1,7 +1,10 @@
 -- The test of a cost by the least that a move gives it, over any graph.
 --
 --   least-is      == the least of some numbers is one of them, or `nowhere`, and at most all
---   right-found   == the test by the least, from what the code finds in turn
+--   lesser-found  == the lesser of two numbers, from what the code finds in turn
+--   by-two        == the least by the classes where there are two, as the code finds it
+--   by-four       == and where there are four
+--   right-found   == the test by the least
 --   least-right   == the test by the least is `rightCostIn`, where the moves of the graph are those of the classes
 use Prim.Native.Nat.{ℕ, zero, suc, _+_, _≤_, _<_}
 use mathlib.Core.Path.{_≡_, refl, sym, ap, ap₂, _∙_}
@@ -24,7 +27,7 @@ use Rattle.paths.specs.Local.{tight}
 use Rattle.paths.proofs.Neighbours.{is-there-cases, is-there-at}
 use Rattle.neighbours.specs.Reading.{tightBy}
 use Rattle.neighbours.specs.Least.{endOr, relaxedIn, rightCostIn, nowhere, lesserOf, leastOf, endAt, leastBy}
-use Rattle.neighbours.specs.Least.{leastAt, rightBy, rightNear, ClassMoves}
+use Rattle.neighbours.specs.Least.{leastFirst, leastFurther, leastAt, rightBy, rightNear, ClassMoves}
 use Rattle.neighbours.proofs.Incoming.{relaxedIn-cases, relaxedIn-all}
 
 record Lesser (x y z : ℕ) : Type 0 where
@@ -57,10 +60,23 @@ least-is F (suc n) =
           (λ e. inr (n, omega arith, e)) (K .is);
     }
 
--- x and y are the least by the first class and by the second, z is the lesser of them, and r what it says of the cost.
-pub right-found : (a v : ℕ) (D : ℕ → ℕ) {x y z p q : ℕ} {r : Bool} → x ≡ p → y ≡ q → z ≡ lesserOf x y
-    → r ≡ rightBy z a D v → r ≡ rightBy (lesserOf p q) a D v
-right-found a v D p q e f = f ∙ ap (λ z. rightBy z a D v) (e ∙ ap₂ lesserOf p q)
+-- z is the least by the classes, and r what it says of the cost.
+pub right-found : (a v : ℕ) (D : ℕ → ℕ) {z p : ℕ} {r : Bool} → z ≡ p → r ≡ rightBy z a D v → r ≡ rightBy p a D v
+right-found a v D p f = f ∙ ap (λ z. rightBy z a D v) p
+
+-- z is the lesser of x and y, which are p and q.
+pub lesser-found : {x y z p q : ℕ} → x ≡ p → y ≡ q → z ≡ lesserOf x y → z ≡ lesserOf p q
+lesser-found p q e = e ∙ ap₂ lesserOf p q
+
+module _ (s : List ℕ) (l : List Class) (mask : ℕ) (D : ℕ → ℕ) (v : ℕ) where
+  pub by-two : {x : ℕ} → classAt l 2 .cost ≡ 0 → x ≡ leastFirst s l mask D v → x ≡ leastAt s l mask D v
+  unfolding leastAt
+  by-two unused first = rw (eq-eqb (classAt l 2 .cost) 0 unused) first
+
+  pub by-four : {x y z : ℕ} → (classAt l 2 .cost ≡ 0 → ⊥) → x ≡ leastFirst s l mask D v
+      → y ≡ leastFurther s l mask D v → z ≡ lesserOf x y → z ≡ leastAt s l mask D v
+  unfolding leastAt
+  by-four used first further e = rw (ne-eqb (classAt l 2 .cost) 0 used) (lesser-found first further e)
 
 -- The parts of the two tests, each in its order.
 reordered : (b u s t e : Bool) → (b ≡ true → t ≡ e) → (b && (u || (s || t))) ≡ (b && (e || (u || s)))
@@ -89,11 +105,45 @@ module _ {g : Graph} {s : List ℕ} {l : List Class} {mask v : ℕ} (C : ClassMo
   unfolding leastBy
   by-moves k pos = rw (ne-eqb (classAt l k .cost) 0 (λ e. omega arith))
 
-  least-class : (k : ℕ) → k < classCount → X ≤ by k
-  least-class k h =
-      let K = lesser-is (by 0) (by 1) in
-      ⊎-elim (λ z. let e : k ≡ 0 = omega arith in rw e (K .left)) (λ z. let e : k ≡ 1 = omega arith in rw e (K .right))
-      (le-or-lt k 0)
+  -- The first two classes, and the other two.
+  first : Lesser (by 0) (by 1) (leastFirst s l mask D v)
+  first = lesser-is (by 0) (by 1)
+
+  further : Lesser (by 2) (by 3) (leastFurther s l mask D v)
+  further = lesser-is (by 2) (by 3)
+
+  abbrev whole : ℕ
+  whole = lesserOf (leastFirst s l mask D v) (leastFurther s l mask D v)
+
+  all : Lesser (leastFirst s l mask D v) (leastFurther s l mask D v) whole
+  all = lesser-is (leastFirst s l mask D v) (leastFurther s l mask D v)
+
+  -- The least, where the third class has no move and where it has.
+  of-two : classAt l 2 .cost ≡ 0 → leastFirst s l mask D v ≡ X
+  of-two unused = by-two s l mask D v unused refl
+
+  of-four : (classAt l 2 .cost ≡ 0 → ⊥) → whole ≡ X
+  of-four used = by-four s l mask D v used refl refl refl
+
+  least-class : (k : ℕ) → k < classCount → 0 < classAt l k .cost → X ≤ by k
+  least-class k h pos =
+      ⊎-elim (λ unused. two k h pos unused (of-two unused)) (λ used. four k h (of-four used))
+      (eq-or-ne (classAt l 2 .cost) 0)
+    where
+      two : (k : ℕ) → k < classCount → 0 < classAt l k .cost → classAt l 2 .cost ≡ 0 → leastFirst s l mask D v ≡ X
+          → X ≤ by k
+      two zero h pos unused e = omega (arith, first .left)
+      two (suc zero) h pos unused e = omega (arith, first .right)
+      two (suc (suc zero)) h pos unused e = absurd (omega arith)
+      two (suc (suc (suc zero))) h pos unused e = absurd (omega (arith, C .paired))
+      two (suc (suc (suc (suc k)))) h pos unused e = absurd (omega arith)
+
+      four : (k : ℕ) → k < classCount → whole ≡ X → X ≤ by k
+      four zero h e = omega (arith, all .left, first .left)
+      four (suc zero) h e = omega (arith, all .left, first .right)
+      four (suc (suc zero)) h e = omega (arith, all .right, further .left)
+      four (suc (suc (suc zero))) h e = omega (arith, all .right, further .right)
+      four (suc (suc (suc (suc k)))) h e = absurd (omega arith)
 
   -- The least is at most what any open move gives.
   least-le : (m w : ℕ) → m < g .moves → g .step m v ≡ some w → X ≤ D w + g .cost m
@@ -102,11 +152,17 @@ module _ {g : Graph} {s : List ℕ} {l : List Class} {mask v : ℕ} (C : ClassMo
       let k = c .0 in
       let b = c .4 in
       let e : ends k (c .1) ≡ D w = ap (λ o. D (endOr v o)) (sym (b .step) ∙ st) in
-      omega (arith, least-class k (c .2), by-moves k (c .3), least-is (ends k) 4 .each (c .1) (b .row), b .cost)
+      omega (arith, least-class k (c .2) (c .3), by-moves k (c .3), least-is (ends k) 4 .each (c .1) (b .row), b .cost)
 
   -- The least is what an open move gives, or above the cost of v, as what a shut move would give is.
+  abbrev Given : ℕ → Type 0
+  Given x = (D v < x) ⊎ Gives x
+
+  given-lesser : {x y z : ℕ} → Given x → Given y → Lesser x y z → Given z
+  given-lesser p q z = ⊎-elim (λ e. rw e p) (λ e. rw e q) (z .is)
+
   module _ (small : D v ≤ unreachable) where
-    given-by : (k : ℕ) → k < classCount → (D v < by k) ⊎ Gives (by k)
+    given-by : (k : ℕ) → k < classCount → Given (by k)
     unfolding leastBy
     given-by k h = ⊎-elim (λ e. inl (rw (eq-eqb (classAt l k .cost) 0 e) (omega arith)))
         (λ ne. let pos : 0 < classAt l k .cost = omega arith in
@@ -115,7 +171,7 @@ module _ {g : Graph} {s : List ℕ} {l : List Class} {mask v : ℕ} (C : ClassMo
         (least-is (ends k) 4 .is)) (eq-or-ne (classAt l k .cost) 0)
       where
         row : (j : ℕ) → j < 4 → 0 < classAt l k .cost → leastOf (ends k) 4 ≡ ends k j
-            → (o : Option ℕ) → rowEnd s mask v (classRow (classAt l k) j) ≡ o → (D v < by k) ⊎ Gives (by k)
+            → (o : Option ℕ) → rowEnd s mask v (classRow (classAt l k) j) ≡ o → Given (by k)
         row j i pos e none q =
             let z : ends k j ≡ D v = ap (λ o. D (endOr v o)) q in
             inl (omega (arith, by-moves k pos))
@@ -130,9 +186,12 @@ module _ {g : Graph} {s : List ℕ} {l : List Class} {mask v : ℕ} (C : ClassMo
               is = omega (arith, by-moves k pos, m .1 .cost);
             })
 
-    given-least : (D v < X) ⊎ Gives X
-    given-least = ⊎-elim (λ e. rw e (given-by 0 (omega arith))) (λ e. rw e (given-by 1 (omega arith)))
-        (lesser-is (by 0) (by 1) .is)
+    given-least : Given X
+    given-least =
+        let by-first = given-lesser (given-by 0 (omega arith)) (given-by 1 (omega arith)) first in
+        let by-further = given-lesser (given-by 2 (omega arith)) (given-by 3 (omega arith)) further in
+        ⊎-elim (λ unused. rw (← of-two unused) by-first)
+        (λ used. rw (← of-four used) (given-lesser by-first by-further all)) (eq-or-ne (classAt l 2 .cost) 0)
 
     relaxed-least : relaxedIn g D v ≡ leb (D v) X
     relaxed-least = iff-eq (relaxedIn g D v) (leb (D v) X)

@@ -25,8 +25,8 @@ pub record Shows (g : Graph) (r : Rows) (s : List ℕ) (mask v : ℕ) : Type 0 w
   pub agrees : Agrees (maskGraph (g .size) r s mask) g v
 
 module _ (S : Floor → Segment → Bool) (f : Floor) (r : Rows) (lawful : lawfulRows r ≡ true) {s : List ℕ}
-    (H : Shifts (f .wide) s) (p : f .wide ≤ 127) (q : f .high ≤ 127) (mask v : ℕ)
-    (i : v < vertices (f .wide) (f .high)) (o : MaskAt S f v mask) where
+    (H : Shifts (f .wide) r s) (p : f .wide ≤ 127) (q : f .high ≤ 127) (mask v : ℕ)
+    (i : v < vertices (f .wide) (f .high)) (o : MaskAt S f r v mask) where
   step-same : (m : ℕ) → m < r .count → readStep r s mask v m ≡ graphIf S f r .step m v
   step-same m l = step-masked S f r lawful s H v mask o m l
 

@@ -11,14 +11,18 @@
 --   endAt s mask v k         == the far end of row k from v by its mask and the shifts s, and v itself where the move is
 --                               shut, which is never the least: a move costs 1
 --   leastBy s mask D v c     == the least cost that a move of class c gives v: that of its far end and its own
---   leastAt s l mask D v     == the least by the classes of l
+--   leastTwo s mask D v c e  == the least by the classes c and e
+--   leastFirst, leastFurther == the least by the first two classes of l, and by the last two
+--   leastAt s l mask D v     == the least by the classes of l: by the first two where the third has no move, and then the
+--                               fourth has none
 --   rightBy x a D v          == the cost of v is right, where x is the least that a move gives it: it is x, or lower at
 --                               the source and where v is unreached
 --   rightNear s l mask a D v == so it is, by its neighbours
 --   RowLent n s mask v k     == the far end of row k from v can be worked out, and is below n
 --   Near n s l mask v        == so can those of every class, and v is below n
 --   MoveBy g s mask v c j m  == move m of the graph g from v is that of row j of class c
---   ClassMoves g s l mask v  == the moves of the graph g from v are those of the classes of l
+--   ClassMoves g s l mask v  == the moves of the graph g from v are those of the classes of l, whose last two have one
+--                               cost
 use Prim.Native.Nat.{ℕ, zero, suc, _+_, _<_}
 use mathlib.Core.Path.{_≡_}
 use mathlib.Core.Bool.{Bool, _&&_, _||_}
@@ -65,8 +69,19 @@ endAt s mask v k = endOr v (rowEnd s mask v k)
 unfoldable pub leastBy : List ℕ → ℕ → (ℕ → ℕ) → ℕ → Class → ℕ
 leastBy s mask D v c = pick (eqb (c .cost) 0) nowhere (leastOf (λ j. D (endAt s mask v (classRow c j))) 4 + c .cost)
 
-abbrev pub leastAt : List ℕ → List Class → ℕ → (ℕ → ℕ) → ℕ → ℕ
-leastAt s l mask D v = lesserOf (leastBy s mask D v (classAt l 0)) (leastBy s mask D v (classAt l 1))
+abbrev pub leastTwo : List ℕ → ℕ → (ℕ → ℕ) → ℕ → Class → Class → ℕ
+leastTwo s mask D v c e = lesserOf (leastBy s mask D v c) (leastBy s mask D v e)
+
+abbrev pub leastFirst : List ℕ → List Class → ℕ → (ℕ → ℕ) → ℕ → ℕ
+leastFirst s l mask D v = leastTwo s mask D v (classAt l 0) (classAt l 1)
+
+abbrev pub leastFurther : List ℕ → List Class → ℕ → (ℕ → ℕ) → ℕ → ℕ
+leastFurther s l mask D v = leastTwo s mask D v (classAt l 2) (classAt l 3)
+
+unfoldable pub leastAt : List ℕ → List Class → ℕ → (ℕ → ℕ) → ℕ → ℕ
+leastAt s l mask D v =
+    pick (eqb (classAt l 2 .cost) 0) (leastFirst s l mask D v)
+    (lesserOf (leastFirst s l mask D v) (leastFurther s l mask D v))
 
 unfoldable pub rightBy : ℕ → ℕ → (ℕ → ℕ) → ℕ → Bool
 rightBy x a D v = leb (D v) x && (eqb (D v) x || (eqb (D v) unreachable || eqb v a))
@@ -97,3 +112,4 @@ pub record ClassMoves (g : Graph) (s : List ℕ) (l : List Class) (mask v : ℕ)
   pub move : (k j : ℕ) → k < classCount → j < 4 → 0 < classAt l k .cost → (m : ℕ) × MoveBy g s mask v (classAt l k) j m
   pub covers : (m : ℕ) → m < g .moves
       → (k : ℕ) × (j : ℕ) × (k < classCount) × (0 < classAt l k .cost) × MoveBy g s mask v (classAt l k) j m
+  pub paired : classAt l 2 .cost ≡ classAt l 3 .cost

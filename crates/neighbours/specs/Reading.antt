@@ -17,7 +17,7 @@ use lib.Dec.{ltb, eqb}
 use lib.ListN.{length}
 use Rattle.basics.specs.Bounded.{pick}
 use Rattle.moves.specs.declared.Rows.{Rows}
-use Rattle.moves.specs.Moves.{moves, rowAt, moveAt}
+use Rattle.moves.specs.Moves.{rowCount, rowAt, moveAt}
 use Rattle.moves.specs.Table.{lawfulRows}
 use Rattle.offsets.specs.Offsets.{Movable, shiftedBy, rowEnd}
 use Rattle.paths.specs.Graph.{Graph}
@@ -38,7 +38,7 @@ maskGraph n r s mask = record {
 
 pub record Readable (n : ℕ) (r : Rows) (s : List ℕ) (mask v : ℕ) : Type 0 where
   pub lawful : lawfulRows r ≡ true
-  pub shifts-len : length s ≡ length moves
+  pub shifts-len : length s ≡ rowCount
   pub vertex : v < n
   pub movable : (m : ℕ) → m < r .count → Movable mask v (rowAt r m) (shiftedBy s (rowAt r m))
   pub inside : (m w : ℕ) → m < r .count → readStep r s mask v m ≡ some w → w < n

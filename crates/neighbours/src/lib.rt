@@ -9,13 +9,14 @@ ghost use mathlib.Core.Bool.{_&&_, true, false};
 ghost use Prim.Native.Nat.{_<_, _≤_, _^_};
 ghost use lib.ListN.{length};
 ghost use Rattle.basics.specs.Bounded.{pick};
-ghost use Rattle.moves.specs.Moves.{moves, rowAt, moveAt};
+ghost use Rattle.moves.specs.Moves.{rowCount, rowAt, moveAt};
 ghost use Rattle.moves.specs.Table.{lawfulRows};
 ghost use Rattle.offsets.specs.Offsets.{Movable, shiftedBy, endOf};
 ghost use Rattle.paths.specs.Route.{onShortest};
 ghost use Rattle.paths.specs.Local.{entry, inflow};
 ghost use Rattle.neighbours.specs.Reading.{readStep, maskGraph, Readable, sumOf};
-ghost use Rattle.neighbours.specs.Least.{endAt, lesserOf, leastBy, rightBy, rightNear, ClassLent, Near};
+ghost use Rattle.neighbours.specs.Least.{endAt, lesserOf, leastBy, leastTwo, rightBy, rightNear};
+ghost use Rattle.neighbours.specs.Least.{ClassLent, Near};
 ghost use Rattle.neighbours.specs.Choice.{Choosing, Counted, OffWay, followsBy, traversalOf, nextOf, nextFrom};
 use floor::Vertex;
 use moves::Rows;
@@ -54,7 +55,7 @@ fn cost_at(d: &[u32], v: usize) -> u64
 
 // Where move m of the rows leads from v.
 fn far_end(rows: Rows, shifts: &[usize], mask: u32, v: usize, m: usize) -> OpenEnd
-    requires { ⌜ (lawfulRows rows ≡ true) × (m < rows .count) × (length (now shifts) ≡ length moves)
+    requires { ⌜ (lawfulRows rows ≡ true) × (m < rows .count) × (length (now shifts) ≡ rowCount)
         × Movable mask v (rowAt rows m) (shiftedBy (now shifts) (rowAt rows m)) ⌝ }
     ensures { λ r. ⌜ r ≡ endOf (readStep rows (now (shifts .entry)) mask v m) ⌝ }
 {
@@ -67,7 +68,7 @@ fn move_cost(rows: Rows, m: usize) -> u64
     requires { ⌜ (lawfulRows rows ≡ true) × (m < rows .count) ⌝ }
     ensures { λ r. ⌜ (r ≡ moveAt rows m .cost) × (r < 4294967296) ⌝ }
 {
-    wide(moves::move_at(rows, m).cost)
+    wide(moves::cost_at(rows, m))
 }
 
 // Where row k of the table leads from v, by the mask of v's open moves and the shifts: v itself where that move is shut. A
@@ -128,7 +129,20 @@ fn right_by(least: u64, a: usize, d: &[u32], v: usize) -> bool
     v == a
 }
 
-// The cost d(v) from a is right, as far as v and its neighbours can tell.
+// The least cost that an open move of two classes gives v.
+fn least_two(shifts: &[usize], one: Class, other: Class, mask: u32, d: &[u32], v: usize) -> u64
+    requires { ⌜ ClassLent (length (now d)) (now shifts) mask v one
+        × ClassLent (length (now d)) (now shifts) mask v other ⌝ }
+    ensures { λ r. ⌜ r ≡ leastTwo (now (shifts .entry)) mask (entry (now (d .entry))) v one other ⌝ }
+{
+    let x = least_by(shifts, one, mask, d, v);
+    let y = least_by(shifts, other, mask, d, v);
+    lesser(x, y)
+}
+
+// The cost d(v) from a is right, as far as v and its neighbours can tell. The last two classes are asked only where the
+// third has moves. With the classes written out, as in `costs_right`, this would be too long for the compiler to put it
+// into the loops of its two callers.
 pub fn cost_right(
     shifts: &[usize],
     classes: [Class; offsets::CLASSES],
@@ -140,9 +154,11 @@ pub fn cost_right(
     requires { ⌜ Near (length (now d)) (now shifts) classes mask v ⌝ }
     ensures { λ r. ⌜ r ≡ rightNear (now (shifts .entry)) classes mask a (entry (now (d .entry))) v ⌝ }
 {
-    let first = least_by(shifts, classes[0], mask, d, v);
-    let second = least_by(shifts, classes[1], mask, d, v);
-    right_by(lesser(first, second), a, d, v)
+    let mut least = least_two(shifts, classes[0], classes[1], mask, d, v);
+    if classes[2].cost != 0 {
+        least = lesser(least, least_two(shifts, classes[2], classes[3], mask, d, v));
+    }
+    right_by(least, a, d, v)
 }
 
 // Both costs of v, d(v) from a and e(v) from b, are right in that way. The least costs are taken class by class, so that
@@ -165,10 +181,20 @@ pub fn costs_right(
     let e_first = least_by(shifts, classes[0], mask, e, v);
     let d_second = least_by(shifts, classes[1], mask, d, v);
     let e_second = least_by(shifts, classes[1], mask, e, v);
-    if !right_by(lesser(d_first, d_second), a, d, v) {
+    let mut d_least = lesser(d_first, d_second);
+    let mut e_least = lesser(e_first, e_second);
+    if classes[2].cost != 0 {
+        let d_third = least_by(shifts, classes[2], mask, d, v);
+        let e_third = least_by(shifts, classes[2], mask, e, v);
+        let d_fourth = least_by(shifts, classes[3], mask, d, v);
+        let e_fourth = least_by(shifts, classes[3], mask, e, v);
+        d_least = lesser(d_least, lesser(d_third, d_fourth));
+        e_least = lesser(e_least, lesser(e_third, e_fourth));
+    }
+    if !right_by(d_least, a, d, v) {
         return false;
     }
-    right_by(lesser(e_first, e_second), b, e, v)
+    right_by(e_least, b, e, v)
 }
 
 // The sum of the counts f of the neighbours of v that lead to it cheapest, by the costs d.

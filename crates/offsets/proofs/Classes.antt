@@ -1,8 +1,9 @@
 -- The classes of moves of one cost: a test that antt computes for the rows of each neighbourhood, and what it gives.
 --
---   two-moves   == a neighbourhood has two moves at least
---   two-classes == the classes of its first two moves are the classes of its moves
-use Prim.Native.Nat.{ℕ, _≤_}
+--   four-moves     == a neighbourhood has four moves at least
+--   middle-low     == and the middle of a quarter turn is among them
+--   listed-classes == `classesFor` are the classes of its moves
+use Prim.Native.Nat.{ℕ, _-_, _≤_}
 use mathlib.Core.Path.{_≡_, refl}
 use mathlib.Core.Logic.{⊎-elim}
 use mathlib.Core.Bool.{Bool, true, _&&_, _||_}
@@ -17,8 +18,9 @@ use Rattle.moves.specs.declared.Rows.{Rows}
 use Rattle.offsets.specs.declared.Class.{Class}
 use Rattle.moves.specs.Moves.{rowsOf, rowAt, moveAt}
 use Rattle.moves.specs.Table.{Listed}
-use Rattle.offsets.specs.Classes.{classCount, classAt, classRow, CostClass, Classes, classFor}
-use Rattle.moves.proofs.Table.{listed-found}
+use Rattle.offsets.specs.Classes.{classCount, classAt, classRow, CostClass, Classes}
+use Rattle.offsets.specs.Classes.{classFor, middleOf, classesFor}
+use Rattle.moves.proofs.Table.{each-listed}
 
 -- ---- the test
 
@@ -50,10 +52,13 @@ class-true r c e =
           (or-cases (leb (c .cost) 0) (every 4 (moveTest r c)) (both .1));
     }
 
--- The two classes pass.
+-- There are four moves at least, the middle of a quarter turn is one of the first four, and the classes pass.
 record Tested (r : Rows) (l : List Class) : Type 0 where
+  pub many : 4 ≤ r .count
+  pub middle : middleOf r ≤ 3
   pub each : every classCount (λ k. classTest r (classAt l k)) ≡ true
   pub covers : every (r .count) (coverTest r l) ≡ true
+  pub paired : eqb (classAt l 2 .cost) (classAt l 3 .cost) ≡ true
 
 tested : (r : Rows) (l : List Class) → Tested r l → Classes r l
 tested r l t = record {
@@ -64,30 +69,34 @@ tested r l t = record {
       let j = any-cases 4 (λ j. rowTest r c j m) (k .2) in
       let u = and-both (eqb (rowAt r m) (classRow c (j .0))) (eqb (moveAt r m .cost) (c .cost)) (j .2) in
       (k .0, k .1, (j .0, j .1, eqb-true _ _ (u .0)), eqb-true _ _ (u .1));
+  paired = eqb-true _ _ (t .paired);
 }
 
 -- ---- the classes of each neighbourhood
 
-abbrev classesFor : Rows → List Class
-classesFor r = classFor r 0 ∷ classFor r 1 ∷ []
-
-cardinal-classes : Tested (rowsOf 0 2 4) (classesFor (rowsOf 0 2 4))
+cardinal-classes : Tested (rowsOf 0 4 4) (classesFor (rowsOf 0 4 4))
 unfolding bounded-opened
-cardinal-classes = record { each = refl; covers = refl }
+cardinal-classes = record { many = omega arith; middle = omega arith; each = refl; covers = refl; paired = refl }
 
-whole-classes : Tested (rowsOf 0 1 8) (classesFor (rowsOf 0 1 8))
+eight-classes : Tested (rowsOf 0 2 8) (classesFor (rowsOf 0 2 8))
 unfolding bounded-opened
-whole-classes = record { each = refl; covers = refl }
+eight-classes = record { many = omega arith; middle = omega arith; each = refl; covers = refl; paired = refl }
+
+sixteen-classes : Tested (rowsOf 16 1 16) (classesFor (rowsOf 16 1 16))
+unfolding bounded-opened
+sixteen-classes = record { many = omega arith; middle = omega arith; each = refl; covers = refl; paired = refl }
 
 module _ {r : Rows} (h : Listed r) where
-  pub two-moves : 2 ≤ r .count
-  two-moves = ⊎-elim (λ e. rw e (omega arith)) (λ e. rw e (omega arith)) (listed-found h .is)
+  listed-tested : Tested r (classesFor r)
+  listed-tested = each-listed (λ r. Tested r (classesFor r)) cardinal-classes eight-classes sixteen-classes h
 
-  listed-classes : Classes r (classesFor r)
-  listed-classes =
-      ⊎-elim (λ e. rw e (tested (rowsOf 0 1 8) (classesFor (rowsOf 0 1 8)) whole-classes))
-      (λ e. rw e (tested (rowsOf 0 2 4) (classesFor (rowsOf 0 2 4)) cardinal-classes)) (listed-found h .is)
+  pub four-moves : 4 ≤ r .count
+  four-moves = listed-tested .many
+
+  pub middle-low : middleOf r ≤ 3
+  middle-low = listed-tested .middle
 
   -- the classes as the code makes them, one after the other
-  pub two-classes : (a b : Class) → a ≡ classFor r 0 → b ≡ classFor r 1 → Classes r (a ∷ b ∷ [])
-  two-classes a b p q = rw (p, q) listed-classes
+  pub listed-classes : (a b c d : Class) → a ≡ classFor r 0 → b ≡ classFor r (middleOf r)
+      → c ≡ classFor r (3 - middleOf r) → d ≡ classFor r 3 → Classes r (a ∷ b ∷ c ∷ d ∷ [])
+  listed-classes a b c d p q s t = rw (p, q, s, t) (tested r (classesFor r) listed-tested)

@@ -1,7 +1,7 @@
 -- A step by a mask: a vertex moved by its row's offset, where its mask has that row's bit, goes where the move leads whose
 -- test S the mask holds.
 --
---   row-offset      == the offset of a row of the table
+--   move-offset     == the offset of a move is small
 --   composed        == the offset of a move, from the parts of its two offsets
 --   masked-end      == so it does
 --   masked-movable  == and that can be worked out
@@ -25,15 +25,15 @@ use Rattle.sight.specs.Sight.{Segment}
 use Rattle.moves.specs.declared.Move.{Move}
 use Rattle.moves.specs.declared.Offset.{Offset}
 use Rattle.moves.specs.declared.Rows.{Rows}
-use Rattle.moves.specs.Moves.{moves, rowMove, rowsOf, rowAt, moveAt}
+use Rattle.moves.specs.Moves.{rowCount, rowAt, moveAt}
 use Rattle.moves.specs.Steps.{up, down, endIf, isSome}
-use Rattle.moves.specs.Table.{Short, partsOf}
+use Rattle.moves.specs.Table.{Short, lawfulRows, partsOf}
 use Rattle.basics.specs.Bits.{bit}
 use Rattle.masks.specs.Masks.{MaskAt}
 use Rattle.offsets.specs.Offsets.{offsetOf, maskedEnd, Movable}
 use Rattle.offsets.specs.Offsets.{shiftBase, Shifts, shiftedBy}
 use Rattle.moves.proofs.Signs.{up-le, down-le}
-use Rattle.moves.proofs.Table.{table-short}
+use Rattle.moves.proofs.Table.{LawfulMove, lawful-move, same-row}
 use Rattle.moves.proofs.Steps.{Goes, end-goes}
 
 -- Where a move leads, by its offset.
@@ -59,24 +59,14 @@ down-small w m l s =
     let y = s .rows in
     omega (arith, mul-le-mul {n₁ = down (m .dy)} {m₁ = suc w} {n₂ = 2} {m₂ = 128} (omega arith) (omega arith))
 
--- The offset of a row of the table, as the row of a move of the neighbourhood that has them all.
-pub record RowOffset (w k : ℕ) (o : Offset) : Type 0 where
-  pub is : o ≡ offsetOf w (rowMove k)
+-- The offset of a move is small.
+pub record MoveOffset (w : ℕ) (m : Move) (o : Offset) : Type 0 where
+  pub is : o ≡ offsetOf w m
   pub ups : o .up ≤ 258
   pub downs : o .down ≤ 258
 
-pub row-offset : (w k : ℕ) (r : Rows) (o : Offset) → r ≡ rowsOf 0 1 (length moves) → o ≡ offsetOf w (moveAt r k)
-    → w ≤ 127 → k < length moves → RowOffset w k o
-row-offset w k r o p q l h =
-    let z : rowAt (rowsOf 0 1 (length moves)) k ≡ k = omega arith in
-    let e : o ≡ offsetOf w (rowMove k) =
-    q ∙ ap (λ r. offsetOf w (moveAt r k)) p ∙ ap (λ n. offsetOf w (rowMove n)) z in
-    let s = table-short k h in
-    record {
-      is = e;
-      ups = rw e (up-small w (rowMove k) l s);
-      downs = rw e (down-small w (rowMove k) l s);
-    }
+pub move-offset : {w : ℕ} {m : Move} {o : Offset} → o ≡ offsetOf w m → w ≤ 127 → Short m → MoveOffset w m o
+move-offset {w} {m} e l s = record { is = e; ups = rw e (up-small w m l s); downs = rw e (down-small w m l s) }
 
 -- The offset that the code puts together from the parts x of the columns and y of the rows.
 pub record Composed (w : ℕ) (m : Move) (x y : Offset) : Type 0 where
@@ -92,12 +82,19 @@ composed w m x y p q l s = rw (p, q) (record {
   is = rw add-one;
 })
 
-module _ (S : Floor → Segment → Bool) (f : Floor) (v n k : ℕ) (mask : MaskAt S f v n) (l : k < length moves) where
+module _ (S : Floor → Segment → Bool) (f : Floor) (r : Rows) (lawful : lawfulRows r ≡ true) (v n : ℕ)
+    (mask : MaskAt S f r v n) (j : ℕ) (l : j < r .count) where
+  abbrev k : ℕ
+  k = rowAt r j
+
   abbrev m : Move
-  m = rowMove k
+  m = moveAt r j
 
   abbrev o : Offset
   o = offsetOf (f .wide) m
+
+  law : LawfulMove r j
+  law = lawful-move r j lawful l
 
   -- The far end, where S holds of the segment to it.
   abbrev end : Option ℕ
@@ -106,11 +103,11 @@ module _ (S : Floor → Segment → Bool) (f : Floor) (v n k : ℕ) (mask : Mask
   -- The two cases: the bit and the far end.
   has : (w : ℕ) → end ≡ some w → bit n k ≡ true
   unfolding isSome
-  has w e = mask .at k l ∙ ap isSome e
+  has w e = mask .at j l ∙ ap isSome e
 
   unset : end ≡ none → bit n k ≡ false
   unfolding isSome
-  unset e = mask .at k l ∙ ap isSome e
+  unset e = mask .at j l ∙ ap isSome e
 
   moved : (w : ℕ) → end ≡ some w → w + o .down ≡ v + o .up
   moved w e =
@@ -126,8 +123,8 @@ module _ (S : Floor → Segment → Bool) (f : Floor) (v n k : ℕ) (mask : Mask
 
   pub masked-movable : f .wide ≤ 127 → f .high ≤ 127 → v < vertices (f .wide) (f .high) → Movable n v k o
   masked-movable p q i = record {
-    row = omega arith;
-    sum = omega (arith, vertices-le p q, up-small (f .wide) m p (table-short k l));
+    row = omega (arith, law .in-table);
+    sum = omega (arith, vertices-le p q, up-small (f .wide) m p (law .is-short));
     enough = λ e. enough (end) refl e;
   }
     where
@@ -137,49 +134,56 @@ module _ (S : Floor → Segment → Bool) (f : Floor) (v n k : ℕ) (mask : Mask
 
 -- ---- the rows by their shifts
 
--- v moved by a row's offset, and by that offset as it stands in the list of shifts.
-pub shifts-end : {w : ℕ} {l : List ℕ} → Shifts w l → (k v : ℕ) → k < length moves
-    → v + getD l k 0 - shiftBase ≡ v + offsetOf w (rowMove k) .up - offsetOf w (rowMove k) .down
-shifts-end S k v h = omega (arith, S .at k h)
+module _ {w : ℕ} {r : Rows} {l : List ℕ} (S : Shifts w r l) (j : ℕ) (h : j < r .count) where
+  abbrev kept : ℕ
+  kept = rowAt r j
 
-pub shifts-masked : {w : ℕ} {l : List ℕ} → Shifts w l → (n v k : ℕ) → k < length moves
-    → maskedEnd n v k (shiftedBy l k) ≡ maskedEnd n v k (offsetOf w (rowMove k))
-shifts-masked S n v k h = ap (λ u. pick (bit n k) (some u) none) (shifts-end S k v h)
+  -- v moved by a row's offset, and by that offset as it stands in the list of shifts.
+  pub shifts-masked : (n v : ℕ) → maskedEnd n v kept (shiftedBy l kept) ≡ maskedEnd n v kept (offsetOf w (moveAt r j))
+  shifts-masked n v =
+      let e : v + getD l kept 0 - shiftBase ≡ v + offsetOf w (moveAt r j) .up - offsetOf w (moveAt r j) .down =
+      omega (arith, S .at j h) in
+      ap (λ u. pick (bit n kept) (some u) none) e
 
-pub shifts-movable : {w : ℕ} {l : List ℕ} → Shifts w l → (n v k : ℕ) → k < length moves → w ≤ 127 → v < 16384
-    → Movable n v k (offsetOf w (rowMove k)) → Movable n v k (shiftedBy l k)
-shifts-movable {w} S n v k h p i m =
-    let u = up-small w (rowMove k) p (table-short k h) in
-    let d = down-small w (rowMove k) p (table-short k h) in
-    record {
-      row = m .row;
-      sum = omega (arith, S .at k h);
-      enough = λ b. omega (arith, S .at k h, m .enough b);
-    }
+  pub shifts-movable : lawfulRows r ≡ true → (n v : ℕ) → w ≤ 127 → v < 16384
+      → Movable n v kept (offsetOf w (moveAt r j)) → Movable n v kept (shiftedBy l kept)
+  shifts-movable lawful n v p i m =
+      let s = lawful-move r j lawful h .is-short in
+      let u = up-small w (moveAt r j) p s in
+      let d = down-small w (moveAt r j) p s in
+      record {
+        row = m .row;
+        sum = omega (arith, S .at j h);
+        enough = λ b. omega (arith, S .at j h, m .enough b);
+      }
 
--- The shifts of the rows before k.
-pub record ShiftsTo (w k : ℕ) (l : List ℕ) : Type 0 where
-  pub len : length l ≡ length moves
-  pub at : (j : ℕ) → j < k → getD l j 0 + offsetOf w (rowMove j) .down ≡ shiftBase + offsetOf w (rowMove j) .up
+-- The shifts of the rows of the moves before n.
+pub record ShiftsTo (w : ℕ) (r : Rows) (n : ℕ) (l : List ℕ) : Type 0 where
+  pub len : length l ≡ rowCount
+  pub at : (m : ℕ) → m < n
+      → getD l (rowAt r m) 0 + offsetOf w (moveAt r m) .down ≡ shiftBase + offsetOf w (moveAt r m) .up
 
-pub shifts-none : {w : ℕ} {l : List ℕ} → length l ≡ length moves → ShiftsTo w 0 l
-shifts-none e = record { len = e; at = λ j h. absurd (omega arith) }
+pub shifts-none : {w : ℕ} {r : Rows} {l : List ℕ} → length l ≡ rowCount → ShiftsTo w r 0 l
+shifts-none e = record { len = e; at = λ m h. absurd (omega arith) }
 
-pub shifts-more : {w k : ℕ} {l : List ℕ} {o : Offset} → ShiftsTo w k l → k < length moves → RowOffset w k o
-    → ShiftsTo w (k + 1) (set l k (shiftBase + o .up - o .down))
-shifts-more {w} {k} {l} {o} S h r = record {
-  len = length-set l k n ∙ S .len;
-  at = λ j g. ⊎-elim
-      (λ (lt : suc j ≤ k). rw (getD-set-other l k j n 0 (λ e. omega arith)) (S .at j lt))
-      (λ (ge : k < suc j).
-      let e : j ≡ k = omega arith in
-      let u = ap (λ (o : Offset). o .up) (r .is) in
-      let d = ap (λ (o : Offset). o .down) (r .is) in
-      rw (e, getD-set-same l k n 0 (omega (arith, S .len))) (omega (arith, r .downs, u, d))) (le-or-lt (suc j) k);
-}
+pub shifts-more : {w n k : ℕ} {r : Rows} {l : List ℕ} {o : Offset} → lawfulRows r ≡ true → ShiftsTo w r n l → n < r .count
+    → MoveOffset w (moveAt r n) o → k ≡ rowAt r n → ShiftsTo w r (n + 1) (set l k (shiftBase + o .up - o .down))
+shifts-more {w} {n} {k} {r} {l} {o} lawful S h t e = rw e (record {
+  len = length-set l (rowAt r n) x ∙ S .len;
+  at = λ m g. ⊎-elim
+      (λ (lt : suc m ≤ n).
+      rw (getD-set-other l (rowAt r n) (rowAt r m) x 0
+      (λ same. let z = same-row r lawful m n (omega arith) h same in omega arith)) (S .at m lt))
+      (λ (ge : n < suc m).
+      let z : m ≡ n = omega arith in
+      let u = ap (λ (o : Offset). o .up) (t .is) in
+      let d = ap (λ (o : Offset). o .down) (t .is) in
+      rw (z, getD-set-same l (rowAt r n) x 0 (omega (arith, S .len, lawful-move r n lawful h .in-table)))
+      (omega (arith, t .downs, u, d))) (le-or-lt (suc m) n);
+})
   where
-    n : ℕ
-    n = shiftBase + o .up - o .down
+    x : ℕ
+    x = shiftBase + o .up - o .down
 
-pub shifts-all : {w : ℕ} {l : List ℕ} → ShiftsTo w (length moves) l → Shifts w l
+pub shifts-all : {w : ℕ} {r : Rows} {l : List ℕ} → ShiftsTo w r (r .count) l → Shifts w r l
 shifts-all S = record { len = S .len; at = S .at }

@@ -4,7 +4,8 @@
 --   offsetOf w m           == by how much move m changes a vertex number: by `up` less `down`
 --   maskedEnd n v k o      == v moved by o where bit k of n is set
 --   Movable n v k o        == that can be worked out
---   shiftBase, Shifts w l  == the offset of each row k, by 512 more, as place k of l: a number that is never negative
+--   shiftBase, Shifts w r l == the offset of each row k of the rows r, by 512 more, as place k of l: a number that is never
+--                             negative
 --   byShift x, shiftedBy l k == that offset again, of a number x of such a list, and of row k
 --   rowEnd l n v k         == the far end of row k from v by the mask n and the shifts l, if the move is open
 --   endOf o                == that far end as the code answers it
@@ -19,7 +20,8 @@ use Rattle.moves.specs.declared.Move.{Move}
 use Rattle.moves.specs.declared.Offset.{Offset}
 use Rattle.offsets.specs.declared.OpenEnd.{OpenEnd}
 use Rattle.offsets.specs.declared.OpenEnd.the-variants.{At, Shut}
-use Rattle.moves.specs.Moves.{moves, rowMove}
+use Rattle.moves.specs.declared.Rows.{Rows}
+use Rattle.moves.specs.Moves.{rowCount, rowAt, moveAt}
 use Rattle.moves.specs.Steps.{up, down}
 use Rattle.basics.specs.Bits.{bit}
 
@@ -37,10 +39,10 @@ pub record Movable (n v k : ℕ) (o : Offset) : Type 0 where
 abbrev pub shiftBase : ℕ
 shiftBase = 512
 
-pub record Shifts (w : ℕ) (l : List ℕ) : Type 0 where
-  pub len : length l ≡ length moves
-  pub at : (k : ℕ) → k < length moves
-      → getD l k 0 + offsetOf w (rowMove k) .down ≡ shiftBase + offsetOf w (rowMove k) .up
+pub record Shifts (w : ℕ) (r : Rows) (l : List ℕ) : Type 0 where
+  pub len : length l ≡ rowCount
+  pub at : (m : ℕ) → m < r .count
+      → getD l (rowAt r m) 0 + offsetOf w (moveAt r m) .down ≡ shiftBase + offsetOf w (moveAt r m) .up
 
 abbrev pub byShift : ℕ → Offset
 byShift x = record { up = x; down = shiftBase }

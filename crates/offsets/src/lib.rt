@@ -14,11 +14,14 @@ use moves::Rows;
 // What is added to a change of a vertex number that stands in a list.
 pub const SHIFT_BASE: usize = 512;
 
-// How many classes a neighbourhood has; one of no move stands for a class that it lacks.
-pub const CLASSES: usize = 2;
+// How many rows the two tables of moves have.
+const ROWS: usize = 32;
 
-// How many rows of the table a quarter turn is: a fourth of them, since they stand in order of angle.
-const QUARTER: usize = 2;
+// How many classes a neighbourhood has; one of no move stands for a class that it lacks.
+pub const CLASSES: usize = 4;
+
+// How many rows a quarter turn is: each row is a sixteenth of a turn after the one before.
+const QUARTER: usize = 4;
 
 // Four moves of one cost, each a quarter turn from the one before: rows `row`, `row + QUARTER` and so on. Cost 0: a class
 // of no move.
@@ -35,7 +38,7 @@ pub enum OpenEnd {
 }
 
 // By how much move m of a neighbourhood changes a vertex number.
-pub fn offset_of(w: usize, rows: Rows, m: usize) -> Offset
+fn offset_of(w: usize, rows: Rows, m: usize) -> Offset
     requires { ⌜ (w ≤ 127) × (lawfulRows rows ≡ true) × (m < rows .count) ⌝ }
     ensures { λ r. ⌜ r ≡ offsetOf w (moveAt rows m) ⌝ }
 {
@@ -60,15 +63,16 @@ pub fn open_end(mask: u32, v: Vertex, k: usize, shift: usize) -> OpenEnd
     OpenEnd::Shut
 }
 
-// By how much the move of each row of the table changes a vertex number on floors of width w, and SHIFT_BASE more, so that
-// no number is negative.
-pub fn shifts_of(w: usize) -> [usize; 8]
-    requires { ⌜ w ≤ 127 ⌝ }
-    ensures { λ r. ⌜ Shifts w r ⌝ }
+// By how much the move of each row of a neighbourhood changes a vertex number on floors of width w, and SHIFT_BASE more, so
+// that no number is negative. The place of another row has 0.
+pub fn shifts_of(w: usize, rows: Rows) -> [usize; ROWS]
+    requires { ⌜ (w ≤ 127) × Listed rows ⌝ }
+    ensures { λ r. ⌜ Shifts w rows r ⌝ }
 {
-    let mut shifts = [0; 8];
-    for k in 0..8 {
-        let by = offset_of(w, moves::all_rows(), k);
+    let mut shifts = [0; ROWS];
+    for m in 0..rows.count {
+        let by = offset_of(w, rows, m);
+        let k = moves::row_at(rows, m);
         shifts[k] = SHIFT_BASE + by.up - by.down;
     }
     shifts
@@ -76,7 +80,7 @@ pub fn shifts_of(w: usize) -> [usize; 8]
 
 // Row number j of a class.
 pub fn class_row(class: Class, j: usize) -> usize
-    requires { ⌜ (class .row < 32) × (j < 4) ⌝ }
+    requires { ⌜ classRow class j < 32 ⌝ }
     ensures { λ r. ⌜ r ≡ classRow class j ⌝ }
 {
     class.row + QUARTER * j
@@ -91,18 +95,23 @@ fn class_of(rows: Rows, m: usize) -> Class
     if m < rows.count / 4 {
         return Class {
             row: moves::row_at(rows, m),
-            cost: moves::move_at(rows, m).cost,
+            cost: moves::cost_at(rows, m),
         };
     }
     Class { row: 0, cost: 0 }
 }
 
-// The classes of a neighbourhood, read off the table.
+// The classes of a neighbourhood, read off the table: of the first move, of the one in the middle of a quarter turn, and
+// of the other two. Where a quarter turn has four moves, these two have one cost; where it has fewer, they are of no
+// move.
 pub fn classes_of(rows: Rows) -> [Class; CLASSES]
     requires { ⌜ Listed rows ⌝ }
     ensures { λ r. ⌜ Classes rows r ⌝ }
 {
+    let middle = (rows.count / 4 + 1) / 2;
     let first = class_of(rows, 0);
-    let second = class_of(rows, 1);
-    [first, second]
+    let second = class_of(rows, middle);
+    let third = class_of(rows, 3 - middle);
+    let fourth = class_of(rows, 3);
+    [first, second, third, fourth]
 }

@@ -76,7 +76,7 @@ module _ {w h : ℕ} {map : List ℕ} {rows : Rows} {a b : ℕ} {d e f back rout
   }
 
   module _ {x n : ℕ} {shifts e′ work′ : List ℕ} (C : OrderedCosts (floorOf w h map) rows x n e′ work′)
-      (S : Shifts w shifts) where
+      (S : Shifts w rows shifts) where
     masked : Masked g rows shifts work′
     masked =
         let J = F .finishable .job in
@@ -198,7 +198,7 @@ module _ {w h : ℕ} {map : List ℕ} {rows : Rows} {a b : ℕ} {d e f back rout
       (back-blank ∙ ap zeros (P .lent .sheet .b)) (route-blank ∙ ap zeros (P .lent .sheet .route))
       (next-blank ∙ ap zeros (P .lent .sheet .next))
 
-  pub finish-findable : MasksIn (floorOf w h map) work → (entry d b ≡ unreachable → ⊥)
+  pub finish-findable : MasksIn (floorOf w h map) rows work → (entry d b ≡ unreachable → ⊥)
       → Findable w h map rows a b d e f′ back′ route′ next′ work
   finish-findable masks near = record {
     finishable = record {

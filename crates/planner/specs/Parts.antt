@@ -91,7 +91,7 @@ pub record Finishable (w h : ℕ) (map : List ℕ) (rows : Rows) (a b : ℕ) (d 
 pub record Findable (w h : ℕ) (map : List ℕ) (rows : Rows) (a b : ℕ) (d e f back route next work : List ℕ)
     : Type 0 where
   pub finishable : Finishable w h map rows a b d e f back route next work
-  pub masks : MasksIn (floorOf w h map) work
+  pub masks : MasksIn (floorOf w h map) rows work
   pub reached : distance (floorGraph (floorOf w h map) rows) a b < unreachable
   pub f-blank : f ≡ zeros (vertices w h)
   pub back-blank : back ≡ zeros (vertices w h)

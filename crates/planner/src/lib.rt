@@ -167,7 +167,7 @@ fn find_route(
         (zeros (4 * vertices w h))) ⌝ }
 {
     let n = distances::costs_over_masks(w, h, map, rows, b, e, work);
-    let shifts = offsets::shifts_of(w);
+    let shifts = offsets::shifts_of(w, rows);
     let start = a.0;
     let goal = b.0;
     if !counts::fill_counts(rows, &shifts, start, goal, n, d, e, work, f, back) {
@@ -200,7 +200,7 @@ fn finish_over_masks(
 ) -> Planned
     requires { ⌜ Finishable w h (now map) rows (a .0) (b .0)
         (now d) (now e) (now f) (now back) (now route) (now next) (now work) ⌝ }
-    requires { ⌜ MasksIn (floorOf w h (now map)) (now work) ⌝ }
+    requires { ⌜ MasksIn (floorOf w h (now map)) rows (now work) ⌝ }
     ensures { λ r. ⌜ Finished (floorGraph (floorOf w h (now (map .entry))) rows) (a .0) (b .0) r
         (slicesOf (now (e .exit)) (now (f .exit)) (now (back .exit)) (now (route .exit))
         (now (next .exit)) (now (work .exit))) ⌝ }
@@ -243,7 +243,7 @@ pub fn finish_job(
         (slicesOf (now (e .exit)) (now (f .exit)) (now (back .exit)) (now (route .exit))
         (now (next .exit)) (now (work .exit))) ⌝ }
 {
-    workspace::store_masks(w, h, map, work);
+    workspace::store_masks(w, h, map, rows, work);
     finish_over_masks(w, h, map, rows, a, b, d, e, f, back, route, next, work)
 }
 

@@ -21,7 +21,7 @@ use Rattle.moves.specs.Table.{lawfulRows}
 use Rattle.paths.specs.Graph.{Graph, Lawful}
 use Rattle.paths.specs.Distance.{distance, pathCount}
 use Rattle.paths.specs.Route.{route-opened, traversals}
-use Rattle.paths.specs.Sheet.{Sheet, TrueRoute, TrueNoRoute}
+use Rattle.paths.specs.Sheet.{Sheet, routeSheet, noRouteSheet, TrueRoute, TrueNoRoute}
 use Rattle.paths.specs.Local.{Shaped, entry, localRoute, localNoRoute, local-opened}
 use Rattle.paths.proofs.SheetTest.{numbers-true, numbers-total, local-true, local-noRoute}
 use Rattle.paths.proofs.Sheets.{route-entries}
@@ -29,6 +29,7 @@ use Rattle.grid.specs.Grid.{pinchShape, endsShape, jobOf}
 use Rattle.grid.specs.declared.Job.the-variants.{Fit}
 use Rattle.grid.proofs.Lawful.{floor-lawful}
 use Rattle.grid.proofs.Jobs.{FitJob, job-fit}
+use Rattle.given_costs.specs.Given.{costsTrue}
 use Rattle.thinning.specs.Thinning.{keptPositions, thinning-opened}
 use Rattle.worked.specs.Floors.{
   Case,
@@ -44,6 +45,13 @@ use Rattle.worked.specs.Floors.{
   floorF,
   floorG,
   floorH,
+  floorA16,
+  floorE16,
+  floorC4,
+  floorC16,
+  plansA,
+  plansC,
+  handedIn,
   entered,
   RouteHolds,
   NoRouteHolds,
@@ -149,15 +157,73 @@ routes-true = (
   route-holds floorA refl refl,
   (
     route-holds floorB refl refl,
-    (route-holds floorD refl refl, (route-holds floorE refl refl, (route-holds floorH refl refl, tt))),
+    (
+      route-holds floorD refl refl,
+      (
+        route-holds floorE refl refl,
+        (route-holds floorH refl refl, (route-holds floorA16 refl refl, (route-holds floorE16 refl refl, tt))),
+      ),
+    ),
   ),
 )
 
 noRoutes-true : Each NoRouteHolds noRoutes
 unfolding jobOf sidesShape unusedClear floorShape endShape pinchShape endsShape neighbourhoodOf shaped noRouteTest
     bounded-opened lists-opened floor-opened sight-opened steps-opened route-opened local-opened
-noRoutes-true =
-    (noRoute-holds floorC refl refl, (noRoute-holds floorF refl refl, (noRoute-holds floorG refl refl, tt)))
+noRoutes-true = (
+  noRoute-holds floorC refl refl,
+  (
+    noRoute-holds floorF refl refl,
+    (noRoute-holds floorG refl refl, (noRoute-holds floorC4 refl refl, (noRoute-holds floorC16 refl refl, tt))),
+  ),
+)
+
+-- ---- costs of one neighbourhood handed in for another
+
+-- The costs of a case are those of its sheet, so the costs of another are true where its sheet has the same.
+handed-route : (c k : Case) → RouteHolds c → handedIn c k ≡ same (k .sheet .d) (c .sheet .d)
+unfolding costsTrue routeSheet
+handed-route c k R = ap (same (k .sheet .d)) (sym (ap (λ (s : Sheet). s .d) (R .sheet .is)))
+
+handed-none : (c k : Case) → NoRouteHolds c → handedIn c k ≡ same (k .sheet .d) (c .sheet .d)
+unfolding costsTrue noRouteSheet
+handed-none c k R = ap (same (k .sheet .d)) (sym (ap (λ (s : Sheet). s .d) (R .sheet .is)))
+
+handed-a-true : (i j : ℕ) → i < 3 → j < 3 → handedIn (getD plansA i floorA) (getD plansA j floorA) ≡ eqb i j
+unfolding lists-opened
+handed-a-true i j a b = rows i a j b
+  where
+    column : (c : Case) → RouteHolds c → (t : ℕ → Bool)
+        → same (floorA .sheet .d) (c .sheet .d) ≡ t 0 → same (floorB .sheet .d) (c .sheet .d) ≡ t 1
+        → same (floorA16 .sheet .d) (c .sheet .d) ≡ t 2
+        → (j : ℕ) → j < 3 → handedIn c (getD plansA j floorA) ≡ t j
+    column c R t p q r zero b = handed-route c floorA R ∙ p
+    column c R t p q r (suc zero) b = handed-route c floorB R ∙ q
+    column c R t p q r (suc (suc zero)) b = handed-route c floorA16 R ∙ r
+    column c R t p q r (suc (suc (suc j))) b = absurd (omega arith)
+
+    rows : (i : ℕ) → i < 3 → (j : ℕ) → j < 3 → handedIn (getD plansA i floorA) (getD plansA j floorA) ≡ eqb i j
+    rows zero a = column floorA (routes-true .0) (eqb 0) refl refl refl
+    rows (suc zero) a = column floorB (routes-true .1 .0) (eqb 1) refl refl refl
+    rows (suc (suc zero)) a = column floorA16 (routes-true .1 .1 .1 .1 .1 .0) (eqb 2) refl refl refl
+    rows (suc (suc (suc i))) a = absurd (omega arith)
+
+handed-c-true : (i j : ℕ) → i < 3 → j < 3 → handedIn (getD plansC i floorC) (getD plansC j floorC) ≡ true
+unfolding lists-opened
+handed-c-true i j a b = rows i a j b
+  where
+    column : (c : Case) → NoRouteHolds c → c .sheet ≡ floorC .sheet
+        → (j : ℕ) → j < 3 → handedIn c (getD plansC j floorC) ≡ true
+    column c R e zero b = handed-none c floorC R ∙ ap (λ (s : Sheet). same (floorC .sheet .d) (s .d)) e
+    column c R e (suc zero) b = handed-none c floorC4 R ∙ ap (λ (s : Sheet). same (floorC .sheet .d) (s .d)) e
+    column c R e (suc (suc zero)) b = handed-none c floorC16 R ∙ ap (λ (s : Sheet). same (floorC .sheet .d) (s .d)) e
+    column c R e (suc (suc (suc j))) b = absurd (omega arith)
+
+    rows : (i : ℕ) → i < 3 → (j : ℕ) → j < 3 → handedIn (getD plansC i floorC) (getD plansC j floorC) ≡ true
+    rows zero a = column floorC (noRoutes-true .0) refl
+    rows (suc zero) a = column floorC4 (noRoutes-true .1 .1 .1 .0) refl
+    rows (suc (suc zero)) a = column floorC16 (noRoutes-true .1 .1 .1 .1 .0) refl
+    rows (suc (suc (suc i))) a = absurd (omega arith)
 
 -- Two tests with the same answer, as a test.
 unfoldable alike : Bool → Bool → Bool
@@ -203,5 +269,7 @@ worked = record {
   noRoutes-hold = noRoutes-true;
   pinches-g = pinches-true;
   traversals-h = traversals-four;
+  handed-a = handed-a-true;
+  handed-c = handed-c-true;
   cells-i = cells-true;
 }

@@ -2,13 +2,17 @@
 -- request 5 of document 02, and the next vertices by its request 7.
 --
 --   Case             == a job, and a sheet for it
---   routes           == floors a, b, d, e and h: the job, its true route sheet, the kept positions
---   noRoutes         == floors c, f and g: the job and its true no-route sheet
+--   routes           == floors a, b, d, e and h, and a and e with neighbourhood 16 (request 8): the job, its true route
+--                       sheet, the kept positions
+--   noRoutes         == floors c, f and g, and c with 4 and 16: the job and its true no-route sheet
 --   entered          == floor i: the cells of a 3 by 2 floor, row by row, that the segment from (0, 0) to (3, 2) enters
 --   RouteHolds c     == the job has a good shape, the sheet is its true route sheet, its cost and total are those of the
 --                       case, and thinning keeps the positions of the case
 --   NoRouteHolds c   == the job has a good shape and the sheet is its true no-route sheet
---   Worked           == the statement: all of this holds; of the nine vertices of floor g the only pinch is 4
+--   plansA, plansC   == the floors a and c, each with 8, 4 and 16
+--   handedIn c k     == the costs of case k, handed in for case c, are true (request 4)
+--   Worked           == the statement: all of this holds; of the nine vertices of floor g the only pinch is 4; on floor a
+--                       the costs with one neighbourhood, handed in for another, are false, and on floor c they are not
 use Prim.Native.Nat.{ℕ, _+_, _*_, _<_}
 use mathlib.Core.Path.{_≡_}
 use mathlib.Core.Bool.{Bool, true, false}
@@ -25,6 +29,7 @@ use Rattle.paths.specs.Route.{traversals}
 use Rattle.paths.specs.Sheet.{Sheet, sheetOf, TrueRoute, TrueNoRoute}
 use Rattle.grid.specs.Grid.{floorGraph, jobOf}
 use Rattle.grid.specs.declared.Job.the-variants.{Fit}
+use Rattle.given_costs.specs.Given.{costsTrue}
 use Rattle.thinning.specs.Thinning.{keptPositions}
 
 pub record Case : Type 0 where
@@ -63,10 +68,13 @@ job w h l nb r a b s c t k = record {
 }
 
 abbrev pub eight : Rows
-eight = rowsOf 0 1 8
+eight = rowsOf 0 2 8
 
 abbrev pub four : Rows
-four = rowsOf 0 2 4
+four = rowsOf 0 4 4
+
+abbrev pub sixteen : Rows
+sixteen = rowsOf 16 1 16
 
 abbrev pub M : ℕ
 M = unreachable
@@ -131,11 +139,43 @@ floorH =
     (1 ∷ 4 ∷ 5 ∷ 4 ∷ 5 ∷ 8 ∷ 7 ∷ 8 ∷ 8 ∷ []) 5)
     1632 6 (0 ∷ 4 ∷ [])
 
+-- Request 8: "Case e with 16 costs 2236 and has total 1".
+abbrev pub floorE16 : Case
+floorE16 =
+    job 2 1 (0 ∷ 0 ∷ []) 16 sixteen 0 5
+    (sheetOf (0 ∷ 1000 ∷ 2000 ∷ 1000 ∷ 1414 ∷ 2236 ∷ []) (2236 ∷ 1414 ∷ 1000 ∷ 2000 ∷ 1000 ∷ 0 ∷ [])
+    (1 ∷ 0 ∷ 0 ∷ 0 ∷ 0 ∷ 1 ∷ []) (1 ∷ 0 ∷ 0 ∷ 0 ∷ 0 ∷ 1 ∷ []) (0 ∷ 5 ∷ 0 ∷ 0 ∷ 0 ∷ 0 ∷ [])
+    (5 ∷ 0 ∷ 0 ∷ 0 ∷ 0 ∷ 5 ∷ []) 2)
+    2236 1 (0 ∷ 1 ∷ [])
+
+abbrev pub floorA16 : Case
+floorA16 =
+    job 1 1 (0 ∷ []) 16 sixteen 0 3
+    (sheetOf (0 ∷ 1000 ∷ 1000 ∷ 1414 ∷ []) (1414 ∷ 1000 ∷ 1000 ∷ 0 ∷ []) (1 ∷ 0 ∷ 0 ∷ 1 ∷ []) (1 ∷ 0 ∷ 0 ∷ 1 ∷ [])
+    (0 ∷ 3 ∷ 0 ∷ 0 ∷ []) (3 ∷ 0 ∷ 0 ∷ 3 ∷ []) 2)
+    1414 1 (0 ∷ 1 ∷ [])
+
+-- Floor c with another neighbourhood: nothing is reached, so the sheet is the same.
+abbrev pub floorC4 : Case
+floorC4 = job 1 1 (1 ∷ []) 4 four 0 3 (floorC .sheet) 0 0 []
+
+abbrev pub floorC16 : Case
+floorC16 = job 1 1 (1 ∷ []) 16 sixteen 0 3 (floorC .sheet) 0 0 []
+
 abbrev pub routes : List Case
-routes = floorA ∷ floorB ∷ floorD ∷ floorE ∷ floorH ∷ []
+routes = floorA ∷ floorB ∷ floorD ∷ floorE ∷ floorH ∷ floorA16 ∷ floorE16 ∷ []
 
 abbrev pub noRoutes : List Case
-noRoutes = floorC ∷ floorF ∷ floorG ∷ []
+noRoutes = floorC ∷ floorF ∷ floorG ∷ floorC4 ∷ floorC16 ∷ []
+
+abbrev pub plansA : List Case
+plansA = floorA ∷ floorB ∷ floorA16 ∷ []
+
+abbrev pub plansC : List Case
+plansC = floorC ∷ floorC4 ∷ floorC16 ∷ []
+
+abbrev pub handedIn : Case → Case → Bool
+handedIn c k = costsTrue (graphOf c) (c .start) (k .sheet .d)
 
 abbrev pub entered : List Bool
 entered = true ∷ true ∷ false ∷ false ∷ true ∷ true ∷ []
@@ -161,4 +201,6 @@ pub record Worked : Type 0 where
   pub noRoutes-hold : Each NoRouteHolds noRoutes
   pub pinches-g : (v : ℕ) → v < 9 → pinch (planOf floorG) (column 2 v) (row 2 v) ≡ eqb v 4
   pub traversals-h : traversals (graphOf floorH) 0 8 4 ≡ 4
+  pub handed-a : (i j : ℕ) → i < 3 → j < 3 → handedIn (getD plansA i floorA) (getD plansA j floorA) ≡ eqb i j
+  pub handed-c : (i j : ℕ) → i < 3 → j < 3 → handedIn (getD plansC i floorC) (getD plansC j floorC) ≡ true
   pub cells-i : (i j : ℕ) → i < 3 → j < 2 → enters (segmentOf 0 0 3 2) i j ≡ getD entered (j * 3 + i) false

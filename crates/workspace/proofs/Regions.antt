@@ -25,8 +25,8 @@ use Rattle.neighbours.proofs.Shown.{Shows, mask-shows}
 use Rattle.workspace.specs.Regions.{maskAt, maskOn, MasksIn, MasksFilled, Masked}
 
 -- The masks, put into their place in a working slice of 4 * V places.
-module _ (f : Floor) (n : ℕ) (work masks : List ℕ) (count : n ≡ vertices (f .wide) (f .high))
-    (room : length work ≡ 4 * vertices (f .wide) (f .high)) (M : OpenMasks f masks) where
+module _ (f : Floor) (r : Rows) (n : ℕ) (work masks : List ℕ) (count : n ≡ vertices (f .wide) (f .high))
+    (room : length work ≡ 4 * vertices (f .wide) (f .high)) (M : OpenMasks f r masks) where
   abbrev k : ℕ
   k = 3 * n - 2 * n
 
@@ -43,20 +43,20 @@ module _ (f : Floor) (n : ℕ) (work masks : List ℕ) (count : n ≡ vertices (
       ∙ getD-append-add (take (2 * n) work) (masks ++ postOf (2 * n) k work) v 0
       ∙ List·getD-append masks (postOf (2 * n) k work) 0 v (omega (arith, M .len))
 
-  pub masks-filled : MasksFilled f work (putMid (2 * n) k work masks)
+  pub masks-filled : MasksFilled f r work (putMid (2 * n) k work masks)
   masks-filled = record {
     len = same-len-mid (2 * n) k work masks middle;
     masks = record { at = λ v i. rw (mask-there v i) (M .at v i) };
   }
 
-pub masks-kept : {f : Floor} {work work′ : List ℕ}
-    → ((i : ℕ) → vertices (f .wide) (f .high) < i → entry work′ i ≡ entry work i) → MasksIn f work → MasksIn f work′
-masks-kept {f} rest M = record {
-  at = λ v i. subst (OpenAt f v) (sym (rest (2 * vertices (f .wide) (f .high) + v) (omega arith))) (M .at v i);
+pub masks-kept : {f : Floor} {r : Rows} {work work′ : List ℕ}
+    → ((i : ℕ) → vertices (f .wide) (f .high) < i → entry work′ i ≡ entry work i) → MasksIn f r work → MasksIn f r work′
+masks-kept {f} {r} rest M = record {
+  at = λ v i. subst (OpenAt f r v) (sym (rest (2 * vertices (f .wide) (f .high) + v) (omega arith))) (M .at v i);
 }
 
 pub floor-masked : (f : Floor) (r : Rows) {s work : List ℕ} → f .wide ≤ 127 → f .high ≤ 127 → lawfulRows r ≡ true
-    → Shifts (f .wide) s → MasksIn f work → Masked (floorGraph f r) r s work
+    → Shifts (f .wide) r s → MasksIn f r work → Masked (floorGraph f r) r s work
 floor-masked f r {work = work} p q lawful S M = record {
   shows = λ u i. mask-shows sees f r lawful S p q (maskOn f work u) u i (M .at u i);
 }

@@ -10,7 +10,7 @@ use Rattle.basics.specs.Bounded.{every}
 use Rattle.floor.specs.Floor.{floorOf, number}
 use Rattle.floor.proofs.Numbers.{mul-fits, vertices-le, number-lt}
 use Rattle.moves.specs.Table.{OnFloor}
-use Rattle.masks.specs.Masks.{leavingMask}
+use Rattle.masks.specs.Masks.{Leaving}
 use Rattle.grid.specs.Leaving.{leavingGraph}
 use Rattle.neighbours.proofs.Columns.{flag-stops, flag-keeps}
 use Rattle.given_costs.specs.Tests.{columnTest}
@@ -48,7 +48,7 @@ at-number c = let a = start c .args in ap (λ z. a .y * z + c .before .loop .x) 
 mask-of : (c : tie.In-loop Inv-loop μ-loop)
     → let a = start c .args in
     let x = c .before .loop .x in
-    getD (c .before .before .leaving-row .result) x 0 ≡ leavingMask (floorOf (a .w) (a .h) (a .map .now)) x (a .y)
+    Leaving (floorOf (a .w) (a .h) (a .map .now)) (a .rows) x (a .y) (getD (c .before .before .leaving-row .result) x 0)
 mask-of c = c .before .before .leaving-row .ensures .at _ (omega (arith, on-row c .column))
 
 shifts-of-requires : tie.Need-shifts-of-requires Inv-loop μ-loop
@@ -58,7 +58,7 @@ classes-of-requires : tie.Need-classes-of-requires Inv-loop μ-loop
 classes-of-requires c κs = search needs
 
 leaving-row-requires : tie.Need-leaving-row-requires Inv-loop μ-loop
-leaving-row-requires c κs = let p = entered c .pre in (p .0 .sized, p .2, p .3)
+leaving-row-requires c κs = let p = entered c .pre in (p .0 .sized, p .2, p .0 .listed, p .3)
 
 add-first : tie.Need-add-first Inv-loop μ-loop
 add-first c = search needs

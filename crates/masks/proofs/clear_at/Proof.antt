@@ -37,17 +37,19 @@ mul-mask-2 c = let s = c .before .before in omega (arith, small s, s .pre .1 .co
 slice-read-mask : tie.Need-slice-read-mask
 slice-read-mask c =
     let s = c .before .before .before in
-    rw (place s, s .pre .2 .len) (number-lt (s .args .w) (s .args .h) (s .args .x) (s .args .y) (s .pre .1 .column) (s .pre .1 .row))
+    rw (place s, s .pre .3 .len) (number-lt (s .args .w) (s .args .h) (s .args .x) (s .args .y) (s .pre .1 .column) (s .pre .1 .row))
 
 returns : tie.Need-returns
 returns c =
     let s = c .before .before .before .before in
     let a = s .args in
-    rw add-one (past-skip (floorOf (a .w) (a .h) (a .map .now)) (a .x) (a .y) (s .pre .1 .column) (s .pre .1 .row) (s .pre .2)
+    rw add-one (past-skip (floorOf (a .w) (a .h) (a .map .now)) (a .rows) (s .pre .2) (a .x) (a .y) (s .pre .1 .column) (s .pre .1 .row) (s .pre .3)
     (rw (← place s) (ne-eqb _ 1 (c .if1 .taken))))
 
 clear-to-requires : tie.Need-clear-to-requires
-clear-to-requires c κs = search needs
+clear-to-requires c κs =
+    let s = c .before .before .before .before .before in
+    (s .pre .1, s .pre .2, s .pre .3 .len)
 
 same-length : tie.Need-same-length
 same-length c = search needs
@@ -57,7 +59,7 @@ returns-2 c =
     let b = c .before .before in
     let s = b .before .before .before .before .before .before in
     let a = s .args in
-    rw add-one (past-hit (floorOf (a .w) (a .h) (a .map .now)) (a .x) (a .y) (s .pre .1 .column) (s .pre .1 .row) (s .pre .2)
+    rw add-one (past-hit (floorOf (a .w) (a .h) (a .map .now)) (a .rows) (s .pre .2) (a .x) (a .y) (s .pre .1 .column) (s .pre .1 .row) (s .pre .3)
     (rw (← place s) (eq-eqb _ 1 (b .before .before .if1 .left))) (b .clear-to .ensures))
 
 pub clear-at-spec : {M : Type 1} → statement M

@@ -7,37 +7,27 @@ use lib.ListN.{length}
 use native.Mathlib.Omega.{arith}
 use Rattle.floor.proofs.Numbers.{vertices-le}
 use Rattle.moves.specs.declared.Move.{Move}
-use Rattle.moves.specs.Moves.{rowMove, moveAt}
+use Rattle.moves.specs.Moves.{rowAt}
 use Rattle.moves.specs.Steps.{farEndAt, stepOf}
-use Rattle.moves.specs.Table.{Short, lawfulRows}
+use Rattle.moves.specs.Table.{Short}
 use Rattle.moves.proofs.Signs.{back}
-use Rattle.moves.proofs.Table.{whole-lawful, table-short}
+use Rattle.moves.proofs.Table.{lawful-move, listed-lawful}
 use Rattle.masks.specs.Masks.{rowEndAt}
-use Rattle.masks.proofs.Clearing.{whole-row, end-off, end-to, offsets-end, end-inside, row-off, row-cleared}
+use Rattle.masks.proofs.Clearing.{end-off, end-to, offsets-end, end-inside, move-off, move-cleared}
 use borrow.Author.Needs.{needs}
 use Rattle.masks.proofs.clear_back.Statement.{statement}
 use Rattle.masks.proofs.clear_back.Tie as tie
 
 abbrev start : tie.After-move-at → tie.Start
-start c = c .before .before .before
-
-row-is : (c : tie.After-move-at) → c .move-at .result ≡ rowMove (start c .args .k)
-row-is c =
-    c .move-at .ensures ∙ ap (λ r. moveAt r (start c .args .k)) (c .before .all-rows .ensures)
-    ∙ whole-row (start c .args .k)
+start c = c .before .before
 
 short : (c : tie.After-move-at) → Short (c .move-at .result)
-short c = rw (row-is c) (table-short (start c .args .k) (start c .pre .1))
-
-all-rows-requires : tie.Need-all-rows-requires
-all-rows-requires c κs = search needs
+short c =
+    let s = start c in
+    rw (c .move-at .ensures) (lawful-move (s .args .rows) (s .args .m) (listed-lawful (s .pre .1)) (s .pre .2) .is-short)
 
 move-at-requires : tie.Need-move-at-requires
-move-at-requires c κs =
-    let e = c .all-rows .ensures in (
-      ap lawfulRows e ∙ whole-lawful,
-      rw e (c .before .before .pre .1),
-    )
+move-at-requires c κs = let s = c .before in (listed-lawful (s .pre .1), s .pre .2)
 
 step-from-requires : tie.Need-step-from-requires
 step-from-requires c κs =
@@ -46,17 +36,18 @@ step-from-requires c κs =
     rw (back (m .move-at .result .dx) (s .columns), back (m .move-at .result .dy) (s .rows))
     (start m .pre .0, record { columns = s .columns; rows = s .rows })
 
--- Where the row leads.
+-- Where the move leads.
 far : (c : tie.After-step-from)
     → let s = start (c .before .before .before) in
-    c .step-from .result ≡ stepOf (rowEndAt (s .args .w) (s .args .h) (s .args .x) (s .args .y) (s .args .k))
+    c .step-from .result
+    ≡ stepOf (rowEndAt (s .args .w) (s .args .h) (s .args .x) (s .args .y) (rowAt (s .args .rows) (s .args .m)))
 far c =
     let m = c .before .before .before in
     let s = short m in
     let a = start m .args in
     rw (back (m .move-at .result .dx) (s .columns), back (m .move-at .result .dy) (s .rows)) at (c .step-from .ensures)
     ∙ ap stepOf (offsets-end (a .w) (a .h) (a .x) (a .y) (m .move-at .result)
-    ∙ ap (λ (m : Move). farEndAt (a .w) (a .h) m (a .x) (a .y)) (row-is m))
+    ∙ ap (λ (m : Move). farEndAt (a .w) (a .h) m (a .x) (a .y)) (m .move-at .ensures))
 
 enum-known-u : tie.Need-enum-known-u
 enum-known-u c = search needs
@@ -65,12 +56,12 @@ enum-told : tie.Need-enum-told
 enum-told c = search needs
 
 returns : tie.Need-returns
-returns c = let u = c .before .before in row-off (end-off _ (sym (far u) ∙ c .enum-told .given .1))
+returns c = let u = c .before .before in move-off (end-off _ (sym (far u) ∙ c .enum-told .given .1))
 
 -- It leads to a vertex of the floor.
 found : (c : tie.After-u)
     → let a = start (c .before .before .before .before .before) .args in
-    rowEndAt (a .w) (a .h) (a .x) (a .y) (a .k) ≡ some (c .u .given .0 .0 .0)
+    rowEndAt (a .w) (a .h) (a .x) (a .y) (rowAt (a .rows) (a .m)) ≡ some (c .u .given .0 .0 .0)
 found c = end-to _ (c .u .given .0 .0) (sym (far (c .before .before)) ∙ c .u .given .1)
 
 below : (c : tie.After-u)
@@ -79,7 +70,7 @@ below : (c : tie.After-u)
 below c =
     let s = start (c .before .before .before .before .before) in
     let a = s .args in
-    rw (s .pre .2) (end-inside (a .w) (a .h) (a .x) (a .y) (a .k) _ (found c))
+    rw (s .pre .3) (end-inside (a .w) (a .h) (a .x) (a .y) (rowAt (a .rows) (a .m)) _ (found c))
 
 mul-without : tie.Need-mul-without
 mul-without c = omega (arith, below (c .before))
@@ -105,13 +96,12 @@ same-length c = search needs
 returns-2 : tie.Need-returns-2
 returns-2 c =
     let u = c .before .before .before .before in
-    row-cleared (found u) (below u) (rw (c .before .turned-row .ensures .0) at (c .without .ensures))
+    move-cleared (found u) (below u) (rw (c .before .turned-row .ensures .0) at (c .without .ensures))
 
 pub clear-back-spec : {M : Type 1} → statement M
 clear-back-spec =
     tie.close
     (tie.spec
-    all-rows-requires
     move-at-requires
     step-from-requires
     enum-known-u

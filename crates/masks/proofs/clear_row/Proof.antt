@@ -9,10 +9,10 @@ use Rattle.masks.proofs.clear_row.Statement.{statement}
 use Rattle.masks.proofs.clear_row.Tie as tie
 
 abbrev Inv-loop : tie.InvT-loop
-Inv-loop w h map y masks₀ x₀ x-end masks x = Cleared (floorOf w h map) (number w x y) masks × (x ≤ w + 1)
+Inv-loop w h map rows y masks₀ x₀ x-end masks x = Cleared (floorOf w h map) rows (number w x y) masks × (x ≤ w + 1)
 
 abbrev μ-loop : tie.MeasureT-loop
-μ-loop w h map y masks₀ x₀ x-end masks x = x-end - x
+μ-loop w h map rows y masks₀ x₀ x-end masks x = x-end - x
 
 abbrev start : tie.At-loop Inv-loop μ-loop → tie.Start Inv-loop μ-loop
 start l = l .before .before .before
@@ -21,7 +21,7 @@ add-x-end : tie.Need-add-x-end Inv-loop μ-loop
 add-x-end c = omega (arith, c .before .before .pre .0 .wide)
 
 loop-holds : tie.Need-loop-holds Inv-loop μ-loop
-loop-holds c = (c .before .before .pre .2, omega arith)
+loop-holds c = (c .before .before .pre .3, omega arith)
 
 clear-at-requires : tie.Need-clear-at-requires Inv-loop μ-loop
 clear-at-requires c κs =
@@ -29,6 +29,7 @@ clear-at-requires c κs =
     let p = start l .pre in (
       p .0,
       record { wide = p .0 .wide; high = p .0 .high; column = omega arith; row = p .1 },
+      p .2,
       l .loop .inv .0,
     )
 
@@ -42,7 +43,7 @@ loop-again : tie.Need-loop-again Inv-loop μ-loop
 loop-again c = (c .before .before .clear-at .ensures, omega arith)
 
 same-length : tie.Need-same-length Inv-loop μ-loop
-same-length c = let l = c .before in l .loop .inv .0 .len ∙ sym (start l .pre .2 .len)
+same-length c = let l = c .before in l .loop .inv .0 .len ∙ sym (start l .pre .3 .len)
 
 returns : tie.Need-returns Inv-loop μ-loop
 returns c =

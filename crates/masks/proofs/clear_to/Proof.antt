@@ -1,4 +1,4 @@
--- `masks::clear_to` meets its contract: the rows before k are cleared. Assumes nothing.
+-- `masks::clear_to` meets its contract: the moves before m are cleared. Assumes nothing.
 use Prim.Native.Nat.{_-_, _≤_}
 use mathlib.Core.Path.{_≡_, _∙_}
 use native.Mathlib.Omega.{arith}
@@ -9,10 +9,10 @@ use Rattle.masks.proofs.clear_to.Statement.{statement}
 use Rattle.masks.proofs.clear_to.Tie as tie
 
 abbrev Inv-loop : tie.InvT-loop
-Inv-loop w h x y masks₀ k₀ masks k = ClearsTo w h x y k masks₀ masks × (k ≤ 8)
+Inv-loop w h rows x y masks₀ m₀ m-end masks m = ClearsTo w h rows x y m masks₀ masks × (m ≤ rows .count)
 
 abbrev μ-loop : tie.MeasureT-loop
-μ-loop w h x y masks₀ k₀ masks k = 8 - k
+μ-loop w h rows x y masks₀ m₀ m-end masks m = m-end - m
 
 loop-holds : tie.Need-loop-holds Inv-loop μ-loop
 loop-holds c = (clears-none, omega arith)
@@ -21,10 +21,10 @@ clear-back-requires : tie.Need-clear-back-requires Inv-loop μ-loop
 clear-back-requires c κs =
     let l = c .before .before in
     let p = l .before .before .pre in
-    (p .0, omega arith, l .loop .inv .0 .len ∙ p .1)
+    (p .0, p .1, omega arith, l .loop .inv .0 .len ∙ p .2)
 
-add-k : tie.Need-add-k Inv-loop μ-loop
-add-k c = omega arith
+add-m : tie.Need-add-m Inv-loop μ-loop
+add-m c = omega arith
 
 loop-less : tie.Need-loop-less Inv-loop μ-loop
 loop-less c = omega arith
@@ -41,7 +41,7 @@ same-length c = c .before .loop .inv .0 .len
 returns : tie.Need-returns Inv-loop μ-loop
 returns c =
     let l = c .before in
-    let e : l .loop .k ≡ 8 = omega (arith, l .loop .inv .1) in
+    let e : l .loop .m ≡ l .before .before .args .rows .count = omega (arith, l .loop .inv .1) in
     rw e at (l .loop .inv .0)
 
 pub clear-to-spec : {M : Type 1} → statement M
@@ -52,7 +52,7 @@ clear-to-spec =
     μ-loop
     loop-holds
     clear-back-requires
-    add-k
+    add-m
     loop-less
     loop-again
     same-length

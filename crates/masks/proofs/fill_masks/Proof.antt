@@ -12,16 +12,16 @@ use Rattle.masks.proofs.fill_masks.Statement.{statement}
 use Rattle.masks.proofs.fill_masks.Tie as tie
 
 abbrev Inv-loop : tie.InvT-loop
-Inv-loop w h map masks₀ windows y₀ y-end masks y = LeavingTo (floorOf w h map) (number w 0 y) masks × (y ≤ h + 1)
+Inv-loop w h map rows masks₀ windows y₀ y-end masks y = LeavingTo (floorOf w h map) rows (number w 0 y) masks × (y ≤ h + 1)
 
 abbrev μ-loop : tie.MeasureT-loop
-μ-loop w h map masks₀ windows y₀ y-end masks y = y-end - y
+μ-loop w h map rows masks₀ windows y₀ y-end masks y = y-end - y
 
 abbrev Inv-loop2 : tie.InvT-loop2
-Inv-loop2 w h map masks₀ y₀ y-end masks y = Cleared (floorOf w h map) (number w 0 y) masks × (y ≤ h + 1)
+Inv-loop2 w h map rows masks₀ y₀ y-end masks y = Cleared (floorOf w h map) rows (number w 0 y) masks × (y ≤ h + 1)
 
 abbrev μ-loop2 : tie.MeasureT-loop2
-μ-loop2 w h map masks₀ y₀ y-end masks y = y-end - y
+μ-loop2 w h map rows masks₀ y₀ y-end masks y = y-end - y
 
 abbrev start : tie.At-loop Inv-loop μ-loop Inv-loop2 μ-loop2 → tie.Start Inv-loop μ-loop Inv-loop2 μ-loop2
 start l = l .before .before .before .before
@@ -39,12 +39,12 @@ loop-holds : tie.Need-loop-holds Inv-loop μ-loop Inv-loop2 μ-loop2
 loop-holds c =
     let s = c .before .before .before in
     let e : number (s .args .w) 0 0 ≡ 0 = omega arith in
-    (rw e (leaving-none (s .pre .1)), omega arith)
+    (rw e (leaving-none (s .pre .2)), omega arith)
 
 fill-row-requires : tie.Need-fill-row-requires Inv-loop μ-loop Inv-loop2 μ-loop2
 fill-row-requires c κs =
     let l = c .before .before in
-    (start l .pre .0, omega arith, l .before .window-masks .ensures, l .loop .inv .0)
+    (start l .pre .0, omega arith, start l .pre .1, l .before .window-masks .ensures, l .loop .inv .0)
 
 add-y : tie.Need-add-y Inv-loop μ-loop Inv-loop2 μ-loop2
 add-y c = let l = c .before .before .before .before .before in omega (arith, start l .pre .0 .high)
@@ -65,12 +65,12 @@ loop2-holds c =
     let zero : number (a .w) 0 0 ≡ 0 = omega arith in
     let end : l .loop .y ≡ suc (a .h) = omega (arith, l .loop .inv .1) in
     let all = leaving-fewer {m = vertices (a .w) (a .h)} (l .loop .inv .0) (omega (arith, ap (λ z. z * suc (a .w)) end)) in
-    (rw zero (cleared-none (floorOf (a .w) (a .h) (a .map .now)) all), omega arith)
+    (rw zero (cleared-none (floorOf (a .w) (a .h) (a .map .now)) (a .rows) (start l .pre .1) all), omega arith)
 
 clear-row-requires : tie.Need-clear-row-requires Inv-loop μ-loop Inv-loop2 μ-loop2
 clear-row-requires c κs =
     let l = c .before .before in
-    (start-2 l .pre .0, omega arith, l .loop2 .inv .0)
+    (start-2 l .pre .0, omega arith, start-2 l .pre .1, l .loop2 .inv .0)
 
 add-y-2 : tie.Need-add-y-2 Inv-loop μ-loop Inv-loop2 μ-loop2
 add-y-2 c = let l = c .before .before .before .before .before in omega (arith, start-2 l .pre .0 .high)
@@ -82,14 +82,14 @@ loop2-again : tie.Need-loop2-again Inv-loop μ-loop Inv-loop2 μ-loop2
 loop2-again c = (c .before .before .clear-row .ensures, omega arith)
 
 same-length : tie.Need-same-length Inv-loop μ-loop Inv-loop2 μ-loop2
-same-length c = let l = c .before in l .loop2 .inv .0 .len ∙ sym (start-2 l .pre .1)
+same-length c = let l = c .before in l .loop2 .inv .0 .len ∙ sym (start-2 l .pre .2)
 
 returns : tie.Need-returns Inv-loop μ-loop Inv-loop2 μ-loop2
 returns c =
     let l = c .before in
     let a = start-2 l .args in
     let end : l .loop2 .y ≡ suc (a .h) = omega (arith, l .loop2 .inv .1) in
-    cleared-all (floorOf (a .w) (a .h) (a .map .now)) (omega (arith, ap (λ z. z * suc (a .w)) end)) (l .loop2 .inv .0)
+    cleared-all (floorOf (a .w) (a .h) (a .map .now)) (a .rows) (start-2 l .pre .1) (omega (arith, ap (λ z. z * suc (a .w)) end)) (l .loop2 .inv .0)
 
 pub fill-masks-spec : {M : Type 1} → statement M
 fill-masks-spec =

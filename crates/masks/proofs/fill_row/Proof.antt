@@ -1,19 +1,23 @@
--- `masks::fill_row` meets its contract: the masks of the vertices before column x of the row are stored. Assumes nothing.
+-- `masks::fill_row` meets its contract: the masks of the vertices before column x of the row are stored, of whatever rows
+-- they are. Assumes nothing.
 use Prim.Native.Nat.{suc, _+_, _-_, _*_, _≤_, _<_}
 use mathlib.Core.Path.{_≡_, sym, ap, _∙_}
 use native.Mathlib.Omega.{arith}
+use lib.ListN.{length, length-set, getD}
 use native.Mathlib.Nat.{mul-le-mul}
 use native.Mathlib.Numerals.{add-one}
 use Rattle.floor.specs.Floor.{floorOf, vertices, number}
 use Rattle.floor.proofs.Numbers.{number-lt, vertices-le}
-use Rattle.masks.specs.Masks.{LeavingTo}
+use Rattle.moves.specs.declared.Rows.{Rows}
+use Rattle.masks.specs.Masks.{LeavingRow, LeavingTo}
 use Rattle.masks.proofs.Masks.{leaving-more, leaving-fewer}
 use Rattle.masks.proofs.fill_row.Statement.{statement}
 use Rattle.masks.proofs.fill_row.Tie as tie
 
 abbrev Inv-loop : tie.InvT-loop
 Inv-loop w h map y masks₀ leaving first x₀ x-end masks x =
-    LeavingTo (floorOf w h map) (number w x y) masks × (x ≤ w + 1)
+    ((r : Rows) → LeavingTo (floorOf w h map) r (number w 0 y) masks₀ → LeavingRow (floorOf w h map) r y (suc w) leaving
+    → LeavingTo (floorOf w h map) r (number w x y) masks) × (length masks ≡ vertices w h) × (x ≤ w + 1)
 
 abbrev μ-loop : tie.MeasureT-loop
 μ-loop w h map y masks₀ leaving first x₀ x-end masks x = x-end - x
@@ -22,7 +26,7 @@ abbrev start : tie.At-loop Inv-loop μ-loop → tie.Start Inv-loop μ-loop
 start l = l .before .before .before .before
 
 leaving-row-requires : tie.Need-leaving-row-requires Inv-loop μ-loop
-leaving-row-requires c κs = let p = c .before .before .pre in (p .0, p .1, p .2)
+leaving-row-requires c κs = let p = c .before .before .pre in (p .0, p .1, p .2, p .3)
 
 -- The row's first vertex has a small number.
 small : (s : tie.Start Inv-loop μ-loop) → s .args .y * (s .args .w + 1) ≤ 127 * 128
@@ -40,7 +44,7 @@ add-x-end : tie.Need-add-x-end Inv-loop μ-loop
 add-x-end c = omega (arith, c .before .before .before .pre .0 .wide)
 
 loop-holds : tie.Need-loop-holds Inv-loop μ-loop
-loop-holds c = (c .before .before .before .pre .3, omega arith)
+loop-holds c = (λ r L R. L, c .before .before .before .pre .4 .len, omega arith)
 
 mul-masks : tie.Need-mul-masks Inv-loop μ-loop
 mul-masks c = omega (arith, start (c .before) .pre .0 .wide)
@@ -68,7 +72,7 @@ mul-masks-2 : tie.Need-mul-masks-2 Inv-loop μ-loop
 mul-masks-2 c = let s = start (c .before) in omega (arith, s .pre .0 .wide, small s)
 
 slice-write-masks : tie.Need-slice-write-masks Inv-loop μ-loop
-slice-write-masks c = let l = c .before in rw (l .loop .inv .0 .len) (inside l (omega arith))
+slice-write-masks c = let l = c .before in rw (l .loop .inv .1) (inside l (omega arith))
 
 add-x : tie.Need-add-x Inv-loop μ-loop
 add-x c = omega (arith, start (c .before) .pre .0 .wide)
@@ -79,14 +83,18 @@ loop-less c = omega arith
 loop-again : tie.Need-loop-again Inv-loop μ-loop
 loop-again c =
     let l = c .before in
-    let s = start l in (
-      rw add-one (leaving-more (l .loop .x) (s .args .y) (l .loop .inv .0) (omega arith) (place l) (inside l (omega arith))
-          (l .before .leaving-row .ensures .at (l .loop .x) (omega arith))),
+    let s = start l in
+    let x = l .loop .x in
+    let at = s .args .y * (s .args .w + 1) + x in (
+      λ r L R.
+          rw add-one (leaving-more x (s .args .y) (l .loop .inv .0 r L R) (omega arith) (place l) (inside l (omega arith))
+          (R .at x (omega arith))),
+      length-set (l .loop .masks) at (getD (l .before .leaving-row .result) x 0) ∙ l .loop .inv .1,
       omega arith,
     )
 
 same-length : tie.Need-same-length Inv-loop μ-loop
-same-length c = let l = c .before in l .loop .inv .0 .len ∙ sym (start l .pre .3 .len)
+same-length c = let l = c .before in l .loop .inv .1 ∙ sym (start l .pre .4 .len)
 
 returns : tie.Need-returns Inv-loop μ-loop
 returns c =
@@ -94,7 +102,7 @@ returns c =
     let a = start l .args in
     let next : number (a .w) (a .w + 1) (a .y) ≡ number (a .w) 0 (a .y + 1) =
     sym (ap (λ z. z * suc (a .w) + 0) (add-one (a .y)) ∙ omega arith) in
-    leaving-fewer (l .loop .inv .0) (omega (arith, next))
+    leaving-fewer (l .loop .inv .0 (a .rows) (start l .pre .4) (l .before .leaving-row .ensures)) (omega (arith, next))
 
 pub fill-row-spec : {M : Type 1} → statement M
 fill-row-spec =

@@ -1,17 +1,16 @@
 -- `neighbours::costs_right` meets its contract, cost by cost. Assumes nothing.
+use Prim.Native.Nat.{ℕ}
 use mathlib.Core.Path.{_≡_, sym, _∙_}
+use mathlib.Core.Logic.{⊎-elim}
+use mathlib.Core.List.{List}
 use native.Mathlib.Omega.{arith}
 use borrow.Author.Tests.{not-true, not-false}
 use borrow.Author.Needs.{needs}
 use Rattle.paths.specs.Local.{entry}
-use Rattle.neighbours.specs.Least.{rightNear}
-use Rattle.neighbours.proofs.Least.{right-found}
+use Rattle.neighbours.specs.Least.{leastFirst, leastAt, rightNear}
+use Rattle.neighbours.proofs.Least.{lesser-found, by-two, by-four, right-found}
 use Rattle.neighbours.proofs.costs_right.Statement.{statement}
 use Rattle.neighbours.proofs.costs_right.Tie as tie
-
--- where the code has the least of every class, and where it began
-abbrev start : tie.After-least-by4 → tie.Start
-start c = c .before .before .before .before .before .before .before .before .before .before .before
 
 array-copy-out-least-by : tie.Need-array-copy-out-least-by
 array-copy-out-least-by c = search needs
@@ -44,6 +43,95 @@ least-by-requires-4 c κs =
 lesser-requires : tie.Need-lesser-requires
 lesser-requires c κs = search needs
 
+lesser-requires-2 : tie.Need-lesser-requires-2
+lesser-requires-2 c κs = search needs
+
+element-copy-out-if1 : tie.Need-element-copy-out-if1
+element-copy-out-if1 c = search needs
+
+-- where the code has the least of the first two classes for both costs, and where it began
+abbrev start : tie.After-lesser2 → tie.Start
+start c = c .before .before .before .before .before .before .before .before .before .before .before .before .before
+
+-- the last two classes
+array-copy-out-least-by-5 : tie.Need-array-copy-out-least-by-5
+array-copy-out-least-by-5 c = search needs
+
+least-by-requires-5 : tie.Need-least-by-requires-5
+least-by-requires-5 c κs = start (c .before .before) .pre .0 .class 2 (omega arith)
+
+array-copy-out-least-by-6 : tie.Need-array-copy-out-least-by-6
+array-copy-out-least-by-6 c = search needs
+
+least-by-requires-6 : tie.Need-least-by-requires-6
+least-by-requires-6 c κs =
+    let p = start (c .before .before .before .before) .pre in rw (p .1) (p .0 .class 2 (omega arith))
+
+array-copy-out-least-by-7 : tie.Need-array-copy-out-least-by-7
+array-copy-out-least-by-7 c = search needs
+
+least-by-requires-7 : tie.Need-least-by-requires-7
+least-by-requires-7 c κs = start (c .before .before .before .before .before .before) .pre .0 .class 3 (omega arith)
+
+array-copy-out-least-by-8 : tie.Need-array-copy-out-least-by-8
+array-copy-out-least-by-8 c = search needs
+
+least-by-requires-8 : tie.Need-least-by-requires-8
+least-by-requires-8 c κs =
+    let p = start (c .before .before .before .before .before .before .before .before) .pre in
+    rw (p .1) (p .0 .class 3 (omega arith))
+
+lesser-requires-3 : tie.Need-lesser-requires-3
+lesser-requires-3 c κs = search needs
+
+lesser-requires-4 : tie.Need-lesser-requires-4
+lesser-requires-4 c κs = search needs
+
+lesser-requires-5 : tie.Need-lesser-requires-5
+lesser-requires-5 c κs = search needs
+
+lesser-requires-6 : tie.Need-lesser-requires-6
+lesser-requires-6 c κs = search needs
+
+-- the least by the first two classes, and by all, of the costs l
+abbrev first : tie.After-lesser2 → List ℕ → ℕ
+first c l = let a = start c .args in leastFirst (a .shifts .now) (a .t2) (a .mask) (entry l) (a .v)
+
+abbrev least : tie.After-lesser2 → List ℕ → ℕ
+least c l = let a = start c .args in leastAt (a .shifts .now) (a .t2) (a .mask) (entry l) (a .v)
+
+d-first : (c : tie.After-lesser2) → c .before .lesser .result ≡ first c (start c .args .d .now)
+d-first c =
+    let z = c .before .before .before .before in
+    lesser-found (z .before .before .before .before .least-by .ensures) (z .least-by3 .ensures)
+    (c .before .lesser .ensures)
+
+e-first : (c : tie.After-lesser2) → c .lesser2 .result ≡ first c (start c .args .e .now)
+e-first c =
+    let u = c .before .before in
+    lesser-found (u .before .before .before .before .least-by2 .ensures) (u .least-by4 .ensures) (c .lesser2 .ensures)
+
+-- the least of all, where the ways meet
+d-least : (c : tie.Joined1) → c .if1 .d-least ≡ least (c .before) (start (c .before) .args .d .now)
+d-least c =
+    let o = c .before in
+    let a = start o .args in
+    ⊎-elim
+    (λ w. w .13 ∙ by-four (a .shifts .now) (a .t2) (a .mask) (entry (a .d .now)) (a .v) (w .0 .taken) (d-first o)
+    (lesser-found (w .2 .ensures) (w .6 .ensures) (w .9 .ensures)) (w .10 .ensures))
+    (λ w. w .1 ∙ by-two (a .shifts .now) (a .t2) (a .mask) (entry (a .d .now)) (a .v) (w .0 .left) (d-first o))
+    (c .if1 .came)
+
+e-least : (c : tie.Joined1) → c .if1 .e-least ≡ least (c .before) (start (c .before) .args .e .now)
+e-least c =
+    let o = c .before in
+    let a = start o .args in
+    ⊎-elim
+    (λ w. w .14 ∙ by-four (a .shifts .now) (a .t2) (a .mask) (entry (a .e .now)) (a .v) (w .0 .taken) (e-first o)
+    (lesser-found (w .4 .ensures) (w .8 .ensures) (w .11 .ensures)) (w .12 .ensures))
+    (λ w. w .2 ∙ by-two (a .shifts .now) (a .t2) (a .mask) (entry (a .e .now)) (a .v) (w .0 .left) (e-first o))
+    (c .if1 .came)
+
 right-by-requires : tie.Need-right-by-requires
 right-by-requires c κs = search needs
 
@@ -51,33 +139,19 @@ right-by-requires c κs = search needs
 d-right : (c : tie.After-right-by)
     → let a = start (c .before .before) .args in
     c .right-by .result ≡ rightNear (a .shifts .now) (a .t2) (a .mask) (a .a) (entry (a .d .now)) (a .v)
-d-right c =
-    let o = c .before in
-    let z = o .before .before .before in
-    let x = z .before .before .before .before in
-    let a = start (o .before) .args in
-    right-found (a .a) (a .v) (entry (a .d .now)) (x .least-by .ensures) (z .least-by3 .ensures) (o .lesser .ensures)
-    (c .right-by .ensures)
+d-right c = right-found _ _ _ (d-least (c .before)) (c .right-by .ensures)
 
 returns : tie.Need-returns
-returns c = rw (sym (d-right (c .before)) ∙ not-true _ (c .if1 .taken))
-
-lesser-requires-2 : tie.Need-lesser-requires-2
-lesser-requires-2 c κs = search needs
+returns c = rw (sym (d-right (c .before)) ∙ not-true _ (c .if2 .taken))
 
 right-by-requires-2 : tie.Need-right-by-requires-2
 right-by-requires-2 c κs = search needs
 
 returns-2 : tie.Need-returns-2
 returns-2 c =
-    let o = c .before in
-    let i = o .before in
-    let u = i .before .before .before in
-    let y = u .before .before .before .before in
-    let a = start u .args in
-    rw (sym (d-right (i .before)) ∙ not-false _ (i .if1 .left))
-    (right-found (a .b) (a .v) (entry (a .e .now)) (y .least-by2 .ensures) (u .least-by4 .ensures)
-    (o .lesser2 .ensures) (c .right-by2 .ensures))
+    let i = c .before in
+    rw (sym (d-right (i .before)) ∙ not-false _ (i .if2 .left))
+    (right-found _ _ _ (e-least (i .before .before)) (c .right-by2 .ensures))
 
 pub costs-right-spec : {M : Type 1} → statement M
 costs-right-spec =
@@ -92,8 +166,21 @@ costs-right-spec =
     array-copy-out-least-by-4
     least-by-requires-4
     lesser-requires
+    lesser-requires-2
+    element-copy-out-if1
+    array-copy-out-least-by-5
+    least-by-requires-5
+    array-copy-out-least-by-6
+    least-by-requires-6
+    array-copy-out-least-by-7
+    least-by-requires-7
+    array-copy-out-least-by-8
+    least-by-requires-8
+    lesser-requires-3
+    lesser-requires-4
+    lesser-requires-5
+    lesser-requires-6
     right-by-requires
     returns
-    lesser-requires-2
     right-by-requires-2
     returns-2)

@@ -46,7 +46,7 @@ unfolding leastOf
 loop-holds c = (refl, omega arith)
 
 class-row-requires : tie.Need-class-row-requires Inv-loop μ-loop
-class-row-requires c κs = (omega (arith, lent c .movable .row), omega arith)
+class-row-requires c κs = lent c .movable .row
 
 end-or-self-requires : tie.Need-end-or-self-requires Inv-loop μ-loop
 end-or-self-requires c κs = let k = lent (c .before) in rw (c .class-row .ensures) (k .listed, k .movable)

@@ -5,7 +5,6 @@ use borrow.Author.Needs.{needs}
 use borrow.Author.Tests.{lt-ltb, le-ltb}
 use native.Mathlib.Omega.{arith}
 use Prim.Native.Nat.{_/_}
-use Rattle.moves.specs.declared.Move.{Move}
 use Rattle.offsets.specs.Classes.{classOf}
 use Rattle.offsets.proofs.class_of.Statement.{statement}
 use Rattle.offsets.proofs.class_of.Tie as tie
@@ -13,8 +12,8 @@ use Rattle.offsets.proofs.class_of.Tie as tie
 row-at-requires : tie.Need-row-at-requires
 row-at-requires c κs = search needs
 
-move-at-requires : tie.Need-move-at-requires
-move-at-requires c κs = search needs
+cost-at-requires : tie.Need-cost-at-requires
+cost-at-requires c κs = search needs
 
 returns : tie.Need-returns
 returns c =
@@ -22,7 +21,7 @@ returns c =
     let t = r .before in
     let a = t .before .before .args in
     let in-first = lt-ltb (a .m) (a .rows .count / 4) (t .if1 .taken) in
-    ap₂ (λ n (m : Move). classOf n (m .cost)) (r .row-at .ensures .0) (c .move-at .ensures) ∙ rw in-first
+    ap₂ classOf (r .row-at .ensures .0) (c .cost-at .ensures) ∙ rw in-first
 
 returns-2 : tie.Need-returns-2
 returns-2 c =
@@ -31,4 +30,4 @@ returns-2 c =
     rw past
 
 pub class-of-spec : {M : Type 1} → statement M
-class-of-spec = tie.close (tie.spec row-at-requires move-at-requires returns returns-2)
+class-of-spec = tie.close (tie.spec row-at-requires cost-at-requires returns returns-2)

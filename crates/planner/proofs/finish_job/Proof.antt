@@ -42,7 +42,7 @@ same-length-5 c = finished c .finish-over-masks .kept .1 .1 .1 .1 .1 .1 .1 .1 .1
 same-length-6 : tie.Need-same-length-6
 same-length-6 c =
     finished c .finish-over-masks .kept .1 .1 .1 .1 .1 .1 .1 .1 .1 .1 .1 .1 .0
-    ∙ masked (finished c .before) .store-masks .kept .1 .1 .1 .0
+    ∙ masked (finished c .before) .store-masks .kept .1 .1 .1 .1 .0
 
 returns : tie.Need-returns
 returns c = search needs

@@ -11,7 +11,7 @@ use Rattle.basics.specs.Bounded.{every}
 use Rattle.floor.specs.Floor.{floorOf, number}
 use Rattle.floor.proofs.Numbers.{mul-fits, vertices-le, number-lt}
 use Rattle.moves.specs.Table.{OnFloor}
-use Rattle.masks.specs.Masks.{leavingMask}
+use Rattle.masks.specs.Masks.{Leaving}
 use Rattle.paths.specs.Distance.{unreachable}
 use Rattle.paths.specs.Local.{entry}
 use Rattle.grid.specs.Grid.{floorGraph}
@@ -116,7 +116,7 @@ shifts-of-requires c κs = search needs
 leaving-row-requires : tie.Need-leaving-row-requires Inv-loop μ-loop
 leaving-row-requires c κs =
     let s = c .before .before .before .before .before .before .before .before .before in
-    (s .pre .0 .posed .job .sized, s .pre .1, s .pre .2)
+    (s .pre .0 .posed .job .sized, s .pre .1, s .pre .0 .posed .job .listed, s .pre .2)
 
 add-x-end : tie.Need-add-x-end Inv-loop μ-loop
 add-x-end c = search needs
@@ -137,8 +137,8 @@ array-read-next-right c = let o = on-row (c .before) in omega (arith, o .wide, o
 -- The mask that the code reads.
 mask-is : (c : tie.In-loop Inv-loop μ-loop)
     → let a = start c .args in
-    getD (c .before .before .leaving-row .result) (c .before .loop .x) 0
-    ≡ leavingMask (floorOf (a .w) (a .h) (a .map .now)) (c .before .loop .x) (a .y)
+    Leaving (floorOf (a .w) (a .h) (a .map .now)) (a .rows) (c .before .loop .x) (a .y)
+    (getD (c .before .before .leaving-row .result) (c .before .loop .x) 0)
 mask-is c = c .before .before .leaving-row .ensures .at (c .before .loop .x) (omega arith)
 
 add-next-right : tie.Need-add-next-right Inv-loop μ-loop

@@ -10,7 +10,7 @@ use Rattle.basics.specs.Bounded.{every}
 use Rattle.floor.specs.Floor.{floorOf, number}
 use Rattle.floor.proofs.Numbers.{mul-fits, vertices-le, number-lt}
 use Rattle.moves.specs.Table.{OnFloor}
-use Rattle.masks.specs.Masks.{leavingMask}
+use Rattle.masks.specs.Masks.{Leaving}
 use Rattle.paths.specs.Sheet.{sheetOf}
 use Rattle.grid.specs.Leaving.{leavingGraph}
 use Rattle.checker.specs.Tests.{columnTest}
@@ -55,7 +55,7 @@ classes-of-requires c κs = search needs
 leaving-row-requires : tie.Need-leaving-row-requires Inv-loop μ-loop
 leaving-row-requires c κs =
     let s = c .before .before .before .before .before .before .before .before .before in
-    (s .pre .0 .job .sized, s .pre .1, s .pre .2)
+    (s .pre .0 .job .sized, s .pre .1, s .pre .0 .job .listed, s .pre .2)
 
 add-first : tie.Need-add-first Inv-loop μ-loop
 add-first c = search needs
@@ -86,8 +86,8 @@ array-read-vertex-right c = let o = on-row (c .before) in omega (arith, o .wide,
 -- The mask that the code reads.
 mask-is : (c : tie.In-loop Inv-loop μ-loop)
     → let a = start c .args in
-    getD (c .before .before .leaving-row .result) (c .before .loop .x) 0
-    ≡ leavingMask (floorOf (a .w) (a .h) (a .map .now)) (c .before .loop .x) (a .y)
+    Leaving (floorOf (a .w) (a .h) (a .map .now)) (a .rows) (c .before .loop .x) (a .y)
+    (getD (c .before .before .leaving-row .result) (c .before .loop .x) 0)
 mask-is c = c .before .before .leaving-row .ensures .at (c .before .loop .x) (omega arith)
 
 add-vertex-right : tie.Need-add-vertex-right Inv-loop μ-loop

@@ -66,7 +66,7 @@ loop-holds : tie.Need-loop-holds Inv-loop μ-loop
 loop-holds c = (λ g r a B. relaxed-none B, omega arith)
 
 class-row-requires : tie.Need-class-row-requires Inv-loop μ-loop
-class-row-requires c κs = let i : c .before .loop .j < 4 = omega arith in (row-low (start (read (c .before)) .pre .3) i, i)
+class-row-requires c κs = row-low (start (read (c .before)) .pre .3) (omega arith)
 
 end-or-self-requires : tie.Need-end-or-self-requires Inv-loop μ-loop
 end-or-self-requires c κs =

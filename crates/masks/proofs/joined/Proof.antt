@@ -1,0 +1,15 @@
+-- `masks::joined` meets its contract: the test is the bit of a pinch, and the constants are those of `joinedMask`. Assumes
+-- nothing.
+use Prim.Native.Nat.{_/_, _%_, _^_}
+use borrow.Author.Tests.{eq-eqb, ne-eqb}
+use Rattle.masks.proofs.joined.Statement.{statement}
+use Rattle.masks.proofs.joined.Tie as tie
+
+returns : tie.Need-returns
+returns c = rw (eq-eqb (c .before .args .here / 2 ^ 15 % 2) 1 (c .if1 .taken))
+
+returns-2 : tie.Need-returns-2
+returns-2 c = rw (ne-eqb (c .before .args .here / 2 ^ 15 % 2) 1 (c .if1 .left))
+
+pub joined-spec : {M : Type 1} → statement M
+joined-spec = tie.close (tie.spec returns returns-2)
