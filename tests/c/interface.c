@@ -1,6 +1,7 @@
 /* Holds lurfanzi.h to the code: the planner's two functions, checker and thinning, called as a user in C calls them,
  * with every slice between guard bytes. The expected numbers are those of the floors a to l, worked by hand in the
- * rules; where a floor's text leaves a number out, it follows from the rule named beside it.
+ * rules, and of floor e with neighbourhood 16; where a floor's text leaves a number out, it follows from the rule named
+ * beside it.
  */
 #include "lent.h"
 #include "lurfanzi.h"
@@ -25,6 +26,18 @@ _Static_assert(LURFANZI_FALSE_SHEET == 9 && LURFANZI_NOT_JOINED == 10, "answers 
 _Static_assert(LURFANZI_PINCHED_END == 11, "answer 11");
 _Static_assert(LURFANZI_UNREACHABLE == 4294967295, "the cost of no walk");
 _Static_assert(LURFANZI_INTERFACE == 3, "maps have a bit to a cell, and a sheet has the next vertices");
+
+static const uint32_t neighbourhoods[] = {4, 8, 16};
+enum { NEIGHBOURHOODS = sizeof neighbourhoods / sizeof neighbourhoods[0] };
+
+/* The cost of a move over so many columns and rows; 0 where the neighbourhood has none. */
+static uint32_t move_cost(uint32_t neighbourhood, int dx, int dy)
+{
+    const int squared = dx * dx + dy * dy;
+    if (squared == 1) return neighbourhood == 16 ? 1000 : 408;
+    if (squared == 2) return neighbourhood == 16 ? 1414 : neighbourhood == 8 ? 577 : 0;
+    return squared == 5 && neighbourhood == 16 ? 2236 : 0;
+}
 
 /* A job for planner or checker: every number of the call, and the slices, of which all but work are the sheet's. */
 enum { D, E, F, BACK, ROUTE, NEXT, WORK, SLICES, SHEET = WORK };
@@ -117,11 +130,10 @@ static void expect_walks(const char *where, const job *j, const planned *p)
             fail(where, "next", "is no vertex");
             continue;
         }
-        const int dx = abs((int)(to % columns) - (int)(v % columns));
-        const int dy = abs((int)(to / columns) - (int)(v / columns));
-        if (dx > 1 || dy > 1 || dx + dy == 0 || (dx + dy == 2 && j->neighbourhood == 4))
-            fail(where, "next", "is not a move away");
-        expect(where, "the cost after a move", e[to], e[v] - (dx + dy == 2 ? 577 : 408));
+        const int dx = (int)(to % columns) - (int)(v % columns), dy = (int)(to / columns) - (int)(v / columns);
+        const uint32_t cost = move_cost(j->neighbourhood, dx, dy);
+        if (cost == 0) fail(where, "next", "is not a move away");
+        expect(where, "the cost after a move", e[to], e[v] - cost);
     }
     uint32_t at = j->a;
     for (size_t k = 0; k < points; k++) {
@@ -282,7 +294,7 @@ static void expect_thin(const char *where, const trail *t, uint8_t wanted)
 
 /* ---- The worked floors. ---- */
 
-enum { PLACES = 9 };
+enum { PLACES = 12 };
 
 /* A floor with its whole sheet. Its map is one byte, in which cell c counts 2^c; those after it are not the map's. A
  * number that the floor's text leaves out follows from the costs and the counts. */
@@ -332,6 +344,49 @@ static const worked floors[] = {
      {2, 1, 0, 0, 1, 1}, {1, 1, 0, 0, 1, 2}, 3, {5, 4, 0}, {0, 0, 0, 0, 0, 4}, 2, {0, 2}},
     {"equal ends", 2, 1, {0}, 4, 4, 4, 0, 0, 1, {816, 408, 816, 408, 0, 408}, {816, 408, 816, 408, 0, 408},
      {0, 0, 0, 0, 1}, {0, 0, 0, 0, 1}, 1, {4}, {0, 0, 0, 0, 4}, 1, {0}},
+};
+
+/* Floors with neighbourhood 16, whose moves cost 1000, 1414 and 2236. The vertices of the floors of 3 by 2 cells are 0
+ * to 3, 4 to 7 and 8 to 11 by rows. */
+static const worked of_sixteen[] = {
+    {"floor e, 16", 2, 1, {0}, 16, 0, 5, 0, 2236, 1, {0, 1000, 2000, 1000, 1414, 2236},
+     {2236, 1414, 1000, 2000, 1000, 0}, {1, 0, 0, 0, 0, 1}, {1, 0, 0, 0, 0, 1}, 2, {0, 5}, {5, 0, 0, 0, 0, 5},
+     2, {0, 1}},
+    {"floor a, 16", 1, 1, {0}, 16, 0, 3, 0, 1414, 1, {0, 1000, 1000, 1414}, {1414, 1000, 1000, 0}, {1, 0, 0, 1},
+     {1, 0, 0, 1}, 2, {0, 3}, {3, 0, 0, 3}, 2, {0, 1}},
+    {"floor c, 16", 1, 1, {1}, 16, 0, 3, 7, 0, 0, {0, M, M, M}, {0}, {0}, {0}, 0, {0}, {0}, 0, {0}},
+    {"floor f, 16", 2, 1, {2}, 16, 0, 5, 7, 0, 0, {0, 1000, M, 1000, 1414, M}, {0}, {0}, {0}, 0, {0}, {0}, 0, {0}},
+    {"floor g, 16", 2, 2, {9}, 16, 2, 6, 7, 0, 0, {M, 1000, 0, M, M, 1000, M, M, M}, {0}, {0}, {0}, 0, {0}, {0},
+     0, {0}},
+    {"floor h, 16", 2, 2, {0}, 16, 0, 8, 0, 2828, 1, {0, 1000, 2000, 1000, 1414, 2236, 2000, 2236, 2828},
+     {2828, 2236, 2000, 2236, 1414, 1000, 2000, 1000, 0}, {1, 0, 0, 0, 1, 0, 0, 0, 1}, {1, 0, 0, 0, 1, 0, 0, 0, 1},
+     3, {0, 4, 8}, {4, 0, 0, 0, 8, 0, 0, 0, 8}, 2, {0, 2}},
+    /* The move (1, 0) comes before (2, 1): of 1 and 6, by which one route each goes, 1 is taken. */
+    {"three cells in a row, 16", 3, 1, {0}, 16, 0, 7, 0, 3236, 2, {0, 1000, 2000, 3000, 1000, 1414, 2236, 3236},
+     {3236, 2236, 1414, 1000, 3000, 2000, 1000, 0}, {1, 1, 0, 0, 0, 0, 1, 2}, {2, 1, 0, 0, 0, 0, 1, 1},
+     3, {0, 1, 7}, {1, 7, 0, 0, 0, 0, 7, 7}, 2, {0, 2}},
+    /* The move (2, 1) comes before (1, 1): of 5 and 6, by which one route each goes, 6 is taken. */
+    {"two rows of three cells, 16", 3, 2, {0}, 16, 0, 11, 0, 3650, 2,
+     {0, 1000, 2000, 3000, 1000, 1414, 2236, 3236, 2000, 2236, 2828, 3650},
+     {3650, 2828, 2236, 2000, 3236, 2236, 1414, 1000, 3000, 2000, 1000, 0}, {1, 0, 0, 0, 0, 1, 1, 0, 0, 0, 0, 2},
+     {2, 0, 0, 0, 0, 1, 1, 0, 0, 0, 0, 1}, 3, {0, 6, 11}, {6, 0, 0, 0, 0, 11, 11, 0, 0, 0, 0, 11}, 2, {0, 2}},
+    /* Cell 1 is blocked, which the move from 0 to 6 enters. */
+    {"past a cell, 16", 3, 2, {2}, 16, 0, 6, 0, 2414, 1,
+     {0, 1000, 3414, 3828, 1000, 1414, 2414, 3414, 2000, 2236, 2828, 3650},
+     {2414, 2000, 1000, 1414, 2000, 1000, 0, 1000, 2236, 1414, 1000, 1414}, {1, 0, 0, 0, 0, 1, 1},
+     {1, 0, 0, 0, 0, 1, 1}, 3, {0, 5, 6}, {5, 0, 0, 0, 0, 6, 6}, 3, {0, 1, 2}},
+    /* Cells 1 and 3 are blocked and touch at vertex 5: none of the moves from 0 to 5, 6 and 9 is open. */
+    {"across a corner, 16", 3, 2, {2 | 8}, 16, 0, 9, 7, 0, 0, {0, 1000, M, M, 1000, M, M, M, M, M, M, M}, {0}, {0}, {0},
+     0, {0}, {0}, 0, {0}},
+    /* Cells 0 and 4 are blocked and touch at vertex 5, beside which the move from 1 to 7 passes. */
+    {"beside a corner, 16", 3, 2, {1 | 16}, 16, 1, 7, 0, 2236, 1,
+     {M, 0, 1000, 2000, M, M, 1414, 2236, M, M, 2414, 2828}, {M, 2236, 1414, 1000, M, M, 1000, 0, M, M, 1414, 1000},
+     {0, 1, 0, 0, 0, 0, 0, 1}, {0, 1, 0, 0, 0, 0, 0, 1}, 2, {1, 7}, {0, 7, 0, 0, 0, 0, 0, 7}, 2, {0, 1}},
+    /* Cells 2 and 4 are blocked and touch at vertex 6, which the move from 0 does not reach, though cells 0 and 1 are
+     * open. The move from 0 to 9 is. */
+    {"to a pinch, 16", 3, 2, {4 | 16}, 16, 0, 9, 0, 2236, 1, {0, 1000, 2000, M, 1000, 1414, M, M, 2000, 2236, M, M},
+     {2236, 2000, 2414, M, 1414, 1000, M, M, 1000, 0, M, M}, {1, 0, 0, 0, 0, 0, 0, 0, 0, 1},
+     {1, 0, 0, 0, 0, 0, 0, 0, 0, 1}, 2, {0, 9}, {9, 0, 0, 0, 0, 0, 0, 0, 0, 9}, 2, {0, 1}},
 };
 
 static job job_of(const worked *w)
@@ -480,14 +535,20 @@ static void thin_worked(const worked *w)
         fail(w->name, "the output", "is not the worked one");
 }
 
+static void each_worked(const worked *list, size_t count)
+{
+    for (size_t k = 0; k < count; k++) {
+        plan_worked(&list[k]);
+        check_worked(&list[k]);
+        check_nonsense(&list[k]);
+        thin_worked(&list[k]);
+    }
+}
+
 static void worked_floors(void)
 {
-    for (size_t k = 0; k < sizeof floors / sizeof floors[0]; k++) {
-        plan_worked(&floors[k]);
-        check_worked(&floors[k]);
-        check_nonsense(&floors[k]);
-        thin_worked(&floors[k]);
-    }
+    each_worked(floors, sizeof floors / sizeof floors[0]);
+    each_worked(of_sixteen, sizeof of_sixteen / sizeof of_sixteen[0]);
     const worked *h = &floors[7];
     expect(h->name, "the traversal count of vertex 4", h->f[4] * h->back[4], 4);
 }
@@ -590,6 +651,109 @@ static void floor_j(void)
     give_back_sheet(&p);
 }
 
+/* The cost of a way over so many columns and rows of an open floor with neighbourhood 16, which is made up of the two
+ * moves between whose angles it lies. */
+static uint32_t open_cost(int dx, int dy)
+{
+    const int across = abs(dx), down = abs(dy);
+    const uint32_t more = (uint32_t)(across > down ? across : down), less = (uint32_t)(across > down ? down : across);
+    return 2 * less <= more ? 1000 * (more - 2 * less) + 2236 * less : 2236 * (more - less) + 1414 * (2 * less - more);
+}
+
+static void expect_open_costs(const char *where, const lent *s, int width, int height, int x0, int y0)
+{
+    const uint32_t *cost = s->p;
+    for (int y = 0; y <= height; y++)
+        for (int x = 0; x <= width; x++)
+            expect(where, "a cost", cost[x + y * (width + 1)], open_cost(x - x0, y - y0));
+}
+
+/* As floor j, with neighbourhood 16: from corner to corner of 100 by 33 cells go 33 moves (2, 1) and 34 moves (1, 0) in
+ * any order, as 33 and 34 unit steps do there; of 102 by 34 cells 34 of each, whose orders are too many. */
+static void floor_j_of_sixteen(void)
+{
+    static const uint8_t map[(102 * 34 + 7) / 8];
+    const char *const fits = "floor j with 16, 100 by 33", *const many = "floor j with 16, 102 by 34";
+    job j = make_job(100, 33, map, 16, 0, 101 * 34 - 1);
+    planned p = plan(fits, &j, 0xFF);
+    expect_answer(fits, p.result.answer, 0);
+    expect(fits, "cost", p.result.cost, 33 * 2236 + 34 * 1000);
+    expect(fits, "total: the ways to place 33 moves among 67", p.result.total, 14226520737620288370u);
+    expect(fits, "points", p.result.points, 68);
+    expect_open_costs(fits, &p.slice[D], 100, 33, 0, 0);
+    expect_open_costs(fits, &p.slice[E], 100, 33, 100, 33);
+    /* On the way are the 34 * 35 vertices at so many moves of either kind. */
+    expect_zero_count("zeros of floor j with 16", &p, F, 101 * 34 - 34 * 35);
+    expect_zero_count("zeros of floor j with 16", &p, NEXT, 101 * 34 - 34 * 35);
+    const void *sheet[SHEET];
+    sheet_of(&p, sheet);
+    j.n = 68;
+    expect_answer(fits, check(fits, &j, sheet), 0);
+    give_back_sheet(&p);
+
+    j = make_job(102, 34, map, 16, 0, 103 * 35 - 1);
+    p = plan(many, &j, 0xFF);
+    expect_answer(many, p.result.answer, LURFANZI_TOO_MANY);
+    expect_open_costs(many, &p.slice[D], 102, 34, 0, 0);
+    expect_open_costs(many, &p.slice[E], 102, 34, 102, 34);
+    sheet_of(&p, sheet);
+    expect_answer(many, check(many, &j, sheet), LURFANZI_FALSE_SHEET);
+    give_back_sheet(&p);
+}
+
+/* Open floors with neighbourhood 16: the costs from every vertex, with no move that leaves the floor, by one column or
+ * by more. */
+static void open_floors(void)
+{
+    static const uint8_t map[(6 * 6 + 7) / 8];
+    for (uint32_t width = 1; width <= 6; width++)
+        for (uint32_t height = 1; height <= 6; height++)
+            for (uint32_t v = 0; v < vertices(width, height); v++) {
+                const job j = make_job(width, height, map, 16, v, v);
+                const int x = (int)(v % (width + 1)), y = (int)(v / (width + 1));
+                lent d;
+                expect_answer("an open floor", fill_costs("an open floor", &j, 0xFF, &d), 0);
+                expect_open_costs("an open floor", &d, (int)width, (int)height, x, y);
+                give_back(&d);
+            }
+}
+
+/* The moves of neighbourhood 16 in their order: by angle. */
+static const int moves[16][2] = {
+    {1, 0}, {2, 1}, {1, 1}, {1, 2}, {0, 1}, {-1, 2}, {-1, 1}, {-2, 1},
+    {-1, 0}, {-2, -1}, {-1, -1}, {-1, -2}, {0, -1}, {1, -2}, {1, -1}, {2, -1},
+};
+
+/* From the middle of an open floor of 6 by 6 cells to the sum of two neighbouring moves: two routes, of which that by
+ * the first of the two is taken. The sheet with the other is false. */
+static void ties_by_angle(void)
+{
+    static const uint8_t map[(6 * 6 + 7) / 8];
+    const char *const where = "a tie by angle";
+    for (int k = 0; k < 16; k++) {
+        const int *const one = moves[k < 15 ? k : 0], *const two = moves[k < 15 ? k + 1 : 15];
+        const uint16_t by = (uint16_t)(24 + 7 * one[1] + one[0]), beside = (uint16_t)(24 + 7 * two[1] + two[0]);
+        job j = make_job(6, 6, map, 16, 24, by + beside - 24u);
+        planned p = plan(where, &j, 0xFF);
+        uint16_t *const route = p.slice[ROUTE].p, *const next = p.slice[NEXT].p;
+        expect_answer(where, p.result.answer, 0);
+        expect(where, "cost", p.result.cost, move_cost(16, one[0], one[1]) + move_cost(16, two[0], two[1]));
+        expect(where, "total", p.result.total, 2);
+        expect(where, "points", p.result.points, 3);
+        expect(where, "the vertex between", route[1], by);
+        expect(where, "next", next[24], by);
+        const void *sheet[SHEET];
+        sheet_of(&p, sheet);
+        j.n = 3;
+        expect_answer(where, check(where, &j, sheet), 0);
+        next[24] = beside;
+        expect_answer(where, check(where, &j, sheet), LURFANZI_FALSE_SHEET);
+        route[1] = beside;
+        expect_answer(where, check(where, &j, sheet), LURFANZI_FALSE_SHEET);
+        give_back_sheet(&p);
+    }
+}
+
 /* Jobs from one start share its costs. On floor h every vertex is on the way to the last one, so that f has the number
  * of cheapest routes to each. */
 static void one_dock(void)
@@ -607,14 +771,39 @@ static void one_dock(void)
     }
 }
 
-/* Costs of another start, neighbourhood or floor are not the job's. */
+/* On floor a the costs of one neighbourhood are not those of another, nor is its sheet; on floor c, where no vertex is
+ * reached, they are. */
+static void costs_of_another_neighbourhood(void)
+{
+    const worked *const a[NEIGHBOURHOODS] = {&floors[1], &floors[0], &of_sixteen[1]};
+    const worked *const c = &of_sixteen[2];
+    for (int of = 0; of < NEIGHBOURHOODS; of++)
+        for (int with = 0; with < NEIGHBOURHOODS; with++) {
+            const char *const where = "the costs of another neighbourhood";
+            const uint8_t wanted = of == with ? 0 : LURFANZI_FALSE_SHEET;
+            const worked *const w = a[of];
+            const void *const sheet[SHEET] = {w->d, w->e, w->f, w->back, w->route, w->next};
+            job j = job_of(a[with]);
+            expect_finish(where, &j, w->d, 0xFF, wanted);
+            j.n = w->points;
+            expect_answer(where, check(where, &j, sheet), wanted);
+            j = job_of(c);
+            j.neighbourhood = neighbourhoods[of];
+            lent d;
+            expect_answer(where, fill_costs(where, &j, 0xFF, &d), 0);
+            j.neighbourhood = neighbourhoods[with];
+            expect_finish(where, &j, d.p, 0xFF, LURFANZI_NO_ROUTE);
+            give_back(&d);
+        }
+}
+
+/* Costs of another start or floor are not the job's, nor, with 16, those of the eight moves at its costs. */
 static void costs_of_another_job(void)
 {
-    const worked *a = &floors[0], *b = &floors[1], *e = &floors[4], *f = &floors[5];
-    job j = job_of(a);
-    expect_finish("the costs of neighbourhood 4", &j, b->d, 0xFF, LURFANZI_FALSE_SHEET);
-    j = job_of(b);
-    expect_finish("the costs of neighbourhood 8", &j, a->d, 0xFF, LURFANZI_FALSE_SHEET);
+    const worked *e = &floors[4], *f = &floors[5];
+    const uint32_t of_eight_moves[6] = {0, 1000, 2000, 1000, 1414, 2414};
+    job j = job_of(&of_sixteen[0]);
+    expect_finish("the costs of eight moves", &j, of_eight_moves, 0xFF, LURFANZI_FALSE_SHEET);
     j = job_of(e);
     expect_finish("the costs round a wall", &j, f->d, 0xFF, LURFANZI_FALSE_SHEET);
     for (j.a = 1; j.a < 6; j.a++) expect_finish("the costs of vertex 0", &j, e->d, 0xFF, LURFANZI_FALSE_SHEET);
@@ -622,12 +811,14 @@ static void costs_of_another_job(void)
     expect_finish("the costs without the wall", &j, e->d, 0xFF, LURFANZI_FALSE_SHEET);
 }
 
-/* Every list of four of these numbers: the true costs alone are taken, on floors a, b and c. */
+/* Every list of four of these numbers: the true costs alone are taken, on floors a, b and c, and on a and c with 16. */
 static void every_list_of_costs(void)
 {
-    const uint32_t numbers[] = {0, 1, 407, 408, 577, 816, M - 1, M};
-    for (size_t k = 0; k < 3; k++) {
-        const worked *w = &floors[k];
+    const uint32_t of_eight[] = {0, 1, 407, 408, 577, 816, M - 1, M}, of_16[] = {0, 1, 999, 1000, 1414, 2236, M - 1, M};
+    const worked *const lists[] = {&floors[0], &floors[1], &floors[2], &of_sixteen[1], &of_sixteen[2]};
+    for (size_t k = 0; k < sizeof lists / sizeof lists[0]; k++) {
+        const worked *w = lists[k];
+        const uint32_t *const numbers = w->neighbourhood == 16 ? of_16 : of_eight;
         const job j = job_of(w);
         for (unsigned list = 0; list < 1u << 12; list++) {
             uint32_t d[4];
@@ -673,6 +864,29 @@ static void floor_k(void)
     give_back_sheet(&p);
 }
 
+/* The same with neighbourhood 16, to the end of the move (2, 1). */
+static void floor_k_of_sixteen(void)
+{
+    const char *const where = "floor k with 16";
+    job j = make_job(127, 127, largest, 16, 0, 130);
+    planned p = plan(where, &j, 0xFF);
+    const uint16_t *route = p.slice[ROUTE].p;
+    expect_answer(where, p.result.answer, 0);
+    expect(where, "cost", p.result.cost, 2236);
+    expect(where, "total", p.result.total, 1);
+    expect(where, "points", p.result.points, 2);
+    expect(where, "the second vertex", route[1], 130);
+    expect_open_costs(where, &p.slice[D], 127, 127, 0, 0);
+    expect_open_costs(where, &p.slice[E], 127, 127, 2, 1);
+    expect_zero_count("zeros of floor k with 16", &p, F, 16384 - 2);
+    expect_zero_count("zeros of floor k with 16", &p, NEXT, 16384 - 2);
+    const void *sheet[SHEET];
+    sheet_of(&p, sheet);
+    j.n = 2;
+    expect_answer(where, check(where, &j, sheet), 0);
+    give_back_sheet(&p);
+}
+
 /* ---- The limits of every number (floor l), on floor e, whose numbers 2, 1, 8, 0, 5 all differ. ---- */
 
 static const worked *const e_floor = &floors[4];
@@ -713,16 +927,15 @@ static void limits_of_numbers(void)
         job j = make_job(2, 1, map, 8, 0, 5);
         expect_refused("an unused bit", &j, LURFANZI_UNUSED_BIT);
     }
-    const uint32_t neighbourhoods[] = {0, 1, 2, 3, 5, 6, 7, 9, 12, 16, 260, 264, 65540, 4294967295u};
-    for (size_t k = 0; k < sizeof neighbourhoods / sizeof neighbourhoods[0]; k++) {
-        job j = job_of(e_floor);
-        j.neighbourhood = neighbourhoods[k];
-        expect_refused("a bad neighbourhood", &j, LURFANZI_BAD_NEIGHBOURHOOD);
-    }
-    for (uint32_t neighbourhood = 4; neighbourhood <= 8; neighbourhood += 4) {
+    const uint32_t bad[] = {256 + 4, 256 + 8, 256 + 16, 65536 + 4, 65536 + 16, 2147483648u + 16, 4294967295u};
+    for (uint32_t k = 0; k < 256 + sizeof bad / sizeof bad[0]; k++) {
+        const uint32_t neighbourhood = k < 256 ? k : bad[k - 256];
         job j = job_of(e_floor);
         j.neighbourhood = neighbourhood;
-        expect_plan("a good neighbourhood", &j, 0);
+        if (neighbourhood == 4 || neighbourhood == 8 || neighbourhood == 16)
+            expect_plan("a good neighbourhood", &j, 0);
+        else
+            expect_refused("a bad neighbourhood", &j, LURFANZI_BAD_NEIGHBOURHOOD);
     }
     const uint32_t ends[] = {6, 7, 256 + 5, 65536 + 0, 65536 + 5, 4294967295u};
     for (size_t k = 0; k < sizeof ends / sizeof ends[0]; k++) {
@@ -759,7 +972,7 @@ static void limits_of_maps(void)
         all[last] = (uint8_t)(0xFF >> (8 - unused));
         uint8_t *const maps[2] = {open, all};
         for (int m = 0; m < 2; m++) {
-            job j = make_job(w, h, maps[m], 8, 0, 0);
+            job j = make_job(w, h, maps[m], neighbourhoods[k % NEIGHBOURHOODS], 0, 0);
             expect_plan("a good map", &j, 0);
             expect_answer("a good map", check("a good map", &j, anything), LURFANZI_FALSE_SHEET);
             expect_thin_map("a good map", &j, 0);
@@ -778,13 +991,13 @@ static void limits_of_maps(void)
 }
 
 /* Each slice one place short, one place long, empty, and longer by a number that a narrow type would lose. */
-static void limits_of_slices(void)
+static void limits_of_slices_of(const worked *w)
 {
     for (int slice = 0; slice < SLICES; slice++) {
-        const size_t length = job_of(e_floor).length[slice];
+        const size_t length = job_of(w).length[slice];
         const size_t bad[] = {length - 1, length + 1, 0, 2 * length, 256 + length, 65536 + length};
         for (size_t k = 0; k < sizeof bad / sizeof bad[0]; k++) {
-            job j = job_of(e_floor);
+            job j = job_of(w);
             j.length[slice] = bad[k];
             expect_plan(slice_name[slice], &j, LURFANZI_BAD_SLICE_LENGTH);
             /* 6 before 9. */
@@ -793,6 +1006,12 @@ static void limits_of_slices(void)
             expect_answer(slice_name[slice], check(slice_name[slice], &j, anything), LURFANZI_BAD_SLICE_LENGTH);
         }
     }
+}
+
+static void limits_of_slices(void)
+{
+    limits_of_slices_of(e_floor);
+    limits_of_slices_of(&of_sixteen[0]);
     job empty = job_of(e_floor);
     memset(empty.length, 0, sizeof empty.length);
     expect_refused("every slice empty", &empty, LURFANZI_BAD_SLICE_LENGTH);
@@ -814,7 +1033,7 @@ static void spoil(job *j, uint8_t fault, int turned)
     if (fault == 1) j->height = 128;
     if (fault == 2) j->map_length = 2;
     if (fault == 3) j->map = stray;
-    if (fault == 4) j->neighbourhood = 6;
+    if (fault == 4) j->neighbourhood = turned ? 12 : 6;
     if (fault == 5) *(turned ? &j->a : &j->b) = 9;
     if (fault == LURFANZI_PINCHED_END) *(turned ? &j->b : &j->a) = 4;
     if (fault == 6) j->length[ROUTE] = 10;
@@ -825,7 +1044,7 @@ static void order_of_refusals(void)
     for (int first = 0; first < FAULTS; first++)
         for (int second = first; second < FAULTS; second++)
             for (int turned = 0; turned < 2; turned++) {
-                job j = make_job(2, 2, touching, 8, 2, 5);
+                job j = make_job(2, 2, touching, turned ? 16 : 8, 2, 5);
                 spoil(&j, order[second], turned);
                 spoil(&j, order[first], turned);
                 expect_refused("two faults", &j, order[first]);
@@ -857,7 +1076,7 @@ static void order_of_costs_refusals(void)
     for (int first = 0; first < FAULTS; first++)
         for (int second = first; second < FAULTS; second++)
             for (int slice = D; slice <= WORK; slice += WORK) {
-                job j = make_job(2, 2, touching, 8, 2, 5);
+                job j = make_job(2, 2, touching, slice == D ? 16 : 8, 2, 5);
                 spoil_costs(&j, order[second], slice);
                 if (second != first) spoil_costs(&j, order[first], slice);
                 lent d;
@@ -873,8 +1092,8 @@ static void pinched_ends(void)
     const worked *g = &floors[6];
     const uint32_t ends[][2] = {{2, 4}, {4, 2}, {4, 4}, {0, 4}, {4, 8}};
     for (size_t k = 0; k < sizeof ends / sizeof ends[0]; k++)
-        for (uint32_t neighbourhood = 4; neighbourhood <= 8; neighbourhood += 4) {
-            job j = make_job(2, 2, touching, neighbourhood, ends[k][0], ends[k][1]);
+        for (int i = 0; i < NEIGHBOURHOODS; i++) {
+            job j = make_job(2, 2, touching, neighbourhoods[i], ends[k][0], ends[k][1]);
             expect_refused("a pinched end", &j, LURFANZI_PINCHED_END);
             expect_finish("a pinched end, from costs", &j, g->d, 0xFF, LURFANZI_PINCHED_END);
             j.length[E] = 8;
@@ -889,10 +1108,17 @@ static void pinched_ends(void)
         "the pinch alone", 2, 2, {9}, 8, 4, 4, 0, 0, 1, {M, M, M, M, 0, M, M, M, M},
         {M, M, M, M, 0, M, M, M, M}, {0, 0, 0, 0, 1}, {0, 0, 0, 0, 1}, 1, {4}, {0, 0, 0, 0, 4}, 1, {0}};
     const void *const sheet[SHEET] = {alone.d, alone.e, alone.f, alone.back, alone.route, alone.next};
-    job j = job_of(&alone);
-    j.n = alone.points;
-    expect_finish(alone.name, &j, alone.d, 0xFF, LURFANZI_PINCHED_END);
-    expect_answer(alone.name, check(alone.name, &j, sheet), LURFANZI_PINCHED_END);
+    for (int i = 0; i < NEIGHBOURHOODS; i++) {
+        job j = job_of(&alone);
+        j.neighbourhood = neighbourhoods[i];
+        j.n = alone.points;
+        expect_finish(alone.name, &j, alone.d, 0xFF, LURFANZI_PINCHED_END);
+        expect_answer(alone.name, check(alone.name, &j, sheet), LURFANZI_PINCHED_END);
+    }
+    /* The end of the move (2, 1) from 0 is a pinch. */
+    job reached = job_of(&of_sixteen[sizeof of_sixteen / sizeof of_sixteen[0] - 1]);
+    reached.b = 6;
+    expect_refused("a move to a pinch", &reached, LURFANZI_PINCHED_END);
 }
 
 /* ---- The thinning. ---- */
@@ -1053,11 +1279,16 @@ int main(void)
     setbuf(stdout, NULL); /* so that a crash loses no line */
     worked_floors();
     beside_the_route();
+    open_floors();
+    ties_by_angle();
     one_dock();
+    costs_of_another_neighbourhood();
     costs_of_another_job();
     every_list_of_costs();
     floor_j();
+    floor_j_of_sixteen();
     floor_k();
+    floor_k_of_sixteen();
     limits_of_numbers();
     limits_of_maps();
     limits_of_slices();

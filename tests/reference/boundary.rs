@@ -1,4 +1,4 @@
-//! Floors whose totals lie at the edge of 64 bits, for neighbourhood 4.
+//! Floors whose totals lie at the edge of 64 bits, for neighbourhood 4, and doubled halls for 16.
 
 use crate::floor::Floor;
 
@@ -12,7 +12,8 @@ struct Track {
 }
 
 impl Track {
-    /// A hall of one row to the right: multiplies the count by length + 1.
+    /// A hall of one row to the right: multiplies the count by length + 1; with neighbourhood 16, where the row is
+    /// changed by one move of two columns, by length - 1.
     fn right(&mut self, length: u64) {
         let (x, y) = self.at;
         self.walls.push((y + 1, vec![x + length]));
@@ -65,13 +66,23 @@ impl Case {
 
 /// k halls of two ways each: a total of 2^k.
 pub fn doubling(k: u64) -> Case {
+    halls(k, 1)
+}
+
+/// The same for neighbourhood 16.
+pub fn doubling_of_sixteen(k: u64) -> Case {
+    halls(k, 3)
+}
+
+/// k halls of one row, to the right and to the left in turn.
+fn halls(k: u64, length: u64) -> Case {
     let mut track = Track { walls: Vec::new(), at: (1, 0) };
     for hall in 1..k {
-        if hall % 2 == 1 { track.right(1) } else { track.left(1) }
+        if hall % 2 == 1 { track.right(length) } else { track.left(length) }
     }
     let (x, y) = track.at;
-    track.at = (3 - x, y + 1);
-    Case::new(track.floor(3), (1, 0), track.at)
+    track.at = (length + 2 - x, y + 1);
+    Case::new(track.floor(length + 2), (1, 0), track.at)
 }
 
 /// A total of 6,700,417 * (length + 1) * 65,537 * 3 * 641 * 5 * 257, which for length 16 is 2^64 - 1.

@@ -23,6 +23,12 @@ impl Floor {
         Floor::new(width, height, vec![0; (width * height) as usize])
     }
 
+    pub fn with_blocked(width: u64, height: u64, blocked: &[usize]) -> Floor {
+        let mut floor = Floor::open(width, height);
+        blocked.iter().for_each(|&cell| floor.cells[cell] = 1);
+        floor
+    }
+
     /// Refusal 1, 2 or 3, the first that applies: that of its map; of cells that came without one, as the program's
     /// do, 3 for one above 1.
     pub fn shape_fault(&self) -> Option<u8> {

@@ -4,21 +4,39 @@ use crate::floor::Floor;
 use crate::sight;
 use std::collections::VecDeque;
 
-struct Move {
-    dx: i64,
-    dy: i64,
-    cost: u64,
+/// The neighbourhoods that are not refused.
+pub const NEIGHBOURHOODS: [u64; 3] = [4, 8, 16];
+
+#[derive(Clone, Copy, Debug, PartialEq, Eq)]
+pub struct Move {
+    pub dx: i64,
+    pub dy: i64,
+    pub cost: u64,
 }
 
-/// Clockwise from (1, 0) with y downward; cardinal moves cost 408, diagonal 577.
-fn all_moves() -> Vec<Move> {
-    let offsets = [(1, 0), (1, 1), (0, 1), (-1, 1), (-1, 0), (-1, -1), (0, -1), (1, -1)];
-    let cost = |dx: i64, dy: i64| if dx * dy == 0 { 408 } else { 577 };
-    offsets.iter().map(|&(dx, dy)| Move { dx, dy, cost: cost(dx, dy) }).collect()
+/// Clockwise from (1, 0) with y downward: the eight moves to the vertices around, and between each two neighbours of
+/// them their sum.
+const OFFSETS: [(i64, i64); 16] = [
+    (1, 0), (2, 1), (1, 1), (1, 2), (0, 1), (-1, 2), (-1, 1), (-2, 1),
+    (-1, 0), (-2, -1), (-1, -1), (-1, -2), (0, -1), (1, -2), (1, -1), (2, -1),
+];
+
+/// The cost of a move by its squared length; None where the neighbourhood has no such move.
+fn move_cost(neighbourhood: u64, squared_length: i64) -> Option<u64> {
+    match (neighbourhood, squared_length) {
+        (4 | 8, 1) => Some(408),
+        (8, 2) => Some(577),
+        (16, 1) => Some(1000),
+        (16, 2) => Some(1414),
+        (16, 5) => Some(2236),
+        _ => None,
+    }
 }
 
-fn moves_of(neighbourhood: u64) -> Vec<Move> {
-    all_moves().into_iter().filter(|m| neighbourhood == 8 || m.dx * m.dy == 0).collect()
+/// The moves of a neighbourhood, in order.
+pub fn moves_of(neighbourhood: u64) -> Vec<Move> {
+    let cost = |dx: i64, dy: i64| move_cost(neighbourhood, dx * dx + dy * dy);
+    OFFSETS.iter().filter_map(|&(dx, dy)| cost(dx, dy).map(|cost| Move { dx, dy, cost })).collect()
 }
 
 #[derive(Clone, Copy)]
@@ -34,9 +52,18 @@ pub struct Graph {
 
 impl Graph {
     pub fn of_floor(floor: &Floor, neighbourhood: u64) -> Graph {
-        let moves = moves_of(neighbourhood);
-        let edges = (0..floor.vertex_count()).map(|v| open_edges(floor, &moves, v)).collect();
-        Graph { edges }
+        let is_open = |from: usize, to: usize, _: Move| sight::vertices_see(floor, from, to);
+        Graph::of_moves(floor, &moves_of(neighbourhood), is_open)
+    }
+
+    /// The moves with both ends on the floor that pass a test.
+    pub fn of_moves(floor: &Floor, moves: &[Move], is_open: impl Fn(usize, usize, Move) -> bool) -> Graph {
+        let edges_of = |from: usize| {
+            let (x, y) = floor.point(from);
+            let ends = moves.iter().filter_map(|&m| floor.vertex(x + m.dx, y + m.dy).map(|to| (to, m)));
+            ends.filter(|&(to, m)| is_open(from, to, m)).map(|(to, m)| Edge { to, cost: m.cost }).collect()
+        };
+        Graph { edges: (0..floor.vertex_count()).map(edges_of).collect() }
     }
 
     /// Every edge turned round.
@@ -53,18 +80,6 @@ impl Graph {
     pub fn size(&self) -> usize {
         self.edges.len()
     }
-}
-
-fn open_edges(floor: &Floor, moves: &[Move], from: usize) -> Vec<Edge> {
-    let (x, y) = floor.point(from);
-    let mut edges = Vec::new();
-    for m in moves {
-        let Some(to) = floor.vertex(x + m.dx, y + m.dy) else { continue };
-        if sight::vertices_see(floor, from, to) {
-            edges.push(Edge { to, cost: m.cost });
-        }
-    }
-    edges
 }
 
 /// Distance from a source to every vertex; None where no walk joins them.

@@ -5,11 +5,12 @@ use crate::closures::Table;
 use crate::count;
 use crate::floor::Floor;
 use crate::format::{self, Damage, Record};
-use crate::graph::{self, Distances};
+use crate::graph::{self, Distances, NEIGHBOURHOODS};
 use crate::layouts::{self, Kind, KINDS};
+use crate::neighbourhood_jobs::{floors_of_sixteen, other_neighbourhoods};
 use crate::packed::PackedFloor;
 use crate::random::Random;
-use crate::sheet::{Request, Sheet, Solver, Truth, NO_WALK};
+use crate::sheet::{Request, Sheet, Solver, NO_WALK};
 use crate::{sight, stream};
 
 /// Lengths of d, e, f, b, route, next and the working slice.
@@ -35,6 +36,8 @@ pub struct Maker {
     bits: Random,
     /// For next vertices: their records change nothing of the others.
     pushed: Random,
+    /// For neighbourhoods: their records change nothing of the others.
+    steered: Random,
     /// Whether numbers may pass 8 bits (sides, neighbourhood) and 16 bits (ends, n).
     wide: bool,
     /// The floor's map as the records leave it, and what the solver has of it.
@@ -44,14 +47,14 @@ pub struct Maker {
     pub table: Table,
 }
 
-/// The stream for a number of floors, and some more for each W·H modulo 8.
+/// The stream for a number of floors, and some more for each W·H modulo 8 and for neighbourhood 16.
 pub fn make(seed: u64, count: u64, wide: bool) -> Vec<u8> {
     let [random, aside, given] = [seed, !seed, seed ^ u64::from(u32::MAX)].map(Random::new);
     let [corners, bits] = [!seed ^ u64::from(u32::MAX), seed.reverse_bits()].map(Random::new);
-    let pushed = Random::new(!seed.reverse_bits());
+    let [pushed, steered] = [!seed.reverse_bits(), seed.swap_bytes() ^ 16].map(Random::new);
     let (solver, table) = (Solver::new(Floor::open(1, 1)), Table::empty());
     let (out, map) = (Vec::new(), vec![0]);
-    let mut maker = Maker { out, random, aside, given, corners, bits, pushed, wide, map, solver, table };
+    let mut maker = Maker { out, random, aside, given, corners, bits, pushed, steered, wide, map, solver, table };
     let fixed = fixed_floors(&mut maker.random).into_iter().take(count as usize);
     let mut floors: Vec<_> = fixed.map(|(floor, requests)| (PackedFloor::of(&floor), requests)).collect();
     for k in floors.len() as u64..count {
@@ -60,6 +63,7 @@ pub fn make(seed: u64, count: u64, wide: bool) -> Vec<u8> {
         floors.push((floor, requests));
     }
     floors.extend(maker.floors_by_unused_bits().iter().map(|floor| (PackedFloor::of(floor), Vec::new())));
+    floors.extend(floors_of_sixteen().into_iter().map(|(floor, requests)| (PackedFloor::of(&floor), requests)));
     for (floor, requests) in floors {
         maker.floor(floor, &requests);
     }
@@ -67,7 +71,7 @@ pub fn make(seed: u64, count: u64, wide: bool) -> Vec<u8> {
     maker.out
 }
 
-fn request(neighbourhood: u64, start: u64, goal: u64) -> Request {
+pub fn request(neighbourhood: u64, start: u64, goal: u64) -> Request {
     Request { neighbourhood, start, goal }
 }
 
@@ -76,39 +80,32 @@ fn corner_requests(floor: &Floor) -> Vec<Request> {
     if floor.shape_fault().is_some() || floor.width.min(floor.height) < 20 {
         return Vec::new();
     }
-    vec![request(4, 0, floor.vertex_count() as u64 - 1)]
-}
-
-/// A square floor with these cells blocked.
-fn with_blocked(side: u64, blocked: &[usize]) -> Floor {
-    let mut floor = Floor::open(side, side);
-    blocked.iter().for_each(|&cell| floor.cells[cell] = 1);
-    floor
+    [4, 16].map(|neighbourhood| request(neighbourhood, 0, floor.vertex_count() as u64 - 1)).to_vec()
 }
 
 /// Floors that are in every stream, with requests to make of them.
 fn fixed_floors(random: &mut Random) -> Vec<(Floor, Vec<Request>)> {
-    let both = |start, goal| vec![request(4, start, goal), request(8, start, goal)];
+    let each = |start, goal| NEIGHBOURHOODS.map(|neighbourhood| request(neighbourhood, start, goal)).to_vec();
     let mut floors = vec![
-        (Floor::open(1, 1), both(0, 3)),
-        (Floor::new(1, 1, vec![1]), vec![request(8, 0, 3), request(4, 0, 0), request(8, 2, 2)]),
-        (Floor::open(2, 1), both(0, 5)),
-        (Floor::new(2, 1, vec![0, 1]), both(0, 5)),
-        (Floor::new(2, 2, vec![1, 0, 0, 1]), both(2, 6)),
-        (Floor::open(2, 2), both(0, 8)),
-        (Floor::open(6, 3), both(0, 27)),
-        (Floor::open(8, 4), both(0, 44)),
+        (Floor::open(1, 1), each(0, 3)),
+        (Floor::new(1, 1, vec![1]), [each(0, 3), vec![request(4, 0, 0), request(8, 2, 2)]].concat()),
+        (Floor::open(2, 1), each(0, 5)),
+        (Floor::new(2, 1, vec![0, 1]), each(0, 5)),
+        (Floor::new(2, 2, vec![1, 0, 0, 1]), each(2, 6)),
+        (Floor::open(2, 2), each(0, 8)),
+        (Floor::open(6, 3), each(0, 27)),
+        (Floor::open(8, 4), each(0, 44)),
         // Choices beside the route: equals, and where the counts from the start alone would lead elsewhere.
-        (with_blocked(4, &[10]), both(0, 24)),
-        (with_blocked(4, &[5, 10]), both(0, 24)),
-        (with_blocked(5, &[7, 11]), both(0, 35)),
-        (stream::halls_floor(), vec![request(4, 0, 767), request(8, 767, 0)]),
+        (Floor::with_blocked(4, 4, &[10]), each(0, 24)),
+        (Floor::with_blocked(4, 4, &[5, 10]), each(0, 24)),
+        (Floor::with_blocked(5, 5, &[7, 11]), each(0, 35)),
+        (stream::halls_floor(), vec![request(4, 0, 767), request(8, 767, 0), request(16, 0, 767)]),
         (Floor::open(33, 34), vec![request(4, 0, 34 * 35 - 1)]),
         (Floor::open(34, 34), vec![request(4, 0, 35 * 35 - 1)]),
         (Floor::open(64, 32), vec![request(8, 0, 65 * 33 - 1)]),
-        (Floor::open(127, 127), vec![request(4, 0, 1), request(4, 0, 16_383)]),
-        (Floor::open(127, 1), both(0, 255)),
-        (Floor::open(1, 127), both(0, 255)),
+        (Floor::open(127, 127), vec![request(4, 0, 1), request(4, 0, 16_383), request(16, 0, 130)]),
+        (Floor::open(127, 1), each(0, 255)),
+        (Floor::open(1, 127), each(0, 255)),
     ];
     let large = [
         (Kind::Maze, 127, 127),
@@ -232,6 +229,10 @@ impl Maker {
         std::mem::swap(&mut self.random, &mut self.pushed);
     }
 
+    pub fn use_steered(&mut self) {
+        std::mem::swap(&mut self.random, &mut self.steered);
+    }
+
     pub fn is_large(&self) -> bool {
         self.count() > LARGE
     }
@@ -247,11 +248,7 @@ impl Maker {
     fn good_operations(&mut self, requests: &[Request]) {
         let large = self.is_large();
         self.sight_pairs(if large { 24 } else { 48 });
-        let mut requests = requests.to_vec();
-        while requests.len() < if large { 2 } else { 3 } {
-            requests.push(self.any_request());
-        }
-        for request in requests {
+        for request in self.all_requests(requests, if large { 2 } else { 3 }) {
             self.job(request, if large { 4 } else { 5 });
         }
         for _ in 0..if large { 1 } else { 2 } {
@@ -262,25 +259,41 @@ impl Maker {
             self.loaded_sheets();
         }
         self.sheets_by_other_rules();
+        self.sheets_over_other_moves();
         self.lists(if large { 2 } else { 4 });
     }
 
-    /// Costs from the start, what is refused of them, a good plan, and checks and thinnings of what it left.
+    /// The requests given, one of 16 if they have none, and up to so many in all of the others that are missing.
+    fn all_requests(&mut self, given: &[Request], least: usize) -> Vec<Request> {
+        let mut requests = given.to_vec();
+        for neighbourhood in if self.random.percent(50) { [16, 4, 8] } else { [16, 8, 4] } {
+            let is_missing = requests.iter().all(|request| request.neighbourhood != neighbourhood);
+            if is_missing && (neighbourhood == 16 || requests.len() < least) {
+                requests.push(self.any_request_of(neighbourhood));
+            }
+        }
+        requests
+    }
+
+    /// Costs from the start, what is refused of them, a good plan, and checks and thinnings of what it left. On a small
+    /// floor before each of the three calls the same one with a neighbourhood that is refused.
     pub fn job(&mut self, request: Request, damaged: usize) {
-        let count = self.count();
+        let good = good_lengths(self.count());
         let seed = self.random.next() as u32;
-        self.costs_record(request, good_lengths(count), seed);
+        let refused = if self.is_large() { None } else { Some(self.refused(request)) };
+        refused.into_iter().for_each(|job| self.costs_record(job, good, seed));
+        self.costs_record(request, good, seed);
         self.false_costs(request);
         self.next_of_other_lengths(request);
-        self.finish_record(request, good_lengths(count), seed, &[]);
-        self.check_record(request, good_lengths(count), None, &[]);
+        refused.into_iter().for_each(|job| self.finish_record(job, good, seed, &[]));
+        self.finish_record(request, good, seed, &[]);
+        refused.into_iter().for_each(|job| self.check_record(job, good, None, &[]));
+        self.check_record(request, good, None, &[]);
         let truth = self.solver.truth(request.neighbourhood, request.start as usize, request.goal as usize);
-        let sheet = match &*truth {
-            Truth::Route { sheet, .. } | Truth::NoRoute { sheet } | Truth::TooMany { sheet } => sheet,
-        };
+        let sheet = truth.sheet();
         for _ in 0..damaged {
             let damages = self.damages(sheet, request.neighbourhood);
-            self.check_record(request, good_lengths(count), None, &damages);
+            self.check_record(request, good, None, &damages);
         }
         self.other_checks(request, sheet.n as u32);
         self.next_checks(request, sheet);
@@ -293,8 +306,9 @@ impl Maker {
         let swapped = Request { start: request.goal, goal: request.start, ..request };
         self.check_record(swapped, good_lengths(count), None, &[]);
         if !self.is_large() {
-            let turned = Request { neighbourhood: 12 - request.neighbourhood, ..request };
-            self.check_record(turned, good_lengths(count), None, &[]);
+            for neighbourhood in other_neighbourhoods(request.neighbourhood) {
+                self.check_record(Request { neighbourhood, ..request }, good_lengths(count), None, &[]);
+            }
         }
         let other_n = self.other_n(n, count);
         self.check_record(request, good_lengths(count), Some(other_n), &[]);
@@ -334,7 +348,7 @@ impl Maker {
             let mut lengths = [0; 7];
             lengths.iter_mut().for_each(|length| *length = self.random.index(40));
             let ends = (self.random.below(20), self.random.below(20));
-            let request = request(self.random.pick(&[4, 8, 5, 0]), ends.0, ends.1);
+            let request = request(self.random.pick(&[4, 8, 16, 5, 0]), ends.0, ends.1);
             self.plan_records(request, lengths);
             self.check_record(request, lengths, None, &[]);
             let length = self.random.within(1, 9) as usize;
@@ -351,9 +365,8 @@ impl Maker {
 /// Requests and slice lengths.
 impl Maker {
     /// A request of good shape; in most of them a walk joins the ends.
-    pub fn any_request(&mut self) -> Request {
+    pub fn any_request_of(&mut self, neighbourhood: u64) -> Request {
         let count = self.count() as u64;
-        let neighbourhood = self.random.pick(&[4, 8]);
         let graphs = self.solver.graphs(neighbourhood);
         let mut start = self.random.below(count);
         for _ in 0..9 {
@@ -365,6 +378,12 @@ impl Maker {
         let start = if self.is_pinch(start as usize) { 0 } else { start };
         let distances = graph::distances(&graphs.0, start as usize);
         request(neighbourhood, start, self.any_goal(start, &distances))
+    }
+
+    /// The same of any neighbourhood.
+    pub fn any_request(&mut self) -> Request {
+        let neighbourhood = self.random.pick(&NEIGHBOURHOODS);
+        self.any_request_of(neighbourhood)
     }
 
     /// Unreached, the start itself, any reached vertex, or a far one of some.
@@ -389,9 +408,9 @@ impl Maker {
         let mut request = self.any_request();
         let fault = self.random.within(1, 3);
         if fault != 2 {
-            let mut choices = vec![0, 1, 2, 3, 5, 6, 7, 9, 12, 16, 84, 255];
+            let mut choices = vec![0, 1, 2, 3, 5, 6, 7, 9, 12, 15, 17, 20, 24, 32, 84, 255];
             if self.wide {
-                choices.extend([256, 260, 65_544, (1 << 31) + 4, u64::from(u32::MAX)]);
+                choices.extend([256, 260, 272, 65_544, 65_552, (1 << 31) + 4, (1 << 31) + 16, u64::from(u32::MAX)]);
             }
             request.neighbourhood = self.random.pick(&choices);
         }
@@ -576,7 +595,7 @@ impl Maker {
         if off.is_empty() {
             return Vec::new();
         }
-        let value = self.random.pick(&[0, 408, 577, 9_452_991, u64::from(NO_WALK) - 1]);
+        let value = self.random.pick(&[0, 408, 577, 1000, 2236, 9_452_991, 36_632_388, u64::from(NO_WALK) - 1]);
         vec![Damage { slice, place: self.random.pick(&off), value }]
     }
 
@@ -608,9 +627,7 @@ impl Maker {
     fn loaded_sheets(&mut self) {
         let request = self.any_request();
         let truth = self.solver.truth(request.neighbourhood, request.start as usize, request.goal as usize);
-        let sheet = match &*truth {
-            Truth::Route { sheet, .. } | Truth::NoRoute { sheet } | Truth::TooMany { sheet } => sheet,
-        };
+        let sheet = truth.sheet();
         for _ in 0..3 {
             let changed = self.changed_sheet(sheet, request);
             self.load_record(&changed);
@@ -661,8 +678,8 @@ impl Maker {
     fn scramble(&mut self, sheet: &mut Sheet) {
         sheet.n = self.random.below(sheet.d.len() as u64 + 2);
         for place in 0..sheet.d.len() {
-            sheet.d[place] = 408 * self.random.below(9) as u32;
-            sheet.e[place] = 577 * self.random.below(9) as u32;
+            sheet.d[place] = self.random.pick(&[408, 1000]) * self.random.below(9) as u32;
+            sheet.e[place] = self.random.pick(&[577, 1414, 2236]) * self.random.below(9) as u32;
             sheet.f[place] = self.random.below(4);
             sheet.b[place] = self.random.next();
             sheet.route[place] = self.random.below(sheet.d.len() as u64) as u16;

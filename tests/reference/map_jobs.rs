@@ -4,6 +4,7 @@ use crate::closure_jobs::Base;
 use crate::closures::{Rectangle, Table};
 use crate::floor::Floor;
 use crate::format;
+use crate::graph::NEIGHBOURHOODS;
 use crate::jobs::{good_lengths, Maker};
 use crate::layouts::{self, KINDS};
 use crate::packed::PackedFloor;
@@ -77,9 +78,9 @@ impl Maker {
     fn reads_of_a_map(&mut self) {
         let count = self.count();
         let last = count as u64 - 1;
-        let good = Request { neighbourhood: 8, start: 0, goal: last };
+        let good = Request { neighbourhood: self.random.pick(&NEIGHBOURHOODS), start: 0, goal: last };
         let other = match self.random.below(3) {
-            0 => Request { neighbourhood: 5, ..good },
+            0 => Request { neighbourhood: self.random.pick(&[5, 12, 17]), ..good },
             1 => Request { goal: last + 1, ..good },
             _ => good,
         };

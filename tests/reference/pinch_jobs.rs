@@ -30,6 +30,7 @@ impl Maker {
         let request = self.any_request();
         let [p, q] = [(); 2].map(|()| self.random.pick(pinches) as u64);
         let off = self.bad_end();
+        let neighbourhood = self.random.pick(&[5, 12, 17]);
         let at_goal = Request { goal: p, ..request };
         let jobs = [
             at_goal,
@@ -38,7 +39,7 @@ impl Maker {
             Request { start: p, goal: p, ..request },
             Request { start: p, goal: off, ..request },
             Request { start: off, goal: p, ..request },
-            Request { neighbourhood: 5, ..at_goal },
+            Request { neighbourhood, ..at_goal },
         ];
         for job in jobs {
             let other = self.bad_lengths(7);

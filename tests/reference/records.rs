@@ -1,8 +1,10 @@
 //! Record streams of any seed, for a test of the program.
 
 use crate::floor::Floor;
+use crate::graph::NEIGHBOURHOODS;
 use crate::layouts::{self, KINDS};
 use crate::random::Random;
+use crate::sixteen::REFUSED;
 use crate::{sight, stream};
 
 /// A map and jobs, in half of the streams with one fault.
@@ -12,8 +14,9 @@ pub fn make(seed: u64) -> Vec<u8> {
     let mut records = vec![stream::map_record(&floor)];
     let is_pinch = |&v: &usize| sight::is_pinch(&floor, floor.point(v));
     let pinches: Vec<usize> = (0..floor.vertex_count()).filter(is_pinch).collect();
+    let mut start = 0;
     for _ in 0..job_count(&mut random) {
-        records.push(any_job(&mut random, floor.vertex_count() as u64, &pinches));
+        records.push(any_job(&mut random, floor.vertex_count() as u64, &pinches, &mut start));
     }
     if random.percent(50) {
         return records.concat();
@@ -36,8 +39,13 @@ fn job_count(random: &mut Random) -> u64 {
     if random.percent(4) { random.within(998, 1003) } else { random.within(0, 24) }
 }
 
-fn any_job(random: &mut Random, count: u64, pinches: &[usize]) -> Vec<u8> {
-    let neighbourhood = if random.percent(95) { random.pick(&[4, 8]) } else { random.below(256) as u8 };
+/// A job, in a quarter of all cases from the start of the job before.
+fn any_job(random: &mut Random, count: u64, pinches: &[usize], start: &mut u64) -> Vec<u8> {
+    let neighbourhood = match random.below(100) {
+        0..=93 => random.pick(&NEIGHBOURHOODS) as u8,
+        94..=96 => random.pick(&REFUSED) as u8,
+        _ => random.below(256) as u8,
+    };
     let mut end = || match random.below(40) {
         0 => count + random.below(3),
         1 => random.below(1 << 16),
@@ -46,8 +54,9 @@ fn any_job(random: &mut Random, count: u64, pinches: &[usize]) -> Vec<u8> {
         4..=6 if !pinches.is_empty() => random.pick(pinches) as u64,
         _ => random.below(count),
     };
-    let (start, goal) = (end(), end());
-    stream::job_record(neighbourhood, start, goal)
+    let (other, goal) = (end(), end());
+    *start = if random.percent(25) { *start } else { other };
+    stream::job_record(neighbourhood, *start, goal)
 }
 
 /// The stream with one fault in a record, or after the last.

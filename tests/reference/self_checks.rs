@@ -2,13 +2,14 @@
 
 use crate::closures::{Rectangle, Table};
 use crate::floor::Floor;
-use crate::graph::{self, Graph};
+use crate::graph::{self, Graph, NEIGHBOURHOODS};
 use crate::layouts::{self, KINDS};
 use crate::natural::Natural;
 use crate::packed::{self, PackedFloor};
 use crate::random::Random;
 use crate::sheet::{self, Handed, Request, Sheet, Solver, Truth, NO_WALK};
 use crate::sight::{self, Obstacle, Point};
+use crate::sixteen::REFUSED;
 use crate::vectors::{self, Tally};
 use crate::{answers, count, format, jobs, thin};
 use std::collections::{BTreeMap, BTreeSet};
@@ -25,8 +26,9 @@ pub fn run(tally: &mut Tally) {
     costs_by_local_law(tally);
     thinning(tally);
     streams(tally);
-    streams_of_maps(tally);
-    streams_of_next(tally);
+    let stream = jobs::make(6, 30, false);
+    streams_of_maps(tally, &stream);
+    streams_of_next(tally, &stream);
 }
 
 fn naturals(tally: &mut Tally) {
@@ -87,7 +89,7 @@ fn first_on_the_way(floor: &Floor, from: Point, to: Point) -> Option<Point> {
 }
 
 /// Whether one diagonal pair of the four cells at a point is blocked and the other open.
-fn is_pinched(floor: &Floor, (x, y): Point) -> bool {
+pub fn is_pinched(floor: &Floor, (x, y): Point) -> bool {
     let [nw, ne, sw, se] = [(x - 1, y - 1), (x, y - 1), (x - 1, y), (x, y)].map(|(i, j)| floor.is_blocked(i, j));
     nw == se && ne == sw && nw != ne
 }
@@ -217,7 +219,7 @@ fn packing(tally: &mut Tally) {
 }
 
 /// All floors of a size, one for each set of blocked cells.
-fn all_floors(width: u64, height: u64) -> impl Iterator<Item = Floor> {
+pub fn all_floors(width: u64, height: u64) -> impl Iterator<Item = Floor> {
     let cells = width * height;
     (0..1u32 << cells).map(move |bits| {
         Floor::new(width, height, (0..cells).map(|c| (bits >> c & 1) as u8).collect())
@@ -229,7 +231,7 @@ fn all_floors(width: u64, height: u64) -> impl Iterator<Item = Floor> {
 fn tiny_floors(tally: &mut Tally) {
     for (width, height) in [(1, 1), (2, 1), (1, 3), (2, 2), (3, 2)] {
         for floor in all_floors(width, height) {
-            for neighbourhood in [4, 8] {
+            for neighbourhood in NEIGHBOURHOODS {
                 tiny_graph(tally, &floor, neighbourhood);
                 tiny_jobs(tally, &floor, neighbourhood);
             }
@@ -337,7 +339,7 @@ fn next_walks(tally: &mut Tally) {
             let size = solver.floor.vertex_count();
             for _ in 0..12 {
                 let (start, goal) = (random.index(size), random.index(size));
-                let neighbourhood = random.pick(&[4, 8]);
+                let neighbourhood = random.pick(&NEIGHBOURHOODS);
                 let request = Request { neighbourhood, start: start as u64, goal: goal as u64 };
                 let truth = solver.truth(neighbourhood, start, goal);
                 let holds = match &*truth {
@@ -353,35 +355,41 @@ fn next_walks(tally: &mut Tally) {
 /// Every single place of a sheet matters to the checker.
 fn checker_on_damage(tally: &mut Tally) {
     let floor = Floor::new(3, 2, vec![0, 0, 0, 1, 0, 0]);
-    let planned = vectors::plan(&floor, 8, 0, 11);
-    for place in 0..floor.vertex_count() {
-        let mut damaged = vec![planned.sheet.clone(); 6];
-        damaged[0].d[place] ^= 1;
-        damaged[1].e[place] ^= 1;
-        damaged[2].f[place] ^= 1;
-        damaged[3].b[place] ^= 1;
-        damaged[4].route[place] ^= 1;
-        damaged[5].next[place] ^= 1;
-        for sheet in &damaged {
-            tally.equal("damage", vectors::check(&floor, 8, 0, 11, sheet), 9);
+    for neighbourhood in [8, 16] {
+        let planned = vectors::plan(&floor, neighbourhood, 0, 11);
+        for place in 0..floor.vertex_count() {
+            let mut damaged = vec![planned.sheet.clone(); 6];
+            damaged[0].d[place] ^= 1;
+            damaged[1].e[place] ^= 1;
+            damaged[2].f[place] ^= 1;
+            damaged[3].b[place] ^= 1;
+            damaged[4].route[place] ^= 1;
+            damaged[5].next[place] ^= 1;
+            for sheet in &damaged {
+                tally.equal("damage", vectors::check(&floor, neighbourhood, 0, 11, sheet), 9);
+            }
         }
+        let mut solver = Solver::new(floor.clone());
+        let request = Request { neighbourhood, start: 0, goal: 11 };
+        tally.holds("every other number at a place of next", other_next_refused(&mut solver, request, &planned.sheet));
+        let more = sheet::Sheet { n: planned.sheet.n + 1, ..planned.sheet };
+        tally.equal("another n", vectors::check(&floor, neighbourhood, 0, 11, &more), 9);
     }
-    let request = Request { neighbourhood: 8, start: 0, goal: 11 };
-    let (mut solver, mut refused) = (Solver::new(floor), true);
-    let mut s = planned.sheet.clone();
+}
+
+/// Whether the true sheet is refused with any other number at any place of next.
+fn other_next_refused(solver: &mut Solver, request: Request, sheet: &Sheet) -> bool {
+    let (mut s, mut refused) = (sheet.clone(), true);
     for place in 0..s.next.len() {
         let old = s.next[place];
         for value in (0..=u16::MAX).filter(|&value| value != old) {
             s.next[place] = value;
             let handed = Handed { d: &s.d, e: &s.e, f: &s.f, b: &s.b, route: &s.route, next: &s.next, n: s.n };
-            refused &= sheet::check(&mut solver, request, &handed) == 9;
+            refused &= sheet::check(solver, request, &handed) == 9;
         }
         s.next[place] = old;
     }
-    tally.holds("every other number at a place of next", refused);
-    let floor = solver.floor;
-    let more = sheet::Sheet { n: planned.sheet.n + 1, ..planned.sheet };
-    tally.equal("another n", vectors::check(&floor, 8, 0, 11, &more), 9);
+    refused
 }
 
 /// Whether costs obey the local law: 0 at the start, and at every other vertex the least of the neighbours' costs, each
@@ -399,10 +407,12 @@ fn obeys_local_law(reversed: &Graph, start: usize, d: &[u32]) -> bool {
 /// all lists of a few numbers are tried on small floors.
 fn costs_by_local_law(tally: &mut Tally) {
     let numbers = [0, 407, 408, 577, 816, 985, NO_WALK - 1, NO_WALK];
+    let of_sixteen = [0, 999, 1000, 1414, 2000, 2236, NO_WALK - 1, NO_WALK];
     let floors = [(1, vec![0]), (1, vec![1]), (2, vec![0, 0]), (2, vec![1, 0])];
     for (width, cells) in floors {
         let floor = Floor::new(width, 1, cells);
-        for neighbourhood in [4, 8] {
+        for neighbourhood in NEIGHBOURHOODS {
+            let numbers = if neighbourhood == 16 { of_sixteen } else { numbers };
             let mut solver = Solver::new(floor.clone());
             let reversed = &solver.graphs(neighbourhood).1;
             let truth = solver.costs(neighbourhood, 1);
@@ -417,12 +427,14 @@ fn costs_by_local_law(tally: &mut Tally) {
         }
     }
     let floor = Floor::new(3, 2, vec![0, 0, 0, 1, 0, 0]);
-    let truth = vectors::plan(&floor, 8, 0, 11).sheet.d;
-    for place in 0..floor.vertex_count() {
-        let mut d = truth.clone();
-        d[place] ^= 1;
-        let request = Request { neighbourhood: 8, start: 0, goal: 11 };
-        tally.equal("damaged costs", vectors::finish_from(&floor, request, &d, 12).answer, 9);
+    for neighbourhood in [8, 16] {
+        let truth = vectors::plan(&floor, neighbourhood, 0, 11).sheet.d;
+        for place in 0..floor.vertex_count() {
+            let mut d = truth.clone();
+            d[place] ^= 1;
+            let request = Request { neighbourhood, start: 0, goal: 11 };
+            tally.equal("damaged costs", vectors::finish_from(&floor, request, &d, 12).answer, 9);
+        }
     }
 }
 
@@ -453,8 +465,10 @@ fn thinning(tally: &mut Tally) {
 
 /// A short job stream has every answer in it, and is read to its end.
 fn streams(tally: &mut Tally) {
-    let text = answers::run(&jobs::make(5, 160, true)).unwrap_or_default();
+    let stream = jobs::make(5, 120, true);
+    let text = answers::run(&stream).unwrap_or_default();
     tally.holds("a stream ends", text.ends_with("\nend\n"));
+    streams_of_neighbourhoods(tally, &stream, &text);
     let has = |start: &str| text.lines().any(|line| format!("{line} ").starts_with(start));
     for answer in [0, 1, 2, 3, 4, 5, 6, 11] {
         tally.holds(&format!("costs answers {answer}"), has(&format!("costs {answer} ")));
@@ -487,11 +501,56 @@ fn streams(tally: &mut Tally) {
     }
 }
 
+/// The neighbourhoods of a stream: every answer of each of them, refusals of numbers that are none, and costs of one
+/// handed in for another, with the same start: for each pair false ones, and, where little is reached, true ones.
+fn streams_of_neighbourhoods(tally: &mut Tally, stream: &[u8], text: &str) {
+    let mut input = stream;
+    let (mut answered, mut handed, mut filled) = (BTreeSet::new(), BTreeSet::new(), None);
+    for line in text.lines() {
+        let Some(record) = format::Record::read(&mut input) else { break };
+        let (operation, neighbourhood, start) = (record.operation, record.words[0], record.words[1]);
+        let answer = line.split(' ').nth(1).and_then(|word| word.parse::<u8>().ok());
+        if [format::COSTS, format::FINISH, format::CHECK].contains(&operation) {
+            answered.insert((operation, neighbourhood, answer));
+        }
+        match (operation, filled) {
+            (format::COSTS, _) => filled = (answer == Some(0)).then_some((neighbourhood, start)),
+            (format::FINISH, Some((of, from))) if from == start && record.payload.is_empty() => {
+                handed.insert((of, neighbourhood, answer == Some(9)));
+            }
+            (format::LOAD | format::FLOOR, _) => filled = None,
+            _ => {}
+        }
+    }
+    let own: [(u8, &[u8]); 3] = [
+        (format::COSTS, &[0, 1, 2, 3, 5, 6, 11]),
+        (format::FINISH, &[0, 1, 2, 3, 5, 6, 7, 8, 9, 11]),
+        (format::CHECK, &[0, 1, 2, 3, 5, 6, 7, 9, 11]),
+    ];
+    for neighbourhood in NEIGHBOURHOODS.map(|number| number as u32) {
+        for (operation, answers) in own {
+            for &answer in answers {
+                let has = answered.contains(&(operation, neighbourhood, Some(answer)));
+                tally.holds(&format!("neighbourhood {neighbourhood}, operation {operation}, answer {answer}"), has);
+            }
+        }
+        for other in NEIGHBOURHOODS.map(|number| number as u32).into_iter().filter(|&other| other != neighbourhood) {
+            for is_false in [true, false] {
+                let has = handed.contains(&(neighbourhood, other, is_false));
+                tally.holds(&format!("costs of {neighbourhood} for {other}, false: {is_false}"), has);
+            }
+        }
+    }
+    for number in REFUSED.map(|number| number as u32) {
+        let all = own.iter().all(|&(operation, _)| answered.contains(&(operation, number, Some(4))));
+        tally.holds(&format!("neighbourhood {number} refused"), all);
+    }
+}
+
 /// The maps of a stream: for each W·H modulo 8 good ones, each unused bit alone, and lengths off by one either way; as
 /// floors and as base maps of closures.
-fn streams_of_maps(tally: &mut Tally) {
-    let stream = jobs::make(6, 30, false);
-    let mut input = stream.as_slice();
+fn streams_of_maps(tally: &mut Tally, stream: &[u8]) {
+    let mut input = stream;
     let (mut floors, mut bases): (Vec<PackedFloor>, Vec<PackedFloor>) = (Vec::new(), Vec::new());
     while let Some(record) = format::Record::read(&mut input) {
         if record.operation == format::FLOOR {
@@ -519,9 +578,8 @@ fn streams_of_maps(tally: &mut Tally) {
 
 /// The next vertices of a stream: on floors with few vertices each place with each other vertex, and lengths off by
 /// one, of the second operation and of the checker.
-fn streams_of_next(tally: &mut Tally) {
-    let stream = jobs::make(6, 30, false);
-    let mut input = stream.as_slice();
+fn streams_of_next(tally: &mut Tally, stream: &[u8]) {
+    let mut input = stream;
     let (mut floor, mut size) = (0, 0);
     let mut changed: BTreeMap<(usize, u64, [u32; 3]), BTreeSet<(usize, u64)>> = BTreeMap::new();
     let mut lengths = BTreeSet::new();

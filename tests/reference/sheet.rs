@@ -2,7 +2,7 @@
 
 use crate::count;
 use crate::floor::Floor;
-use crate::graph::{self, Distances, Edge, Graph};
+use crate::graph::{self, Distances, Edge, Graph, NEIGHBOURHOODS};
 use crate::natural::Natural;
 use crate::sight;
 use std::cmp::Reverse;
@@ -37,6 +37,15 @@ pub enum Truth {
     NoRoute { sheet: Sheet },
     /// Holds d and e, the rest 0.
     TooMany { sheet: Sheet },
+}
+
+impl Truth {
+    /// The sheet that the job leaves.
+    pub fn sheet(&self) -> &Sheet {
+        match self {
+            Truth::Route { sheet, .. } | Truth::NoRoute { sheet } | Truth::TooMany { sheet } => sheet,
+        }
+    }
 }
 
 /// A floor with what has been computed for it.
@@ -78,11 +87,15 @@ impl Solver {
         let key = (neighbourhood, start, goal);
         if !self.truths.contains_key(&key) {
             let graphs = self.graphs(neighbourhood);
-            let job = Job { graph: &graphs.0, reversed: &graphs.1, start, goal };
-            self.truths.insert(key, Rc::new(job.solve()));
+            self.truths.insert(key, Rc::new(solve(&graphs.0, &graphs.1, start, goal)));
         }
         Rc::clone(&self.truths[&key])
     }
+}
+
+/// The truth of a job on a graph of moves, which is given turned round too.
+pub fn solve(graph: &Graph, reversed: &Graph, start: usize, goal: usize) -> Truth {
+    Job { graph, reversed, start, goal }.solve()
 }
 
 struct Job<'a> {
@@ -212,7 +225,7 @@ impl Request {
         if let Some(fault) = floor.shape_fault() {
             return Some(fault);
         }
-        if self.neighbourhood != 4 && self.neighbourhood != 8 {
+        if !NEIGHBOURHOODS.contains(&self.neighbourhood) {
             return Some(4);
         }
         let count = floor.vertex_count() as u64;

@@ -93,7 +93,7 @@ fn first_pinch(floor: &Floor, from: Point, to: Point) -> Option<Point> {
 }
 
 /// Whether no blocked cell is entered and no step is shut.
-fn is_unblocked(floor: &Floor, from: Point, to: Point) -> bool {
+pub fn is_unblocked(floor: &Floor, from: Point, to: Point) -> bool {
     if from.0 == to.0 {
         !vertical_is_shut(floor, from.0, from.1, to.1)
     } else if from.1 == to.1 {

@@ -1,6 +1,7 @@
 //! Record streams for a test of the program.
 
 use crate::floor::Floor;
+use crate::graph::NEIGHBOURHOODS;
 use crate::random::Random;
 
 /// Halls of the long stream's floor, in rows; the last is walled off.
@@ -52,11 +53,11 @@ pub fn halls_floor() -> Floor {
 fn halls_job(random: &mut Random, k: u64) -> Vec<u8> {
     let count = (SIDE + 1) * (SIDE + 1);
     let first_sealed = (wall_rows()[4] + 1) * (SIDE + 1);
-    let neighbourhood = random.pick(&[4, 8]);
+    let neighbourhood = random.pick(&NEIGHBOURHOODS) as u8;
     let inside = random.below(first_sealed);
     let sealed = random.within(first_sealed, count - 1);
     match k % 13 {
-        2 => job_record(random.pick(&[0, 1, 2, 3, 5, 7, 9, 16, 255]), inside, sealed),
+        2 => job_record(random.pick(&[0, 1, 2, 3, 5, 7, 9, 12, 15, 17, 24, 32, 255]), inside, sealed),
         4 => job_record(neighbourhood, random.pick(&[count, count + 1, 65_535]), inside),
         5 => job_record(neighbourhood, inside, random.pick(&[count, count + 256, 32_768])),
         7 => job_record(neighbourhood, inside, sealed),
@@ -87,6 +88,9 @@ pub fn short_streams() -> Vec<Vec<u8>> {
     let pinched = map_record(&Floor::new(2, 2, vec![1, 0, 0, 1]));
     let pinched_jobs = [(8, 2, 6), (8, 2, 4), (8, 4, 2), (4, 4, 4), (8, 4, 9), (8, 9, 4), (5, 4, 9), (8, 2, 5)];
     let pinched_jobs = pinched_jobs.map(|(neighbourhood, start, goal)| job_record(neighbourhood, start, goal)).concat();
+    // From one start with one neighbourhood after the other: the costs of the job before are true, or false.
+    let in_turn = |goal: u64| [4, 8, 16, 16, 8, 4, 16, 4].map(|number| job_record(number, 0, goal)).concat();
+    let others = [12, 15, 16, 17, 24, 32].map(|number| job_record(number, 0, 5)).concat();
     vec![
         joined(&[&map, &job]),
         Vec::new(),
@@ -105,5 +109,9 @@ pub fn short_streams() -> Vec<Vec<u8>> {
         joined(&[&map_record(&Floor::open(31, 31)), &job_record(8, 0, 1023), &job_record(4, 0, 1024)]),
         joined(&[&map, &job_record(3, 9, 9), &job_record(8, 4, 0), &job_record(8, 0, 4), &job_record(8, 2, 2)]),
         joined(&[&pinched, &pinched_jobs]),
+        joined(&[&map_record(&Floor::open(2, 1)), &job_record(16, 0, 5)]),
+        joined(&[&map_record(&Floor::open(2, 1)), &in_turn(5), &others]),
+        joined(&[&map_record(&Floor::new(1, 1, vec![1])), &in_turn(3), &in_turn(0)]),
+        joined(&[&map_record(&Floor::with_blocked(4, 2, &[2, 5])), &job_record(16, 0, 14), &job_record(16, 0, 7)]),
     ]
 }

@@ -7,7 +7,7 @@ use crate::natural::{binomial, Natural};
 use crate::packed::{self, PackedFloor};
 use crate::sheet::{self, Handed, Lent, PlanAnswer, Request, Sheet, Solver, NO_WALK};
 use crate::sight::{self, Obstacle};
-use crate::{boundary, program, self_checks, stream, thin};
+use crate::{boundary, program, self_checks, sixteen, stream, thin};
 
 /// Counts what holds and prints what does not.
 pub struct Tally {
@@ -53,6 +53,7 @@ pub fn run() -> bool {
     source_002_sight(&mut tally);
     source_003(&mut tally);
     programs(&mut tally);
+    sixteen::run(&mut tally);
     self_checks::run(&mut tally);
     println!("reference: {} answers hold, {} do not", tally.passed, tally.failed);
     tally.failed == 0
@@ -106,7 +107,7 @@ pub fn check(floor: &Floor, neighbourhood: u64, start: u64, goal: u64, s: &Sheet
 }
 
 impl Planned {
-    fn points(&self) -> &[u16] {
+    pub fn points(&self) -> &[u16] {
         &self.sheet.route[..self.answer.n as usize]
     }
 
@@ -115,15 +116,15 @@ impl Planned {
     }
 }
 
-fn route(cost: u64, total: u64, n: u64) -> PlanAnswer {
+pub fn route(cost: u64, total: u64, n: u64) -> PlanAnswer {
     PlanAnswer { answer: 0, cost, total, n }
 }
 
-fn refusal(answer: u8) -> PlanAnswer {
+pub fn refusal(answer: u8) -> PlanAnswer {
     PlanAnswer { answer, cost: 0, total: 0, n: 0 }
 }
 
-fn sheet_of(d: &[u32], e: &[u32], f: &[u64], b: &[u64], points: &[u16], next: &[u16]) -> Sheet {
+pub fn sheet_of(d: &[u32], e: &[u32], f: &[u64], b: &[u64], points: &[u16], next: &[u16]) -> Sheet {
     let mut route = points.to_vec();
     route.resize(d.len(), 0);
     let (d, e, f, b, next) = (d.to_vec(), e.to_vec(), f.to_vec(), b.to_vec(), next.to_vec());
@@ -131,7 +132,7 @@ fn sheet_of(d: &[u32], e: &[u32], f: &[u64], b: &[u64], points: &[u16], next: &[
 }
 
 /// The sheet of a job that no walk joins.
-fn no_route_sheet(d: &[u32]) -> Sheet {
+pub fn no_route_sheet(d: &[u32]) -> Sheet {
     Sheet { d: d.to_vec(), ..Sheet::zeros(d.len()) }
 }
 
@@ -672,6 +673,20 @@ fn programs(tally: &mut Tally) {
     let example = "job 1: cost 816 routes 2 points 3 kept 2\nat 0 3\n";
     let bytes = [0x4D, 0x50, 1, 1, 0, 0x4A, 0x42, 4, 0, 0, 3, 0];
     tally.equal("program example", program::run(&bytes), example.to_string());
+    let bytes = [0x4D, 0x50, 2, 1, 0, 0, 0x4A, 0x42, 0x10, 0, 0, 5, 0];
+    let case_e = "job 1: cost 2236 routes 1 points 2 kept 2\nat 0 5\n";
+    tally.equal("program, e with 16", program::run(&bytes), case_e.to_string());
+    let with_4 = "cost 1224 routes 3 points 4 kept 2\nat 0 5";
+    let with_8 = "cost 985 routes 2 points 3 kept 2\nat 0 5";
+    let with_16 = "cost 2236 routes 1 points 2 kept 2\nat 0 5";
+    let with_none = "refused 4";
+    let alone = "cost 0 routes 1 points 1 kept 1\nat 0";
+    // The lines of jobs from a number on.
+    let jobs = |first: usize, texts: &[&str]| -> String {
+        texts.iter().zip(first..).map(|(text, number)| format!("job {number}: {text}\n")).collect()
+    };
+    let e_in_turn = jobs(1, &[with_4, with_8, with_16, with_16, with_8, with_4, with_16, with_4]);
+    let e_refused = jobs(9, &[with_none, with_none, with_16, with_none, with_none, with_none]);
     let expected = [
         example,
         "bad record at 0\n",
@@ -692,6 +707,11 @@ fn programs(tally: &mut Tally) {
         // Request 5: 4, then 5 for either end, then 11.
         "job 1: refused 7\njob 2: refused 11\njob 3: refused 11\njob 4: refused 11\njob 5: refused 5\n\
          job 6: refused 5\njob 7: refused 4\njob 8: cost 408 routes 1 points 2 kept 2\nat 2 5\n",
+        // Request 8: case e with 16; e with each in turn, and 4 for what is none; c, and d on its floor; a pinch.
+        case_e,
+        &(e_in_turn + &e_refused),
+        &(jobs(1, &["refused 7"; 8]) + &jobs(9, &[alone; 8])),
+        "job 1: refused 7\njob 2: refused 11\n",
     ];
     let streams = stream::short_streams();
     tally.equal("short streams", streams.len(), expected.len());
