@@ -1,6 +1,7 @@
 /* Plans two jobs from one dock round a wall, then round a closure that is posted on the floor and struck again. The
  * costs from the dock are worked out once for each map. Each sheet is checked, each route thinned to the vertices that
- * a cart needs, and a cart that is shoved to another vertex on the way goes on from there. */
+ * a cart needs, and a cart that is shoved to another vertex on the way goes on from there. At last the jobs are planned
+ * for a cart that steers finely, with sixteen moves. */
 #include <inttypes.h>
 #include <stdio.h>
 #include <string.h>
@@ -10,7 +11,7 @@
 #error "written for packed maps and a sheet with next vertices"
 #endif
 
-enum { WIDTH = 7, HEIGHT = 5, COLUMNS = WIDTH + 1, VERTICES = COLUMNS * (HEIGHT + 1), NEIGHBOURHOOD = 8 };
+enum { WIDTH = 7, HEIGHT = 5, COLUMNS = WIDTH + 1, VERTICES = COLUMNS * (HEIGHT + 1) };
 enum { CELLS = WIDTH * HEIGHT, MAP_BYTES = (CELLS + 7) / 8 };
 
 /* The cells of the base map, a byte each. */
@@ -83,10 +84,10 @@ static int show_obstacle(uint32_t a, uint32_t b)
 }
 
 /* Finishes the job from vertex a to vertex b from the costs in d. */
-static lurfanzi_plan_result finish_job(uint32_t a, uint32_t b)
+static lurfanzi_plan_result finish_job(uint32_t neighbourhood, uint32_t a, uint32_t b)
 {
     return lurfanzi_finish(
-        WIDTH, HEIGHT, map, sizeof map, NEIGHBOURHOOD, a, b,
+        WIDTH, HEIGHT, map, sizeof map, neighbourhood, a, b,
         d, VERTICES, e, VERTICES, f, VERTICES, back, VERTICES, route, VERTICES, next, VERTICES, work, 4 * VERTICES);
 }
 
@@ -109,9 +110,9 @@ static void show_shoved(uint32_t v, uint32_t b)
 
 /* Finishes a job, checks the sheet and thins the route; whether all three answered 0. On the way to b a cart is shoved
  * to vertex v. */
-static int show_job(uint32_t a, uint32_t b, uint32_t v)
+static int show_job(uint32_t neighbourhood, uint32_t a, uint32_t b, uint32_t v)
 {
-    lurfanzi_plan_result plan = finish_job(a, b);
+    lurfanzi_plan_result plan = finish_job(neighbourhood, a, b);
     printf("to");
     print_vertex(b);
     if (plan.answer != LURFANZI_OK) {
@@ -124,7 +125,7 @@ static int show_job(uint32_t a, uint32_t b, uint32_t v)
     printf("\n");
 
     uint8_t verdict = lurfanzi_check(
-        WIDTH, HEIGHT, map, sizeof map, NEIGHBOURHOOD, a, b,
+        WIDTH, HEIGHT, map, sizeof map, neighbourhood, a, b,
         d, VERTICES, e, VERTICES, f, VERTICES, back, VERTICES, route, VERTICES, next, VERTICES, plan.points);
     printf("the checker answers %d\n", verdict);
 
@@ -138,11 +139,12 @@ static int show_job(uint32_t a, uint32_t b, uint32_t v)
 }
 
 /* Plans two jobs from one dock: their costs from it are worked out once. */
-static int show_jobs(uint32_t dock, uint32_t b, uint32_t c)
+static int show_jobs(uint32_t neighbourhood, uint32_t dock, uint32_t b, uint32_t c)
 {
     uint8_t answer = lurfanzi_costs(
-        WIDTH, HEIGHT, map, sizeof map, NEIGHBOURHOOD, dock, d, VERTICES, work, 4 * VERTICES);
-    return answer == LURFANZI_OK && show_job(dock, b, vertex(4, 2)) && show_job(dock, c, vertex(5, 0));
+        WIDTH, HEIGHT, map, sizeof map, neighbourhood, dock, d, VERTICES, work, 4 * VERTICES);
+    return answer == LURFANZI_OK && show_job(neighbourhood, dock, b, vertex(4, 2)) &&
+           show_job(neighbourhood, dock, c, vertex(5, 0));
 }
 
 /* Writes the map with the closures on it; whether the library took it. */
@@ -156,18 +158,22 @@ int main(void)
     const uint32_t dock = vertex(0, 4), b = vertex(7, 5), c = vertex(7, 0), corner = vertex(4, 1);
 
     pack(cells, CELLS, base);
-    if (!draw_map() || !show_obstacle(dock, b) || !show_jobs(dock, b, c)) return 1;
+    if (!draw_map() || !show_obstacle(dock, b) || !show_jobs(8, dock, b, c)) return 1;
 
     /* A wet floor of 2 by 2 cells, from column 4 and row 1 on. */
     lurfanzi_post_result posted = lurfanzi_post(WIDTH, HEIGHT, slots, 4, 1, 2, 2);
     if (posted.answer != LURFANZI_OK) return 1;
     printf("posted in slot %" PRIu32 "\n", posted.slot);
     if (!draw_map() || !show_obstacle(corner, b)) return 1;
-    printf("from the costs of the map before: answer %d\n", finish_job(dock, b).answer);
-    if (!show_jobs(dock, b, c)) return 1;
+    printf("from the costs of the map before: answer %d\n", finish_job(8, dock, b).answer);
+    if (!show_jobs(8, dock, b, c)) return 1;
 
     if (lurfanzi_strike(WIDTH, HEIGHT, slots, posted.slot) != LURFANZI_OK) return 1;
     printf("struck slot %" PRIu32 "\n", posted.slot);
-    if (!draw_map() || !show_obstacle(corner, b) || !show_jobs(dock, b, c)) return 1;
+    if (!draw_map() || !show_obstacle(corner, b) || !show_jobs(8, dock, b, c)) return 1;
+
+    /* Sixteen moves, at costs of their own: the costs of eight are not theirs. */
+    printf("with sixteen moves, from the costs of eight: answer %d\n", finish_job(16, dock, b).answer);
+    if (!show_jobs(16, dock, b, c)) return 1;
     return 0;
 }

@@ -27,7 +27,7 @@ pub struct Floor<'a> {
     pub map: &'a [u8],
 }
 
-/// What is asked on a floor: the neighbourhood, 4 or 8, and the vertices at the ends.
+/// What is asked on a floor: the neighbourhood, 4, 8 or 16, and the vertices at the ends.
 #[derive(Clone, Copy, Debug)]
 pub struct Job {
     pub neighbourhood: u32,
@@ -171,7 +171,7 @@ impl std::fmt::Display for Refusal {
             Refusal::BadSize => "a side is not 1 to 127",
             Refusal::BadMapLength => "the map has not width * height / 8 bytes, rounded up",
             Refusal::UnusedBit => "an unused bit of the map is set",
-            Refusal::BadNeighbourhood => "the neighbourhood is not 4 or 8",
+            Refusal::BadNeighbourhood => "the neighbourhood is not 4, 8 or 16",
             Refusal::BadEnd => "an end is not a vertex",
             Refusal::BadSliceLength => "a slice has another length than asked",
             Refusal::NoRoute => "no open walk joins the ends",
@@ -458,6 +458,7 @@ mod tests {
     /// Cell 1 is blocked.
     const SHUT: Floor = Floor { width: 2, height: 1, map: &[2] };
     const JOB: Job = Job { neighbourhood: 8, a: 0, b: 5 };
+    const FINE: Job = Job { neighbourhood: 16, ..JOB };
     /// Cells 0 and 3 are blocked, and vertex 4 is a pinch.
     const TOUCHING: Floor = Floor { width: 2, height: 2, map: &[9] };
 
@@ -485,6 +486,9 @@ mod tests {
         let plan = Plan { cost: 985, total: 2, points: 3 };
         assert_eq!(plan_and_check(OPEN, JOB, 6, 24), (Ok(plan), Ok(Verdict::Route)));
         assert_eq!(plan_and_check(SHUT, JOB, 6, 24), (Err(Refusal::NoRoute), Ok(Verdict::NoRoute)));
+        let plan = Plan { cost: 2236, total: 1, points: 2 };
+        assert_eq!(plan_and_check(OPEN, FINE, 6, 24), (Ok(plan), Ok(Verdict::Route)));
+        assert_eq!(plan_and_check(SHUT, FINE, 6, 24), (Err(Refusal::NoRoute), Ok(Verdict::NoRoute)));
         let largest = Floor { width: 127, height: 127, map: &[0; 2017] };
         let corners = Job { neighbourhood: 4, a: 0, b: 16_383 };
         assert_eq!(plan_and_check(largest, corners, 16_384, 65_536), (Err(Refusal::TooMany), Ok(Verdict::FalseSheet)));
@@ -498,7 +502,9 @@ mod tests {
         refused(Floor { map: &[0, 0], ..OPEN }, JOB, 6, Refusal::BadMapLength);
         refused(Floor { map: &[4], ..OPEN }, JOB, 6, Refusal::UnusedBit);
         refused(Floor { map: &[128], ..OPEN }, JOB, 6, Refusal::UnusedBit);
-        refused(OPEN, Job { neighbourhood: 260, ..JOB }, 6, Refusal::BadNeighbourhood);
+        for neighbourhood in [0, 5, 12, 15, 17, 24, 32, 260, 272] {
+            refused(OPEN, Job { neighbourhood, ..JOB }, 6, Refusal::BadNeighbourhood);
+        }
         refused(OPEN, Job { a: 6, ..JOB }, 6, Refusal::BadEnd);
         refused(OPEN, Job { b: u32::MAX, ..JOB }, 6, Refusal::BadEnd);
         refused(OPEN, JOB, 5, Refusal::BadSliceLength);
@@ -545,6 +551,7 @@ mod tests {
         assert_eq!(finish_from(OPEN, Job { b: 0, ..JOB }, &d, 6), Ok(Plan { cost: 0, total: 1, points: 1 }));
         assert_eq!(finish_from(OPEN, Job { a: 1, ..JOB }, &d, 6), Err(Refusal::FalseCosts));
         assert_eq!(finish_from(OPEN, Job { neighbourhood: 4, ..JOB }, &d, 6), Err(Refusal::FalseCosts));
+        assert_eq!(finish_from(OPEN, FINE, &d, 6), Err(Refusal::FalseCosts));
         assert_eq!(finish_from(SHUT, JOB, &d, 6), Err(Refusal::FalseCosts));
         assert_eq!(finish_from(SHUT, JOB, &d, 5), Err(Refusal::BadSliceLength));
         assert_eq!(finish_from(OPEN, JOB, &d[..5], 6), Err(Refusal::BadSliceLength));
@@ -552,6 +559,32 @@ mod tests {
         assert_eq!(costs(SHUT, 8, 0, &mut d, &mut work), Ok(()));
         assert_eq!(d, [0, 408, UNREACHABLE, 408, 577, UNREACHABLE]);
         assert_eq!(finish_from(SHUT, JOB, &d, 6), Err(Refusal::NoRoute));
+    }
+
+    /// The costs of neighbourhood 16 are its own; all neighbourhoods share them where nothing is reached.
+    #[test]
+    fn one_start_with_sixteen() {
+        let (mut d, mut work) = ([7; 6], [7; 24]);
+        assert_eq!(costs(OPEN, 16, 0, &mut d, &mut work), Ok(()));
+        assert_eq!((d, work), ([0, 1000, 2000, 1000, 1414, 2236], [0; 24]));
+        for (b, points) in (0..6).zip([1, 2, 3, 2, 2, 2]) {
+            let plan = Plan { cost: d[b as usize], total: 1, points };
+            assert_eq!(finish_from(OPEN, Job { b, ..FINE }, &d, 6), Ok(plan));
+        }
+        for neighbourhood in [4, 8] {
+            assert_eq!(finish_from(OPEN, Job { neighbourhood, ..FINE }, &d, 6), Err(Refusal::FalseCosts));
+        }
+        assert_eq!(finish_from(OPEN, Job { neighbourhood: 12, ..FINE }, &d, 6), Err(Refusal::BadNeighbourhood));
+        assert_eq!(costs(SHUT, 16, 0, &mut d, &mut work), Ok(()));
+        assert_eq!(d, [0, 1000, UNREACHABLE, 1000, 1414, UNREACHABLE]);
+        let blocked = Floor { map: &[3], ..OPEN };
+        let mut alone = [UNREACHABLE; 6];
+        alone[0] = 0;
+        for neighbourhood in [4, 8, 16] {
+            assert_eq!(costs(blocked, neighbourhood, 0, &mut d, &mut work), Ok(()));
+            assert_eq!(d, alone);
+            assert_eq!(finish_from(blocked, Job { neighbourhood, ..JOB }, &d, 6), Err(Refusal::NoRoute));
+        }
     }
 
     /// The next vertices that a plan leaves, and the checker's verdict with another number at a place.

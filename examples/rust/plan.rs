@@ -1,6 +1,7 @@
 //! Plans two jobs from one dock round a wall, then round a closure that is posted on the floor and struck again. The
 //! costs from the dock are worked out once for each map. Each sheet is checked, each route thinned to the vertices that
-//! a cart needs, and a cart that is shoved to another vertex on the way goes on from there.
+//! a cart needs, and a cart that is shoved to another vertex on the way goes on from there. At last the jobs are
+//! planned for a cart that steers finely, with sixteen moves.
 
 // Not every item of the wrapper is used here.
 #[allow(dead_code)]
@@ -12,7 +13,6 @@ use lurfanzi::{Closures, Floor, Job, Obstacle, Rectangle, Refusal, SheetMut};
 const WIDTH: u32 = 7;
 const HEIGHT: u32 = 5;
 const COLUMNS: u32 = WIDTH + 1;
-const NEIGHBOURHOOD: u32 = 8;
 
 /// The cells of the base map, a byte each.
 const CELLS: [u8; 35] = [
@@ -79,11 +79,11 @@ fn show_job(floor: Floor, job: Job, d: &[u32], v: u32) -> Result<(), Refusal> {
 
 /// Plans jobs from one dock: the costs from it are worked out once, and the jobs share them. Each job has its end, and
 /// the vertex to which a cart is shoved.
-fn show_jobs(floor: Floor, dock: u32, jobs: &[(u32, u32)]) -> Result<Vec<u32>, Refusal> {
+fn show_jobs(floor: Floor, neighbourhood: u32, dock: u32, jobs: &[(u32, u32)]) -> Result<Vec<u32>, Refusal> {
     let mut d = vec![0; floor.vertices()];
-    costs(floor, NEIGHBOURHOOD, dock, &mut d, &mut vec![0; 4 * floor.vertices()])?;
+    costs(floor, neighbourhood, dock, &mut d, &mut vec![0; 4 * floor.vertices()])?;
     for &(b, v) in jobs {
-        show_job(floor, Job { neighbourhood: NEIGHBOURHOOD, a: dock, b }, &d, v)?;
+        show_job(floor, Job { neighbourhood, a: dock, b }, &d, v)?;
     }
     Ok(d)
 }
@@ -94,7 +94,7 @@ fn main() -> Result<(), Refusal> {
     let base_map = pack(&CELLS);
     let base = Floor { width: WIDTH, height: HEIGHT, map: &base_map };
     show_obstacle(base, dock, end)?;
-    let d = show_jobs(base, dock, &jobs)?;
+    let d = show_jobs(base, 8, dock, &jobs)?;
 
     // A wet floor of 2 by 2 cells, from column 4 and row 1 on.
     let mut closures = Closures::new(WIDTH, HEIGHT);
@@ -104,15 +104,20 @@ fn main() -> Result<(), Refusal> {
     closures.working_map(&base_map, &mut map)?;
     let wet = Floor { map: &map, ..base };
     show_obstacle(wet, corner, end)?;
-    let stale = show_job(wet, Job { neighbourhood: NEIGHBOURHOOD, a: dock, b: end }, &d, dock);
+    let stale = show_job(wet, Job { neighbourhood: 8, a: dock, b: end }, &d, dock);
     println!("from the costs of the map before: {stale:?}");
-    show_jobs(wet, dock, &jobs)?;
+    show_jobs(wet, 8, dock, &jobs)?;
 
     closures.strike(slot)?;
     println!("struck slot {slot}");
     closures.working_map(&base_map, &mut map)?;
     let dry = Floor { map: &map, ..base };
     show_obstacle(dry, corner, end)?;
-    show_jobs(dry, dock, &jobs)?;
+    show_jobs(dry, 8, dock, &jobs)?;
+
+    // Sixteen moves, at costs of their own: the costs of eight are not theirs.
+    let other = show_job(dry, Job { neighbourhood: 16, a: dock, b: end }, &d, dock);
+    println!("with sixteen moves, from the costs of eight: {other:?}");
+    show_jobs(dry, 16, dock, &jobs)?;
     Ok(())
 }
