@@ -1,8 +1,11 @@
-//! Holds the programs to each other: same answers, same slices.
+//! Holds the programs to each other: same answers, same slices. A program that has not a neighbourhood refuses it, and
+//! the others are held to each other.
 
-use crate::floors::{Case, Kind, Random, KINDS};
-use crate::lurfanzi::{pack, Floor, Job, Plan, Refusal, Verdict};
-use crate::programs::{Program, Slices, PROGRAMS, TEXTBOOK};
+use crate::floors::{Case, Kind, Random, KINDS, SIDES};
+use crate::lurfanzi::{pack, Floor, Job, Plan, Refusal, Verdict, UNREACHABLE};
+use crate::programs::{Operation, Program, Slices, LIBRARY, PROGRAMS, TEXTBOOK};
+
+const NEIGHBOURHOODS: [u32; 3] = [4, 8, 16];
 
 /// What the textbook program makes of a job.
 struct Truth {
@@ -32,14 +35,54 @@ fn truth_of(floor: Floor, job: Job) -> Truth {
     Truth { planned, slices, verdict, kept }
 }
 
+/// What a program answers where this refusal is due: 4 where it has not the neighbourhood.
+fn due(program: &Program, operation: Operation, job: Job, refusal: Refusal) -> Refusal {
+    if program.has(operation, job.neighbourhood) { refusal } else { Refusal::BadNeighbourhood }
+}
+
 fn agree_on(program: &Program, floor: Floor, job: Job, truth: &Truth, random: &mut Random) {
+    if program.has(Operation::Plan, job.neighbourhood) {
+        agree_on_plan(program, floor, job, truth, random);
+        agree_on_costs(program, floor, job, truth, random);
+    } else {
+        agree_on_refused_moves(program, floor, job, random);
+    }
+    if program.has(Operation::Check, job.neighbourhood) {
+        agree_on_check(program, floor, job, truth, random);
+        agree_on_next(program, floor, job, truth, random);
+    } else {
+        let refused = (program.check)(floor, job, truth.slices.sheet(truth.points()));
+        assert_eq!(refused, Err(Refusal::BadNeighbourhood), "check: {}", program.name);
+    }
+    agree_on_thinning(program, floor, truth);
+}
+
+fn agree_on_plan(program: &Program, floor: Floor, job: Job, truth: &Truth, random: &mut Random) {
     let name = program.name;
     let mut slices = Slices::new(floor.vertices(), random.below(256) as u8);
     assert_eq!(slices.plan(program, floor, job), truth.planned, "plan: {name}");
     assert!(slices == truth.slices, "plan: the slices of {name}");
-    agree_on_costs(program, floor, job, truth, random);
+    slices.next.pop();
+    let before = slices.clone();
+    assert_eq!(slices.finish(program, floor, job), Err(Refusal::BadSliceLength), "finish: a short next, {name}");
+    assert!(slices == before, "finish: a short next, the slices of {name}");
+}
 
-    let points = truth.points();
+/// A planner that has not the neighbourhood refuses the job, and leaves all slices as they were.
+fn agree_on_refused_moves(program: &Program, floor: Floor, job: Job, random: &mut Random) {
+    let name = program.name;
+    let before = Slices::new(floor.vertices(), random.below(256) as u8);
+    let mut slices = before.clone();
+    let refusal = Refusal::BadNeighbourhood;
+    assert_eq!(slices.plan(program, floor, job), Err(refusal), "plan: refused moves, {name}");
+    assert_eq!(slices.costs(program, floor, job), Err(refusal), "costs: refused moves, {name}");
+    assert_eq!(slices.finish(program, floor, job), Err(refusal), "finish: refused moves, {name}");
+    assert!(slices == before, "refused moves: the slices of {name}");
+}
+
+/// The checker on the true sheet, on another number of points, and on sheets with one number changed.
+fn agree_on_check(program: &Program, floor: Floor, job: Job, truth: &Truth, random: &mut Random) {
+    let (name, slices, points) = (program.name, &truth.slices, truth.points());
     assert_eq!((program.check)(floor, job, slices.sheet(points)), Ok(truth.verdict), "check: {name}");
     assert_eq!((program.check)(floor, job, slices.sheet(points + 1)), Ok(Verdict::FalseSheet), "check: n, {name}");
     for _ in 0..8 {
@@ -48,14 +91,15 @@ fn agree_on(program: &Program, floor: Floor, job: Job, truth: &Truth, random: &m
         let verdict = (program.check)(floor, job, altered.sheet(points));
         assert_eq!(verdict, Ok(Verdict::FalseSheet), "check: altered, {name}");
     }
+}
 
-    agree_on_next(program, floor, job, &slices, points, random);
-
-    let mut kept = vec![9; slices.route.len()];
-    let count = (program.thin)(floor, &slices.route, &mut kept, points);
+fn agree_on_thinning(program: &Program, floor: Floor, truth: &Truth) {
+    let (name, route, points) = (program.name, &truth.slices.route, truth.points());
+    let mut kept = vec![9; route.len()];
+    let count = (program.thin)(floor, route, &mut kept, points);
     if points > 0 {
         assert_eq!(kept, truth.kept, "thin: {name}");
-        assert_eq!(count, (TEXTBOOK.thin)(floor, &slices.route, &mut kept, points), "thin: {name}");
+        assert_eq!(count, (TEXTBOOK.thin)(floor, route, &mut kept, points), "thin: {name}");
     } else {
         assert_eq!(count, Err(Refusal::NotJoined), "thin: {name}");
     }
@@ -79,16 +123,18 @@ fn agree_on_costs(program: &Program, floor: Floor, job: Job, truth: &Truth, rand
     }
 }
 
-/// The sheet with another next vertex: a neighbour in each direction, 0 or an end, at any place and at the ends.
-fn agree_on_next(program: &Program, floor: Floor, job: Job, slices: &Slices, points: usize, random: &mut Random) {
+/// The sheet with another next vertex: a neighbour in each direction, 0 or an end, at any place and at the ends; and
+/// with a short next.
+fn agree_on_next(program: &Program, floor: Floor, job: Job, truth: &Truth, random: &mut Random) {
+    let (slices, points) = (&truth.slices, truth.points());
     let (columns, length) = (floor.width as usize + 1, slices.next.len());
     let mut altered = slices.clone();
     let places = [job.a as usize, job.b as usize, random.below(length), random.below(length), random.below(length)];
     for v in places {
-        let beside = [v + 1, v + columns + 1, v + columns, v + columns - 1, v];
-        let before = [1, columns + 1, columns, columns - 1].map(|by| v.wrapping_sub(by));
-        let ends = [0, job.a as usize, job.b as usize];
-        let others = beside.into_iter().chain(before).chain(ends).map(|w| w as u16);
+        let near = [1, columns + 1, columns, columns - 1];
+        let far = [columns + 2, 2 * columns + 1, 2 * columns - 1, columns.wrapping_sub(2)];
+        let beside = near.into_iter().chain(far).flat_map(|by| [v.wrapping_add(by), v.wrapping_sub(by)]);
+        let others = beside.chain([v, 0, job.a as usize, job.b as usize]).map(|w| w as u16);
         for w in others.filter(|&w| w != slices.next[v]) {
             altered.next[v] = w;
             let verdict = (program.check)(floor, job, altered.sheet(points));
@@ -99,14 +145,10 @@ fn agree_on_next(program: &Program, floor: Floor, job: Job, slices: &Slices, poi
     altered.next.pop();
     let refused = (program.check)(floor, job, altered.sheet(points));
     assert_eq!(refused, Err(Refusal::BadSliceLength), "check: a short next, {}", program.name);
-    let before = altered.clone();
-    let refused = altered.finish(program, floor, job);
-    assert_eq!(refused, Err(Refusal::BadSliceLength), "finish: a short next, {}", program.name);
-    assert!(altered == before, "finish: a short next, the slices of {}", program.name);
 }
 
 /// By how much a cost is changed.
-const STEPS: [u32; 6] = [1, 408, 577, 0x4000_0000, 0x8000_0000, u32::MAX];
+const STEPS: [u32; 9] = [1, 408, 577, 1000, 1414, 2236, 0x4000_0000, 0x8000_0000, u32::MAX];
 
 /// Changes one number of the sheet.
 fn alter(slices: &mut Slices, random: &mut Random) {
@@ -185,12 +227,92 @@ fn sees_by_definition(floor: Floor, a: u32, b: u32) -> bool {
     !entered && !shut_row && !shut_column && !pinched
 }
 
+/// The moves of a neighbourhood, by columns and rows, and their costs. Neighbourhood 16 has between each two of the
+/// eight moves their sum.
+fn moves_by_definition(neighbourhood: u32) -> Vec<(i32, i32, u32)> {
+    let eight = [(1, 0), (1, 1), (0, 1), (-1, 1), (-1, 0), (-1, -1), (0, -1), (1, -1)];
+    let cost_of_16 = |x: i32, y: i32| [0, 1000, 1414, 0, 0, 2236][(x * x + y * y) as usize];
+    let with_sum = |k: usize| {
+        let ((x, y), (p, q)) = (eight[k], eight[(k + 1) % 8]);
+        [(x, y, cost_of_16(x, y)), (x + p, y + q, cost_of_16(x + p, y + q))]
+    };
+    match neighbourhood {
+        4 => eight.iter().step_by(2).map(|&(x, y)| (x, y, 408)).collect(),
+        8 => eight.iter().map(|&(x, y)| (x, y, if x * y == 0 { 408 } else { 577 })).collect(),
+        _ => (0..8).flat_map(with_sum).collect(),
+    }
+}
+
+/// The open moves of every vertex as the definition has them: the far ends and the costs.
+fn open_moves(floor: Floor, neighbourhood: u32) -> Vec<Vec<(usize, u32)>> {
+    let moves = moves_by_definition(neighbourhood);
+    let open_from = |v: u32| {
+        let (x, y) = point(floor, v);
+        let end = |&(dx, dy, cost): &(i32, i32, u32)| {
+            let (p, q) = (x + dx, y + dy);
+            let on_floor = 0 <= p && p <= floor.width as i32 && 0 <= q && q <= floor.height as i32;
+            let w = on_floor.then_some((q * (floor.width as i32 + 1) + p) as u32)?;
+            sees_by_definition(floor, v, w).then_some((w as usize, cost))
+        };
+        moves.iter().filter_map(end).collect()
+    };
+    (0..floor.vertices() as u32).map(open_from).collect()
+}
+
+/// Costs from one end, by trying all moves until none makes anything cheaper.
+fn costs_by_definition(moves: &[Vec<(usize, u32)>], from: usize) -> Vec<u32> {
+    let mut costs = vec![UNREACHABLE; moves.len()];
+    costs[from] = 0;
+    let mut cheaper = true;
+    while cheaper {
+        cheaper = false;
+        for (u, &(w, cost)) in moves.iter().enumerate().flat_map(|(u, moves)| moves.iter().map(move |to| (u, to))) {
+            if costs[u] != UNREACHABLE && costs[u] + cost < costs[w] {
+                costs[w] = costs[u] + cost;
+                cheaper = true;
+            }
+        }
+    }
+    costs
+}
+
+/// The textbook program's plan against the definitions: costs, counts, next vertices and the totals.
+fn agree_by_definition(floor: Floor, job: Job, truth: &Truth) {
+    let moves = open_moves(floor, job.neighbourhood);
+    let (a, b) = (job.a as usize, job.b as usize);
+    let (d, e) = (costs_by_definition(&moves, a), costs_by_definition(&moves, b));
+    let slices = &truth.slices;
+    assert_eq!(slices.d, d, "plan: d by definition");
+    if d[b] == UNREACHABLE {
+        assert_eq!(truth.planned, Err(Refusal::NoRoute), "plan: by definition");
+        return;
+    }
+    let mut way: Vec<usize> = (0..d.len()).filter(|&v| d[v] != UNREACHABLE && d[v] + e[v] == d[b]).collect();
+    way.sort_by_key(|&v| d[v]);
+    let (mut f, mut back, mut next) = (vec![0; d.len()], vec![0; d.len()], vec![0; d.len()]);
+    (f[a], back[b], next[b]) = (1, 1, job.b as u16);
+    for &u in &way {
+        for &(w, _) in moves[u].iter().filter(|&&(w, cost)| d[u] + cost == d[w] && d[w] + e[w] == d[b]) {
+            f[w] += f[u];
+        }
+    }
+    for &u in way.iter().rev().filter(|&&u| u != b) {
+        let ahead = || moves[u].iter().filter(|&&(w, cost)| e[w] + cost == e[u]).map(|&(w, _)| w);
+        back[u] = ahead().map(|w| back[w]).sum();
+        let most = ahead().map(|w| f[w] * back[w]).max();
+        next[u] = ahead().find(|&w| Some(f[w] * back[w]) == most).map_or(0, |w| w as u16);
+    }
+    let plan = truth.planned.map(|plan| (plan.cost, plan.total));
+    assert_eq!(plan, Ok((d[b], f[b])), "plan: by definition");
+    assert!(slices.e == e && slices.f == f && slices.back == back && slices.next == next, "plan: by definition");
+}
+
 /// Every program refuses a job with a pinch for an end, and leaves all slices as they were. A pinch sees itself alone.
 fn agree_on_pinched_end(floor: Floor, job: Job, random: &mut Random) {
     let pinch = if is_pinch(floor, job.a) { job.a } else { job.b };
-    let refusal = Refusal::PinchedEnd;
     for program in &PROGRAMS {
         let name = program.name;
+        let refusal = due(program, Operation::Plan, job, Refusal::PinchedEnd);
         let before = Slices::new(floor.vertices(), random.below(256) as u8);
         let mut slices = before.clone();
         if is_pinch(floor, job.a) {
@@ -199,6 +321,7 @@ fn agree_on_pinched_end(floor: Floor, job: Job, random: &mut Random) {
         }
         assert_eq!(slices.finish(program, floor, job), Err(refusal), "finish: a pinched end, {name}");
         assert!(slices == before, "a pinched end: the slices of {name}");
+        let refusal = due(program, Operation::Check, job, Refusal::PinchedEnd);
         assert_eq!((program.check)(floor, job, slices.sheet(1)), Err(refusal), "check: a pinched end, {name}");
         let mut list = [pinch as u16; 4];
         list[3] = 0;
@@ -268,7 +391,7 @@ fn agree_on_random_floor(random: &mut Random) {
     let map = random_map(width, height, random);
     let floor = Floor { width: width as u32, height: height as u32, map: &map };
     let (a, b) = (any_end(floor, random), any_end(floor, random));
-    let job = Job { neighbourhood: [4, 8][random.below(2)], a, b };
+    let job = Job { neighbourhood: NEIGHBOURHOODS[random.below(3)], a, b };
     if let Some(pinch) = (0..floor.vertices() as u32).find(|&v| is_pinch(floor, v)) {
         for ends in [(a, pinch), (pinch, b), (pinch, pinch)] {
             agree_on_pinched_end(floor, Job { a: ends.0, b: ends.1, ..job }, random);
@@ -277,6 +400,9 @@ fn agree_on_random_floor(random: &mut Random) {
     agree_on_bad_maps(floor, job);
     assert_eq!((TEXTBOOK.sight)(floor, a, b), Ok(sees_by_definition(floor, a, b)), "sight: textbook");
     let truth = truth_of(floor, job);
+    if floor.vertices() <= 81 {
+        agree_by_definition(floor, job, &truth);
+    }
     all_agree_on(floor, job, &truth, random);
 }
 
@@ -308,19 +434,44 @@ pub fn agree_on_case(case: &Case) {
     all_agree_on(shut.floor(), shut.job, &shut_truth, &mut random);
 }
 
-/// The programs agree on the benchmark's smaller floors, on jobs with too many routes, and on random floors.
+/// Plans, costs and checks alone: with all that `agree_on_case` asks, the larger floors take long.
+fn agree_on_larger_case(case: &Case) {
+    let mut random = Random::new(1);
+    let (floor, job) = (case.floor(), case.job);
+    let truth = truth_of(floor, job);
+    assert!(truth.planned.is_ok(), "the job has a route");
+    for program in &PROGRAMS {
+        if program.has(Operation::Plan, job.neighbourhood) {
+            agree_on_plan(program, floor, job, &truth, &mut random);
+            agree_on_costs(program, floor, job, &truth, &mut random);
+        }
+        if program.has(Operation::Check, job.neighbourhood) {
+            agree_on_check(program, floor, job, &truth, &mut random);
+        }
+        agree_on_thinning(program, floor, &truth);
+    }
+}
+
+/// The programs agree on the benchmark's floors, on jobs with too many routes, and on random floors.
 pub fn agree(floors: usize) {
+    if !LIBRARY.has(Operation::Plan, 16) {
+        eprintln!("bench: the library has not neighbourhood 16; with it the other programs are held to each other");
+    }
     let mut random = Random::new(2);
     for _ in 0..floors {
         agree_on_random_floor(&mut random);
     }
     agree_on_long_line(127);
-    for (kind, neighbourhood) in KINDS.into_iter().flat_map(|kind| [(kind, 4), (kind, 8)]) {
-        agree_on_case(&Case::new(kind, 16, neighbourhood));
+    for (kind, neighbourhood) in KINDS.into_iter().flat_map(|kind| NEIGHBOURHOODS.map(|moves| (kind, moves))) {
+        agree_on_case(&Case::new(kind, SIDES[0], neighbourhood));
+        SIDES[1..].iter().for_each(|&side| agree_on_larger_case(&Case::new(kind, side, neighbourhood)));
     }
+    // From a corner to the farthest one, and to vertices between two directions of moves.
     let open = Case::new(Kind::Open, 127, 4);
-    let corners = Job { neighbourhood: 4, a: 0, b: 16_383 };
-    let truth = truth_of(open.floor(), corners);
-    assert_eq!(truth.planned, Err(Refusal::TooMany));
-    all_agree_on(open.floor(), corners, &truth, &mut random);
+    for (neighbourhood, x, y) in [(4, 127, 127), (8, 127, 63), (16, 126, 84)] {
+        let job = Job { neighbourhood, a: 0, b: y * 128 + x };
+        let truth = truth_of(open.floor(), job);
+        assert_eq!(truth.planned, Err(Refusal::TooMany));
+        all_agree_on(open.floor(), job, &truth, &mut random);
+    }
 }

@@ -27,6 +27,9 @@ pub enum Kind {
 
 pub const KINDS: [Kind; 4] = [Kind::Open, Kind::Random, Kind::Ward, Kind::Serpentine];
 
+/// The sides that are measured, in cells.
+pub const SIDES: [usize; 4] = [16, 32, 64, 127];
+
 impl Kind {
     pub fn name(self) -> &'static str {
         match self {
@@ -124,6 +127,29 @@ impl Case {
             (y * columns + x) as u32
         };
         (0..side).map(|k| (vertex(0, k), vertex(side, k + 1))).collect()
+    }
+
+    /// The ends of 64 lines inside the floor, from side to side: column lines, or row lines.
+    pub fn line_segments(&self, upright: bool) -> Vec<(u32, u32)> {
+        let (side, columns) = (self.side, self.side + 1);
+        let lines = (0..64).map(|k| 1 + k % (side - 1).max(1));
+        lines.map(|line| if upright { (line, side * columns + line) } else { (line * columns, line * columns + side) })
+            .map(|(a, b)| (a as u32, b as u32))
+            .collect()
+    }
+
+    /// The ends of 64 diagonals of at least half the side, falling and rising by turns.
+    pub fn diagonal_segments(&self) -> Vec<(u32, u32)> {
+        let (side, columns) = (self.side, self.side + 1);
+        let segment = |k: usize| {
+            let short = k / 2 % (side / 2 + 1);
+            if k % 2 == 0 {
+                (short, (side - short) * columns + side)
+            } else {
+                (side * columns + short, short * columns + side)
+            }
+        };
+        (0..64).map(segment).map(|(a, b)| (a as u32, b as u32)).collect()
     }
 
     /// Pairs of vertices: at most eight apart in column and row, or at least half the side apart in one of the two.

@@ -7,8 +7,9 @@
 //!     bench repeat PROGRAM OPERATION FLOOR SIDE NEIGHBOURHOOD TIMES
 //!     bench segment PROGRAM COLUMNS ROWS TIMES
 //!
-//! A measurement's name is the four words OPERATION FLOOR SIDE NEIGHBOURHOOD. `list` prints every name, a line each;
-//! `measure` prints the name and the library's nanoseconds. bench/beside relies on both, and on `repeat`.
+//! A measurement's name is the four words OPERATION FLOOR SIDE NEIGHBOURHOOD. `list` prints every name, a line each,
+//! with the neighbourhoods that the library has; `measure` prints the name and the library's nanoseconds. bench/beside
+//! relies on both, and on `repeat`, which fails where the program has not the neighbourhood.
 
 #[allow(dead_code)]
 #[path = "../examples/rust/lurfanzi.rs"]
@@ -42,14 +43,14 @@ fn named(words: &[&str]) -> Option<(Operation, Case)> {
     let operation = *OPERATIONS.iter().find(|known| known.name() == operation)?;
     let kind = *KINDS.iter().find(|known| known.name() == floor)?;
     let side = number(side).filter(|side| (1..=127).contains(side))?;
-    let neighbourhood = number(neighbourhood).filter(|&moves| moves == 4 || moves == 8)?;
+    let neighbourhood = number(neighbourhood).filter(|moves| [4, 8, 16].contains(moves))?;
     Some((operation, Case::new(kind, side, neighbourhood as u32)))
 }
 
 /// Times the library alone.
 fn measure(words: &[&str]) -> Option<()> {
     let [name @ .., rounds] = words else { return None };
-    let (operation, case) = named(name)?;
+    let (operation, case) = named(name).filter(|(operation, case)| LIBRARY.has(*operation, case.job.neighbourhood))?;
     let times = table::measure(&mut Bench::new(&case), &[LIBRARY], operation, number(rounds)?);
     println!("{} {:.2}", name.join(" "), times[0]);
     Some(())
@@ -59,7 +60,7 @@ fn measure(words: &[&str]) -> Option<()> {
 fn repeat(words: &[&str]) -> Option<()> {
     let [program, name @ .., times] = words else { return None };
     let program = PROGRAMS.iter().find(|known| known.name == *program)?;
-    let (operation, case) = named(name)?;
+    let (operation, case) = named(name).filter(|(operation, case)| program.has(*operation, case.job.neighbourhood))?;
     let mut bench = Bench::new(&case);
     for _ in 0..number(times)? {
         bench.run(program, operation);

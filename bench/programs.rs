@@ -6,6 +6,7 @@ use crate::{buckets, textbook, tuned, tuned_check, tuned_sight};
 use std::hint::black_box;
 
 /// A program: the operations of the header, and a whole plan, by which d is filled too.
+#[derive(Clone, Copy)]
 pub struct Program {
     pub name: &'static str,
     pub plan: fn(Floor, Job, &mut [u32], &mut SheetMut, &mut [u32]) -> Result<Plan, Refusal>,
@@ -14,6 +15,23 @@ pub struct Program {
     pub check: fn(Floor, Job, Sheet) -> Result<Verdict, Refusal>,
     pub thin: fn(Floor, &[u16], &mut [u16], usize) -> Result<usize, Refusal>,
     pub sight: fn(Floor, u32, u32) -> Result<bool, Refusal>,
+}
+
+impl Program {
+    /// Whether it has an operation with a neighbourhood. It is asked on a floor of one open cell: refusal 4 says no.
+    pub fn has(&self, operation: Operation, neighbourhood: u32) -> bool {
+        let floor = Floor { width: 1, height: 1, map: &[0] };
+        let job = Job { neighbourhood, a: 0, b: 0 };
+        let mut slices = Slices::new(floor.vertices(), 0);
+        let answer = match operation {
+            Operation::Plan | Operation::Costs | Operation::Finish | Operation::FortyJobs => {
+                slices.costs(self, floor, job)
+            }
+            Operation::Check => (self.check)(floor, job, slices.sheet(0)).map(|_| ()),
+            _ => Ok(()),
+        };
+        answer != Err(Refusal::BadNeighbourhood)
+    }
 }
 
 /// A lone job by the library: its two operations.
@@ -75,9 +93,15 @@ pub enum Operation {
     FlatSight,
     /// One column and a whole side of rows.
     SteepSight,
+    /// Along a row line inside the floor, from side to side.
+    RowLineSight,
+    /// Along a column line inside the floor, from side to side.
+    ColumnLineSight,
+    /// Along a diagonal, at least half the side.
+    DiagonalSight,
 }
 
-pub const OPERATIONS: [Operation; 10] = [
+pub const OPERATIONS: [Operation; 13] = [
     Operation::Plan,
     Operation::Costs,
     Operation::Finish,
@@ -88,6 +112,19 @@ pub const OPERATIONS: [Operation; 10] = [
     Operation::LongSight,
     Operation::FlatSight,
     Operation::SteepSight,
+    Operation::RowLineSight,
+    Operation::ColumnLineSight,
+    Operation::DiagonalSight,
+];
+
+const SIGHTS: [Operation; 7] = [
+    Operation::ShortSight,
+    Operation::LongSight,
+    Operation::FlatSight,
+    Operation::SteepSight,
+    Operation::RowLineSight,
+    Operation::ColumnLineSight,
+    Operation::DiagonalSight,
 ];
 
 impl Operation {
@@ -103,6 +140,9 @@ impl Operation {
             Operation::LongSight => "long-sight",
             Operation::FlatSight => "flat-sight",
             Operation::SteepSight => "steep-sight",
+            Operation::RowLineSight => "row-line-sight",
+            Operation::ColumnLineSight => "column-line-sight",
+            Operation::DiagonalSight => "diagonal-sight",
         }
     }
 
@@ -116,8 +156,7 @@ impl Operation {
 
     /// Which segments it asks about; none where it is no sight question.
     fn segments(self) -> Option<usize> {
-        let sights = [Operation::ShortSight, Operation::LongSight, Operation::FlatSight, Operation::SteepSight];
-        sights.iter().position(|&sight| sight == self)
+        SIGHTS.iter().position(|&sight| sight == self)
     }
 
     /// Whether the neighbourhood matters to it.
@@ -125,9 +164,9 @@ impl Operation {
         self.segments().is_none()
     }
 
-    /// Whether it is measured on a kind of floor: narrow segments are clear on the open one.
+    /// Whether it is measured on a kind of floor: long segments of a shape of their own are clear on the open one.
     pub fn is_on(self, kind: Kind) -> bool {
-        kind == Kind::Open || !matches!(self, Operation::FlatSight | Operation::SteepSight)
+        kind == Kind::Open || !SIGHTS[2..].contains(&self)
     }
 }
 
@@ -187,7 +226,7 @@ pub struct Bench<'a> {
     pub points: usize,
     ends: Vec<u32>,
     given: Slices,
-    segments: [Vec<(u32, u32)>; 4],
+    segments: [Vec<(u32, u32)>; 7],
     slices: Slices,
     out: Vec<u16>,
 }
@@ -198,9 +237,11 @@ impl<'a> Bench<'a> {
         let mut truth = Slices::new(vertices, 0);
         let points = truth.plan(&TEXTBOOK, case.floor(), case.job).map_or(0, |plan| plan.points);
         let given = Slices { d: truth.d.clone(), ..Slices::new(vertices, 0xFF) };
-        let narrow = [false, true].map(|steep| case.narrow_segments(steep));
-        let [flat, steep] = narrow;
-        let (ends, segments) = (case.forty_ends(), [case.segments(false), case.segments(true), flat, steep]);
+        let [short, long] = [false, true].map(|long| case.segments(long));
+        let [flat, steep] = [false, true].map(|steep| case.narrow_segments(steep));
+        let [row, column] = [false, true].map(|upright| case.line_segments(upright));
+        let segments = [short, long, flat, steep, row, column, case.diagonal_segments()];
+        let ends = case.forty_ends();
         let (slices, out) = (Slices::new(vertices, 0xFF), vec![0xFFFF; vertices]);
         Bench { case, truth, points, ends, given, segments, slices, out }
     }
@@ -237,7 +278,7 @@ impl<'a> Bench<'a> {
                 _ = black_box((program.thin)(floor, &self.truth.route, &mut self.out, self.points));
                 black_box(&self.out);
             }
-            Operation::ShortSight | Operation::LongSight | Operation::FlatSight | Operation::SteepSight => {
+            _ => {
                 for &(a, b) in operation.segments().iter().flat_map(|&k| &self.segments[k]) {
                     _ = black_box((program.sight)(floor, a, b));
                 }

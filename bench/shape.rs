@@ -54,10 +54,9 @@ fn of_pinch(floor: Floor, end: u32) -> Result<(), Refusal> {
 
 fn of_moves(floor: Floor, neighbourhood: u32) -> Result<(), Refusal> {
     of_floor(floor)?;
-    if neighbourhood == 4 || neighbourhood == 8 {
-        Ok(())
-    } else {
-        Err(Refusal::BadNeighbourhood)
+    match neighbourhood {
+        4 | 8 | 16 => Ok(()),
+        _ => Err(Refusal::BadNeighbourhood),
     }
 }
 

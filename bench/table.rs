@@ -1,14 +1,12 @@
 //! Measures, and prints the tables.
 
 use crate::agree;
-use crate::floors::{Case, Kind, KINDS};
-use crate::programs::{Bench, Operation, Program, OPERATIONS};
+use crate::floors::{Case, Kind, KINDS, SIDES};
+use crate::programs::{Bench, Operation, Program, LIBRARY, OPERATIONS, TUNED};
 use std::time::Instant;
 
-const SIDES: [usize; 4] = [16, 32, 64, 127];
-
-/// Nanoseconds of one operation, for each program in turn.
-type Times = Vec<f64>;
+/// Nanoseconds of one operation, for each program in turn; none for a program that has not the neighbourhood.
+type Times = Vec<Option<f64>>;
 
 /// A timed stretch lasts at least this long, so that the clock's own steps do not count.
 const STRETCH: f64 = 20_000.0;
@@ -22,7 +20,7 @@ fn timed(bench: &mut Bench, program: &Program, operation: Operation, runs: usize
 }
 
 /// The least of many rounds; a round has each program once, the first place going round.
-pub fn measure(bench: &mut Bench, programs: &[Program], operation: Operation, rounds: usize) -> Times {
+pub fn measure(bench: &mut Bench, programs: &[Program], operation: Operation, rounds: usize) -> Vec<f64> {
     let mut runs_to_fill = |program: &Program| {
         let one = timed(bench, program, operation, 1).min(timed(bench, program, operation, 1));
         (STRETCH / (one * bench.count(operation) as f64)).ceil().max(1.0) as usize
@@ -38,6 +36,15 @@ pub fn measure(bench: &mut Bench, programs: &[Program], operation: Operation, ro
     least
 }
 
+/// Measures the operation's programs, those that have the neighbourhood.
+fn measure_all(bench: &mut Bench, operation: Operation, rounds: usize) -> Times {
+    let neighbourhood = bench.case.job.neighbourhood;
+    let has = |program: &Program| program.has(operation, neighbourhood);
+    let programs: Vec<Program> = operation.programs().iter().copied().filter(has).collect();
+    let mut times = measure(bench, &programs, operation, rounds).into_iter();
+    operation.programs().iter().map(|program| if has(program) { times.next() } else { None }).collect()
+}
+
 struct Row {
     operation: Operation,
     kind: Kind,
@@ -45,9 +52,10 @@ struct Row {
     by_side: Vec<Times>,
 }
 
-/// The floors with their neighbourhoods.
+/// The floors with the neighbourhoods that the library has.
 fn floors() -> impl Iterator<Item = (Kind, u32)> {
-    KINDS.into_iter().flat_map(|kind| [(kind, 8), (kind, 4)])
+    let known = |neighbourhood: &u32| LIBRARY.has(Operation::Plan, *neighbourhood);
+    KINDS.into_iter().flat_map(move |kind| [8, 4, 16].into_iter().filter(known).map(move |moves| (kind, moves)))
 }
 
 /// Whether the operation is measured on the floor with the neighbourhood: with one of them where it does not matter.
@@ -67,7 +75,7 @@ fn rows(rounds: usize) -> Vec<Row> {
                 if is_measured(operation, kind, neighbourhood) {
                     // Forty jobs take as long as many rounds of the others.
                     let rounds = if operation == Operation::FortyJobs { rounds.div_ceil(10) } else { rounds };
-                    by_side.push(measure(&mut bench, operation.programs(), operation, rounds));
+                    by_side.push(measure_all(&mut bench, operation, rounds));
                 }
             }
         }
@@ -90,11 +98,19 @@ fn title(operation: Operation) -> &'static str {
         Operation::LongSight => "Sight question, at least half the side",
         Operation::FlatSight => "Sight question, one row and the whole side",
         Operation::SteepSight => "Sight question, one column and the whole side",
+        Operation::RowLineSight => "Sight question, along a row line inside the floor",
+        Operation::ColumnLineSight => "Sight question, along a column line inside the floor",
+        Operation::DiagonalSight => "Sight question, along a diagonal of at least half the side",
     }
 }
 
-fn cells(values: impl Iterator<Item = f64>) -> String {
-    values.map(|value| format!(" {value:.2} |")).collect()
+fn cells(values: impl Iterator<Item = Option<f64>>, places: usize) -> String {
+    values.map(|value| value.map_or(" |".to_string(), |value| format!(" {value:.places$} |"))).collect()
+}
+
+/// The quotient of two times that are there.
+fn ratio(time: Option<f64>, to: Option<f64>) -> Option<f64> {
+    Some(time? / to?)
 }
 
 fn print_row(row: &Row, heap_search: Option<f64>) {
@@ -103,11 +119,11 @@ fn print_row(row: &Row, heap_search: Option<f64>) {
         false => row.kind.name().to_string(),
     };
     let (smallest, largest) = (&row.by_side[0], &row.by_side[SIDES.len() - 1]);
-    let ratios = |other: usize| cells(row.by_side.iter().map(move |times| times[0] / times[other]));
+    let ratios = |other: usize| cells(row.by_side.iter().map(move |times| ratio(times[0], times[other])), 2);
     let all_ratios: String = (1..largest.len()).map(ratios).collect();
-    let to_heap_search = cells(heap_search.iter().map(|time| largest[0] / time));
-    let times = cells(largest.iter().map(|time| time / 1000.0));
-    let growth: String = largest.iter().zip(smallest).map(|(most, least)| format!(" {:.0} |", most / least)).collect();
+    let to_heap_search = cells(heap_search.iter().map(|&time| ratio(largest[0], Some(time))), 2);
+    let times = cells(largest.iter().map(|&time| ratio(time, Some(1000.0))), 2);
+    let growth = cells(largest.iter().zip(smallest).map(|(&most, &least)| ratio(most, least)), 0);
     println!("| {name} |{all_ratios}{to_heap_search}{times}{growth}");
 }
 
@@ -115,7 +131,7 @@ fn print_row(row: &Row, heap_search: Option<f64>) {
 fn heap_search(rows: &[Row], plan: &Row) -> Option<f64> {
     let same_floor = |row: &&Row| (row.kind, row.neighbourhood) == (plan.kind, plan.neighbourhood);
     let costs = rows.iter().filter(same_floor).find(|row| row.operation == Operation::Costs)?;
-    (plan.operation == Operation::Plan).then(|| costs.by_side[SIDES.len() - 1][1])
+    if plan.operation == Operation::Plan { costs.by_side[SIDES.len() - 1][1] } else { None }
 }
 
 fn print_heading(operation: Operation) {
@@ -127,7 +143,11 @@ fn print_heading(operation: Operation) {
     }
     columns.extend(names().map(|name| format!("{name} μs, 127")));
     columns.extend(names().map(|name| format!("{name} growth")));
-    println!("### {}\n\n| {} |\n|{}", title(operation), columns.join(" | "), "---|".repeat(columns.len()));
+    println!("### {}\n", title(operation));
+    if LIBRARY.has(operation, 16) && !TUNED.has(operation, 16) {
+        println!("The tuned planner is for 4 and 8 alone: its canonical ordering is a law of 8.\n");
+    }
+    println!("| {} |\n|{}", columns.join(" | "), "---|".repeat(columns.len()));
 }
 
 pub fn print(rounds: usize) {

@@ -11,18 +11,26 @@ use std::collections::BinaryHeap;
 const MOVES: [(i32, i32, u32); 8] =
     [(1, 0, 408), (1, 1, 577), (0, 1, 408), (-1, 1, 577), (-1, 0, 408), (-1, -1, 577), (0, -1, 408), (1, -1, 577)];
 
+const MOVES_OF_16: [(i32, i32, u32); 16] = [
+    (1, 0, 1000), (2, 1, 2236), (1, 1, 1414), (1, 2, 2236), (0, 1, 1000), (-1, 2, 2236), (-1, 1, 1414), (-2, 1, 2236),
+    (-1, 0, 1000), (-2, -1, 2236), (-1, -1, 1414), (-1, -2, 2236), (0, -1, 1000), (1, -2, 2236), (1, -1, 1414),
+    (2, -1, 2236),
+];
+
 #[derive(Clone, Copy)]
 struct Grid<'a> {
     width: i32,
     height: i32,
     map: &'a [u8],
+    moves: &'static [(i32, i32, u32)],
     step: usize,
 }
 
 impl<'a> Grid<'a> {
     fn new(floor: Floor<'a>, neighbourhood: u32) -> Grid<'a> {
-        let step = if neighbourhood == 8 { 1 } else { 2 };
-        Grid { width: floor.width as i32, height: floor.height as i32, map: floor.map, step }
+        let moves = if neighbourhood == 16 { &MOVES_OF_16[..] } else { &MOVES[..] };
+        let step = if neighbourhood == 4 { 2 } else { 1 };
+        Grid { width: floor.width as i32, height: floor.height as i32, map: floor.map, moves, step }
     }
 
     fn vertices(&self) -> usize {
@@ -51,6 +59,10 @@ impl<'a> Grid<'a> {
             !(self.is_blocked(i, y - 1) && self.is_blocked(i, y))
         } else if dx == 0 {
             !(self.is_blocked(x - 1, j) && self.is_blocked(x, j))
+        } else if dx.abs() == 2 {
+            !self.is_blocked(i, j) && !self.is_blocked(i + 1, j)
+        } else if dy.abs() == 2 {
+            !self.is_blocked(i, j) && !self.is_blocked(i, j + 1)
         } else {
             !self.is_blocked(i, j)
         }
@@ -60,7 +72,7 @@ impl<'a> Grid<'a> {
     fn moves(&self, v: usize) -> impl Iterator<Item = (usize, u32)> + 'a {
         let grid = *self;
         let (x, y) = grid.point(v);
-        let moves = if grid.is_pinch(x, y) { &[] } else { &MOVES[..] };
+        let moves = if grid.is_pinch(x, y) { &[] } else { grid.moves };
         moves.iter().step_by(grid.step).filter_map(move |&(dx, dy, cost)| {
             let on_floor = 0 <= x + dx && x + dx <= grid.width && 0 <= y + dy && y + dy <= grid.height;
             let open = on_floor && grid.is_open(x, y, dx, dy) && !grid.is_pinch(x + dx, y + dy);

@@ -1,8 +1,8 @@
 //! The hand-tuned planner: open moves as masks, a bucket queue from each end, counts and next vertices along the
-//! settled order.
+//! settled order. It is for neighbourhoods 4 and 8 alone, and refuses 16: the canonical ordering is a law of 8.
 
 use crate::lurfanzi::{Floor, Job, Plan, Refusal, SheetMut, UNREACHABLE};
-use crate::moves::{fill_masks, offsets, sum, sum_and_next};
+use crate::moves::{fill_masks, offsets, sum, sum_and_next, Eight, Four, Table};
 use crate::shape;
 use crate::tuned_check::costs_are_true;
 
@@ -161,15 +161,24 @@ pub struct Method {
 
 const METHOD: Method = Method { prepare, search, rest };
 
+/// Refusals 1 to 3, and 4 for a neighbourhood that this planner has not.
+fn of_moves(floor: Floor, neighbourhood: u32) -> Result<(), Refusal> {
+    shape::of_floor(floor)?;
+    if neighbourhood == 16 { Err(Refusal::BadNeighbourhood) } else { Ok(()) }
+}
+
 pub fn plan(floor: Floor, job: Job, d: &mut [u32], sheet: &mut SheetMut, work: &mut [u32]) -> Result<Plan, Refusal> {
+    of_moves(floor, job.neighbourhood)?;
     METHOD.plan(floor, job, d, sheet, work)
 }
 
 pub fn costs(floor: Floor, neighbourhood: u32, a: u32, d: &mut [u32], work: &mut [u32]) -> Result<(), Refusal> {
+    of_moves(floor, neighbourhood)?;
     METHOD.costs(floor, neighbourhood, a, d, work)
 }
 
 pub fn finish(floor: Floor, job: Job, d: &[u32], sheet: &mut SheetMut, work: &mut [u32]) -> Result<Plan, Refusal> {
+    of_moves(floor, job.neighbourhood)?;
     METHOD.finish(floor, job, d, sheet, work)
 }
 
@@ -225,12 +234,12 @@ impl Method {
 }
 
 /// Fills the counts and the next vertices on the way; whether all counts fit in 64 bits.
-fn counts<const STEP: usize>(
-    way: &[u16], masks: &[u8], offsets: &[isize; 8], a: usize, b: usize, d: &[u32], sheet: &mut SheetMut,
+fn counts<T: Table>(
+    way: &[u16], masks: &[T::Mask], offsets: &[isize; 16], a: usize, b: usize, d: &[u32], sheet: &mut SheetMut,
 ) -> bool {
     sheet.f[a] = 1;
     for v in way.iter().rev().map(|&v| usize::from(v)).filter(|&v| v != a) {
-        let (count, over) = sum::<STEP>(v, masks[v], offsets, d, sheet.f);
+        let (count, over) = sum::<T>(v, masks[v], offsets, d, sheet.f);
         if over {
             return false;
         }
@@ -240,7 +249,7 @@ fn counts<const STEP: usize>(
     sheet.back[b] = 1;
     sheet.next[b] = b as u16;
     for v in way.iter().map(|&v| usize::from(v)).filter(|&v| v != b) {
-        let (count, _, next) = sum_and_next::<STEP>(v, masks[v], offsets, sheet.e, sheet.back, sheet.f);
+        let (count, _, next) = sum_and_next::<T>(v, masks[v], offsets, sheet.e, sheet.back, sheet.f);
         sheet.back[v] = count;
         sheet.next[v] = next as u16;
     }
@@ -248,12 +257,11 @@ fn counts<const STEP: usize>(
 }
 
 /// Counts, next vertices and route from the costs. `way` has the vertices on the way, those nearer to B first.
-pub fn counts_and_route(
-    job: Job, columns: usize, way: &[u16], masks: &[u8], d: &[u32], sheet: &mut SheetMut,
+pub fn counts_and_route<T: Table>(
+    job: Job, columns: usize, way: &[u16], masks: &[T::Mask], d: &[u32], sheet: &mut SheetMut,
 ) -> Result<Plan, Refusal> {
     let (a, b, offsets) = (job.a as usize, job.b as usize, offsets(columns));
-    let counts = if job.neighbourhood == 8 { counts::<1> } else { counts::<2> };
-    let fits = counts(way, masks, &offsets, a, b, d, sheet);
+    let fits = counts::<T>(way, masks, &offsets, a, b, d, sheet);
     if !fits {
         sheet.f.fill(0);
         return Err(Refusal::TooMany);
@@ -310,5 +318,6 @@ fn rest(floor: Floor, job: Job, d: &[u32], sheet: &mut SheetMut, work: &mut [u32
             n += usize::from(from + to == cost);
         }
     }
+    let counts_and_route = if job.neighbourhood == 8 { counts_and_route::<Eight> } else { counts_and_route::<Four> };
     counts_and_route(job, columns, &way[..n], masks, d, sheet)
 }

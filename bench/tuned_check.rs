@@ -6,42 +6,95 @@
 //! open move nearer.
 
 use crate::lurfanzi::{Floor, Job, Refusal, Sheet, Verdict, UNREACHABLE};
-use crate::moves::{all_rows, offsets, row_masks, sum, sum_and_next, Cells, CARDINAL};
+use crate::moves::{all_rows, offsets, sum, sum_and_next, Cells, Eight, Four, Sixteen, Table};
 use crate::shape;
 
 /// Costs are compared as FAR less the cost: 0 stands for M, so that a shut move is an `and` and the law a maximum. No true
 /// cost reaches FAR.
 const FAR: u32 = 0x3FFF_FFFF;
 
-/// A row of costs in that form, with M at either side.
-type Row = [i32; 130];
+/// A row of costs in that form, with M twice at either side.
+type Row = [i32; 132];
 
-/// Three neighbouring rows of each of N cost slices.
+/// The law of costs of a neighbourhood.
+trait Law: Table {
+    /// The most that the open moves from column x leave, in that form, of five rows of costs; the middle one is its
+    /// own.
+    fn most(rows: [&Row; 5], x: usize, mask: i32) -> i32;
+}
+
+/// All bits where a move is open.
+#[inline(always)]
+fn open(mask: i32, k: usize) -> i32 {
+    if mask & 1 << k != 0 { -1 } else { 0 }
+}
+
+/// The most at the far ends of the open cardinal moves, and of the open diagonal ones.
+#[inline(always)]
+fn most_of_eight([_, above, here, below, _]: [&Row; 5], x: usize, mask: i32) -> (i32, i32) {
+    let across = (here[x + 3] & open(mask, 0)).max(here[x + 1] & open(mask, 4));
+    let along = (below[x + 2] & open(mask, 2)).max(above[x + 2] & open(mask, 6));
+    let lower = (below[x + 3] & open(mask, 1)).max(below[x + 1] & open(mask, 3));
+    let upper = (above[x + 1] & open(mask, 5)).max(above[x + 3] & open(mask, 7));
+    (across.max(along), lower.max(upper))
+}
+
+impl Law for Four {
+    #[inline(always)]
+    fn most(rows: [&Row; 5], x: usize, mask: i32) -> i32 {
+        Eight::most(rows, x, mask)
+    }
+}
+
+impl Law for Eight {
+    #[inline(always)]
+    fn most(rows: [&Row; 5], x: usize, mask: i32) -> i32 {
+        let (cardinal, diagonal) = most_of_eight(rows, x, mask);
+        (cardinal - 408).max(diagonal - 577).max(0)
+    }
+}
+
+impl Law for Sixteen {
+    #[inline(always)]
+    fn most(rows: [&Row; 5], x: usize, mask: i32) -> i32 {
+        let (cardinal, diagonal) = most_of_eight(rows, x, mask);
+        let [far_above, above, _, below, far_below] = rows;
+        let lower = (below[x + 4] & open(mask, 8)).max(below[x] & open(mask, 11));
+        let far_lower = (far_below[x + 3] & open(mask, 9)).max(far_below[x + 1] & open(mask, 10));
+        let upper = (above[x] & open(mask, 12)).max(above[x + 4] & open(mask, 15));
+        let far_upper = (far_above[x + 1] & open(mask, 13)).max(far_above[x + 3] & open(mask, 14));
+        let between = lower.max(far_lower).max(upper.max(far_upper));
+        (cardinal - 1000).max(diagonal - 1414).max(between - 2236).max(0)
+    }
+}
+
+/// Rows of each of N cost slices: row y stands at place y % 8.
 struct Window<'a, const N: usize> {
     costs: [&'a [u32]; N],
     ends: [usize; N],
     columns: usize,
-    rows: [[Row; N]; 3],
+    rows: [[Row; N]; 8],
     fits: bool,
 }
 
 impl<'a, const N: usize> Window<'a, N> {
     /// Stands above the first row.
     fn new(costs: [&'a [u32]; N], ends: [usize; N], columns: usize) -> Window<'a, N> {
-        let mut window = Window { costs, ends, columns, rows: [[[0; 130]; N]; 3], fits: true };
+        let mut window = Window { costs, ends, columns, rows: [[[0; 132]; N]; 8], fits: true };
         window.read(0);
+        window.read(1);
         window
     }
 
-    /// Reads row y of the costs as the last of the three rows; `fits` says whether all numbers can be costs.
+    /// Reads row y of the costs; `fits` says whether all numbers can be costs.
     fn read(&mut self, y: usize) {
-        for (to, from) in self.rows[2].iter_mut().zip(self.costs) {
+        for (to, from) in self.rows[y % 8].iter_mut().zip(self.costs) {
             let Some(from) = from.get(y * self.columns..(y + 1) * self.columns) else {
-                *to = [0; 130];
+                *to = [0; 132];
                 continue;
             };
             let mut fits = true;
-            for (to, &cost) in to[1..].iter_mut().zip(from) {
+            for (to, &cost) in to[2..].iter_mut().zip(from) {
                 let fit = cost < FAR;
                 fits &= fit | (cost == UNREACHABLE);
                 *to = if fit { (FAR - cost) as i32 } else { 0 };
@@ -51,22 +104,15 @@ impl<'a, const N: usize> Window<'a, N> {
     }
 
     /// Moves on to row y, and tests its costs.
-    fn row_is_true(&mut self, y: usize, masks: &[u8; 128]) -> bool {
-        self.rows.rotate_left(1);
-        self.read(y + 1);
+    fn row_is_true<L: Law>(&mut self, y: usize, masks: &[L::Mask; 128]) -> bool {
+        self.read(y + 2);
         let columns = self.columns.min(128);
-        let [above, here, below] = &self.rows;
+        let rows = [6, 7, 0, 1, 2].map(|ahead| &self.rows[(y + ahead) % 8]);
         let mut most = [[0; 128]; N];
         for x in 0..columns {
-            let mask = i32::from(masks[x]);
-            let open: [i32; 8] = std::array::from_fn(|k| if mask & 1 << k != 0 { -1 } else { 0 });
+            let mask: u32 = masks[x].into();
             for slice in 0..N {
-                let (above, here, below) = (&above[slice], &here[slice], &below[slice]);
-                let across = (here[x + 2] & open[0]).max(here[x] & open[4]);
-                let along = (below[x + 1] & open[2]).max(above[x + 1] & open[6]);
-                let lower = (below[x + 2] & open[1]).max(below[x] & open[3]);
-                let upper = (above[x] & open[5]).max(above[x + 2] & open[7]);
-                most[slice][x] = (across.max(along) - 408).max(lower.max(upper) - 577).max(0);
+                most[slice][x] = L::most(rows.map(|row| &row[slice]), x, mask as i32);
             }
         }
         self.fits
@@ -74,14 +120,16 @@ impl<'a, const N: usize> Window<'a, N> {
                 if self.ends[slice] / columns == y {
                     most[slice][self.ends[slice] % columns] = FAR as i32;
                 }
-                most[slice][..columns] == here[slice][1..=columns]
+                most[slice][..columns] == rows[2][slice][2..columns + 2]
             })
     }
 }
 
 /// Whether the counts and the next vertices of row y are true. All costs are, and the cost of the route is not M. Where
 /// a traversal count passes 64 bits a count of some row is false, so that the sheet is refused.
-fn counts_are_true<const STEP: usize>(y: usize, masks: &[u8; 128], offsets: &[isize; 8], job: Job, sheet: Sheet) -> bool {
+fn counts_are_true<T: Table>(
+    y: usize, masks: &[T::Mask; 128], offsets: &[isize; 16], job: Job, sheet: Sheet,
+) -> bool {
     let (a, b, columns) = (job.a as usize, job.b as usize, offsets[2] as usize);
     let cost = sheet.d[b];
     let row = y * columns..(y + 1) * columns;
@@ -96,9 +144,9 @@ fn counts_are_true<const STEP: usize>(y: usize, masks: &[u8; 128], offsets: &[is
         if !on_way(to, from) {
             return f | back | next as u64 == 0;
         }
-        let f_is_true = if v == a { f == 1 } else { sum::<STEP>(v, mask, offsets, sheet.d, sheet.f) == (f, false) };
+        let f_is_true = if v == a { f == 1 } else { sum::<T>(v, mask, offsets, sheet.d, sheet.f) == (f, false) };
         let (count, over, wanted) =
-            if v == b { (1, false, b) } else { sum_and_next::<STEP>(v, mask, offsets, sheet.e, sheet.back, sheet.f) };
+            if v == b { (1, false, b) } else { sum_and_next::<T>(v, mask, offsets, sheet.e, sheet.back, sheet.f) };
         f_is_true && (back, false, next) == (count, over, wanted)
     })
 }
@@ -124,39 +172,50 @@ fn is_0<T: Copy + Default + PartialEq + std::ops::BitOr<Output = T>>(slice: &[T]
 
 /// Whether the costs are those from the job's first end.
 pub fn costs_are_true(floor: Floor, job: Job, d: &[u32]) -> bool {
-    let columns = floor.width as usize + 1;
-    let moves = if job.neighbourhood == 8 { 0xFF } else { CARDINAL };
-    let mut window = Window::new([d], [job.a as usize], columns);
-    all_rows(floor, |y, above, below| window.row_is_true(y, &masks_of(above, below, columns, moves)))
+    let are_true = match job.neighbourhood {
+        4 => are_costs::<Four>,
+        8 => are_costs::<Eight>,
+        _ => are_costs::<Sixteen>,
+    };
+    are_true(floor, job, d)
 }
 
-/// The masks of a row of vertices, for a neighbourhood's moves.
+fn are_costs<L: Law>(floor: Floor, job: Job, d: &[u32]) -> bool {
+    let columns = floor.width as usize + 1;
+    let mut window = Window::new([d], [job.a as usize], columns);
+    all_rows(floor, |y, cells| window.row_is_true::<L>(y, &masks_of::<L>(cells, columns)))
+}
+
+/// The half masks of a row of vertices.
 #[inline(always)]
-fn masks_of(above: &Cells, below: &Cells, columns: usize, moves: u8) -> [u8; 128] {
-    let mut masks = [0; 128];
-    row_masks(above, below, &mut masks[..columns]);
-    masks.iter_mut().for_each(|mask| *mask &= moves);
+fn masks_of<T: Table>(cells: [&Cells; 4], columns: usize) -> [T::Mask; 128] {
+    let mut masks = [T::Mask::default(); 128];
+    T::row_masks(cells, &mut masks[..columns]);
     masks
 }
 
 pub fn check(floor: Floor, job: Job, sheet: Sheet) -> Result<Verdict, Refusal> {
     shape::of_job(floor, job, sheet)?;
+    let verdict = match job.neighbourhood {
+        4 => verdict::<Four>,
+        8 => verdict::<Eight>,
+        _ => verdict::<Sixteen>,
+    };
+    Ok(verdict(floor, job, sheet).unwrap_or(Verdict::FalseSheet))
+}
+
+fn verdict<L: Law>(floor: Floor, job: Job, sheet: Sheet) -> Option<Verdict> {
     let columns = floor.width as usize + 1;
-    let moves = if job.neighbourhood == 8 { 0xFF } else { CARDINAL };
     let (a, b) = (job.a as usize, job.b as usize);
-    let masks_of = |above: &Cells, below: &Cells| masks_of(above, below, columns, moves);
-    let verdict = if sheet.d[b] == UNREACHABLE {
+    if sheet.d[b] == UNREACHABLE {
         let no_points = sheet.points == 0 && is_0(sheet.route) && is_0(sheet.next);
         let zeros = no_points && is_0(sheet.e) && is_0(sheet.f) && is_0(sheet.back);
-        (zeros && costs_are_true(floor, job, sheet.d)).then_some(Verdict::NoRoute)
-    } else {
-        let offsets = offsets(columns);
-        let mut window = Window::new([sheet.d, sheet.e], [a, b], columns);
-        let counts = if job.neighbourhood == 8 { counts_are_true::<1> } else { counts_are_true::<2> };
-        let good = all_rows(floor, |y, above, below| window.row_is_true(y, &masks_of(above, below)))
-            && all_rows(floor, |y, above, below| counts(y, &masks_of(above, below), &offsets, job, sheet))
-            && route_is_true(job, sheet);
-        good.then_some(Verdict::Route)
-    };
-    Ok(verdict.unwrap_or(Verdict::FalseSheet))
+        return (zeros && are_costs::<L>(floor, job, sheet.d)).then_some(Verdict::NoRoute);
+    }
+    let offsets = offsets(columns);
+    let mut window = Window::new([sheet.d, sheet.e], [a, b], columns);
+    let good = all_rows(floor, |y, cells| window.row_is_true::<L>(y, &masks_of::<L>(cells, columns)))
+        && all_rows(floor, |y, cells| counts_are_true::<L>(y, &masks_of::<L>(cells, columns), &offsets, job, sheet))
+        && route_is_true(job, sheet);
+    good.then_some(Verdict::Route)
 }
