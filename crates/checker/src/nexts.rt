@@ -5,6 +5,7 @@ ghost use Prim.Native.Nat.{_≤_};
 ghost use lib.ListN.{length};
 ghost use Rattle.floor.specs.Floor.{floorOf};
 ghost use Rattle.masks.specs.Windows.{WindowsTo};
+ghost use Rattle.offsets.specs.Offsets.{Shifts};
 ghost use Rattle.paths.specs.Local.{rightNext};
 ghost use Rattle.grid.specs.Grid.{floorGraph};
 ghost use Rattle.neighbours.specs.Reading.{maskGraph};
@@ -65,11 +66,12 @@ fn row_right(
     f: &[u64],
     back: &[u64],
     next: &[u16],
+    shifts: &[usize],
     windows: [u32; 16],
     y: usize,
 ) -> bool
     requires { ⌜ Choosable w h (now map) rows b (chosenOf (now d) (now e) (now f) (now back) (now next)) × (y ≤ h)
-        × WindowsTo rows 16 windows ⌝ }
+        × WindowsTo rows 16 windows × Shifts w rows (now shifts) ⌝ }
     ensures { λ r. ⌜ r ≡ nextRowTest (floorGraph (floorOf w h (now (map .entry))) rows) b
         (chosenOf (now (d .entry)) (now (e .entry)) (now (f .entry)) (now (back .entry)) (now (next .entry))) w y ⌝ }
 {
@@ -78,11 +80,10 @@ fn row_right(
     if !neighbours::any_on_way(d, e, b, first, past) {
         return crate::zeros::all_zero(next, first, past);
     }
-    let shifts = offsets::shifts_of(w, rows);
     let leaving = masks::leaving_row(w, h, map, rows, y, windows);
     let mut right = true;
     for x in 0..w + 1 {
-        if !next_right(rows, &shifts, leaving[x], b, d, e, f, back, next, first + x) {
+        if !next_right(rows, shifts, leaving[x], b, d, e, f, back, next, first + x) {
             right = false;
         }
     }
@@ -108,9 +109,24 @@ pub fn nexts_right(
         (chosenOf (now (d .entry)) (now (e .entry)) (now (f .entry)) (now (back .entry)) (now (next .entry))) ⌝ }
 {
     let goal = b.0;
+    let shifts = offsets::shifts_of(w, rows);
     let windows = masks::window_masks(rows);
     for y in 0..h + 1 {
-        if !row_right(w, h, map, rows, goal, d, e, f, back, next, windows, y) {
+        if !row_right(
+            w,
+            h,
+            map,
+            rows,
+            goal,
+            d,
+            e,
+            f,
+            back,
+            next,
+            &shifts,
+            windows,
+            y,
+        ) {
             return false;
         }
     }

@@ -6,6 +6,7 @@ ghost use lib.ListN.{length};
 ghost use Rattle.floor.specs.Floor.{floorOf};
 ghost use Rattle.masks.specs.Windows.{WindowsTo};
 ghost use Rattle.offsets.specs.Classes.{Classes};
+ghost use Rattle.offsets.specs.Offsets.{Shifts};
 ghost use Rattle.paths.specs.Local.{entry, countAt, Shaped, blankAt};
 ghost use Rattle.paths.specs.Sheet.{sheetOf};
 ghost use Rattle.grid.specs.Grid.{floorGraph};
@@ -147,16 +148,17 @@ fn row_right(
     back: &[u64],
     route: &[u16],
     next: &[u16],
+    shifts: &[usize],
     windows: [u32; 16],
     y: usize,
 ) -> bool
     requires { ⌜ Posed w h (now map) rows a b
-        (sheetOf (now d) (now e) (now f) (now back) (now route) (now next) 0) × (y ≤ h) × WindowsTo rows 16 windows ⌝ }
+        (sheetOf (now d) (now e) (now f) (now back) (now route) (now next) 0) × (y ≤ h) × WindowsTo rows 16 windows
+        × Shifts w rows (now shifts) ⌝ }
     ensures { λ r. ⌜ r ≡ rowTest joined (leavingGraph (floorOf w h (now (map .entry))) rows) a b
         (sheetOf (now (d .entry)) (now (e .entry)) (now (f .entry)) (now (back .entry)) (now (route .entry))
         (now (next .entry)) 0) w y ⌝ }
 {
-    let shifts = offsets::shifts_of(w, rows);
     let classes = offsets::classes_of(rows);
     let leaving = masks::leaving_row(w, h, map, rows, y, windows);
     let first = y * (w + 1);
@@ -164,7 +166,7 @@ fn row_right(
     for x in 0..w + 1 {
         if !vertex_right(
             rows,
-            &shifts,
+            shifts,
             classes,
             leaving[x],
             joined,
@@ -210,6 +212,7 @@ pub fn vertices_right(
 {
     let start = a.0;
     let goal = b.0;
+    let shifts = offsets::shifts_of(w, rows);
     let windows = masks::window_masks(rows);
     for y in 0..h + 1 {
         if !row_right(
@@ -226,6 +229,7 @@ pub fn vertices_right(
             back,
             route,
             next,
+            &shifts,
             windows,
             y,
         ) {

@@ -7,11 +7,12 @@
 --   far-back                == the opposite move leads back
 --   leads-all               == the moves that lead from v to u, turned, are those that lead from u to v
 --   cleared-none            == before the first vertex no bit is cleared
---   cleared-skip, cleared-hit == past a vertex that is no pinch, and past one that is
+--   cleared-skip, cleared-hit == past a vertex that is no pinch, and past one that is, where the moves of a table that has
+--                              the rows are cleared
 --   past-skip, past-hit     == the same of the vertex (x, y), by its mask
 --   cleared-all             == past the last vertex the masks are those of the open moves
 use Prim.Native.Nat.{ℕ, zero, suc, _+_, _*_, _≤_, _<_}
-use mathlib.Core.Path.{_≡_, refl, sym, ap, ap₂, _∙_}
+use mathlib.Core.Path.{_≡_, refl, sym, ap, ap₂, subst, _∙_}
 use mathlib.Core.Logic.{⊎-elim, _⊎_, inl, inr}
 use mathlib.Core.Bool.{Bool, true, false, _&&_, _||_, not, and-true, and-false, true≢false}
 use mathlib.Core.List.{List}
@@ -39,7 +40,7 @@ use Rattle.moves.specs.Moves.{moveOf, rowMove, rowAt, moveAt}
 use Rattle.moves.specs.Steps.{shifted, thenAt, farEndAt, endIf, isSome, stepOf}
 use Rattle.moves.proofs.Steps.{shifted-is}
 use Rattle.moves.specs.Leaving.{leaves}
-use Rattle.moves.specs.Table.{Listed, oppositeOf}
+use Rattle.moves.specs.Table.{Listed, Within, oppositeOf}
 use Rattle.moves.proofs.Table.{LawfulMove, lawful-move, listed-lawful, each-listed}
 use Rattle.moves.proofs.Steps.{goes-end}
 use Rattle.moves.proofs.Opposites.{goes, goes-back}
@@ -281,14 +282,18 @@ module _ (f : Floor) (r : Rows) (listed : Listed r) where
         ap (λ b. b && not (eqb w v)) (row-to (clearedTo v) u k w e ∙ cleared-to v u w)
         ∙ past (leaves f (segment W u w)) w p ∙ sym (row-to (clearedTo (suc v)) u k w e ∙ cleared-to (suc v) u w)
 
-    pub cleared-hit : {l l′ : List ℕ} → v < vertices W H → pinch f (X v) (Y v) ≡ true → Cleared f r v l
-        → ClearsTo W H r (X v) (Y v) (r .count) l l′ → Cleared f r (suc v) l′
-    cleared-hit {l} {l′} j p C R = record {
+    pub cleared-hit : {q : Rows} {l l′ : List ℕ} → Within q r → v < vertices W H → pinch f (X v) (Y v) ≡ true
+        → Cleared f q v l → ClearsTo W H r (X v) (Y v) (r .count) l l′ → Cleared f q (suc v) l′
+    cleared-hit {q} {l} {l′} I j p C R = record {
       len = R .len ∙ C .len;
       at = λ u i. record {
         at = λ m h.
-            let k = rowAt r m in
-            R .at u k (omega (arith, C .len)) ∙ ap₂ (λ a b. a && not b) (C .at u i .at m h) (leads-all u v m i j h)
+            let k = rowAt q m in
+            let n = I .at m h in
+            let all : any (r .count) (leadsBack W H r (X v) (Y v) u k) ≡ leadsTo (end u k) v =
+            subst (λ k. any (r .count) (leadsBack W H r (X v) (Y v) u k) ≡ leadsTo (end u k) v) (sym (n .2))
+            (leads-all u v (n .0) i j (n .1)) in
+            R .at u k (omega (arith, C .len)) ∙ ap₂ (λ a b. a && not b) (C .at u i .at m h) all
             ∙ row-past u k p (end u k) refl;
       };
       mark = λ u i.
@@ -311,15 +316,16 @@ module _ (f : Floor) (r : Rows) (listed : Listed r) where
             (λ (n : w ≡ v → ⊥). rw (le-ltb w v (omega arith), le-ltb w (suc v) (omega (arith, n)))) (eq-or-ne w v))
             (le-or-lt (suc w) v)
 
-    pub cleared-skip : {l : List ℕ} → pinch f (X v) (Y v) ≡ false → Cleared f r v l → Cleared f r (suc v) l
-    cleared-skip p C = record {
+    pub cleared-skip : {q : Rows} {l : List ℕ} → pinch f (X v) (Y v) ≡ false → Cleared f q v l → Cleared f q (suc v) l
+    cleared-skip {q} p C = record {
       len = C .len;
-      at = λ u i. record { at = λ m h. C .at u i .at m h ∙ row-same u (rowAt r m) p (end u (rowAt r m)) refl };
+      at = λ u i. record { at = λ m h. C .at u i .at m h ∙ row-same u (rowAt q m) p (end u (rowAt q m)) refl };
       mark = C .mark;
     }
 
   -- The same of the vertex (x, y), by the bit of its mask that says whether it is a pinch.
-  module _ (x y : ℕ) (on : x ≤ W) (in-y : y ≤ H) {l : List ℕ} (C : Cleared f r (number W x y) l) where
+  module _ (x y : ℕ) (on : x ≤ W) (in-y : y ≤ H) {q : Rows} (I : Within q r) {l : List ℕ}
+      (C : Cleared f q (number W x y) l) where
     abbrev v : ℕ
     v = number W x y
 
@@ -332,14 +338,14 @@ module _ (f : Floor) (r : Rows) (listed : Listed r) where
     next : suc v ≡ number W (suc x) y
     next = omega arith
 
-    pub past-skip : bit (getD l v 0) pinchBit ≡ false → Cleared f r (number W (suc x) y) l
+    pub past-skip : bit (getD l v 0) pinchBit ≡ false → Cleared f q (number W (suc x) y) l
     past-skip e = rw next at (cleared-skip v (sym is-pinch ∙ e) C)
 
     pub past-hit : {l′ : List ℕ} → bit (getD l v 0) pinchBit ≡ true → ClearsTo W H r x y (r .count) l l′
-        → Cleared f r (number W (suc x) y) l′
+        → Cleared f q (number W (suc x) y) l′
     past-hit {l′} e R =
         rw next
-        at (cleared-hit v {l′ = l′} inside (sym is-pinch ∙ e) C (rw (column-number W x y on, row-number W x y on) R))
+        at (cleared-hit v {l′ = l′} I inside (sym is-pinch ∙ e) C (rw (column-number W x y on, row-number W x y on) R))
 
   pub cleared-all : {t : ℕ} {l : List ℕ} → vertices W H ≤ t → Cleared f r t l → OpenMasks f r l
   cleared-all {t} {l} all C = record {

@@ -2,7 +2,7 @@
 --
 --   leaves-row    == a row leaves a vertex where nothing is in the way and the vertex is no pinch
 --   mask-number   == the mask of a vertex by its number
---   row-none, -more, -fewer == the masks of the vertices of a row before column x, made one after the other
+--   row-none, -more == the masks of the vertices of a row before column x, made one after the other
 --   leaving-none, -more, -fewer == the masks of the vertices before one, stored one after the other
 use Prim.Native.Nat.{ℕ, suc, _≤_, _<_}
 use mathlib.Core.Path.{_≡_, refl, ap₂, _∙_}
@@ -64,9 +64,6 @@ row-more {f} {r} {y} {n} {m} {l} R i is = record {
       let e : x ≡ n = omega arith in
       rw (e, getD-set-same l n m 0 (omega (arith, R .len))) is) (le-or-lt (suc x) n);
 }
-
-pub row-fewer : {f : Floor} {r : Rows} {y n m : ℕ} {l : List ℕ} → LeavingRow f r y n l → m ≤ n → LeavingRow f r y m l
-row-fewer R h = record { len = R .len; at = λ x i. R .at x (omega arith) }
 
 -- ---- all vertices
 

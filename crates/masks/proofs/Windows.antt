@@ -9,6 +9,7 @@
 --   gathered-none, -more, -all == one move after the other
 --   row-apart       == no row of a neighbourhood has the bit of a pinch
 --   pinch-alone     == the mask of a pinch
+--   window-within   == the mask of a table is that of the rows that it has
 --   windows-none, -more == the masks of all sixteen, made one after the other
 --   Cells r f x y n == n is the mask of the window at (x, y)
 --   window-read     == so is the one that is read by the number of the window
@@ -40,16 +41,16 @@ use Rattle.floor.proofs.Cells.{blocked-inside}
 use Rattle.sight.specs.Sight.{unblocked, pinch}
 use Rattle.moves.specs.declared.Move.{Move}
 use Rattle.moves.specs.declared.Rows.{Rows}
-use Rattle.moves.specs.Moves.{rowCount, rowAt, moveAt, neighbourhoodOf}
+use Rattle.moves.specs.Moves.{rowCount, rowMove, rowAt, moveAt}
 use Rattle.moves.specs.Steps.{up, down, endIf, isSome}
 use Rattle.moves.specs.Leaving.{leaves}
 use Rattle.moves.specs.Cells.{beside, windowBlocked, centre}
-use Rattle.moves.specs.Table.{Listed, Short, narrow, lawfulRows}
+use Rattle.moves.specs.Table.{Listed, sixteenRows, Within, Short, narrow, lawfulRows}
 use Rattle.moves.proofs.Table.{lawful-move, listed-lawful, same-row, each-listed}
 use Rattle.moves.proofs.Cells.{cells-tell}
 use Rattle.masks.specs.Masks.{rowIf, pinchBit, pinchMask, Leaving, LeavingRow}
 use Rattle.masks.specs.Windows.{windowAt, pinchOf, openIn, startOf, Window, WindowsTo, WindowRow}
-use Rattle.masks.specs.Windows.{sixteenRows, unitRows, unitMask, leftMask, rightMask, upperMask, lowerMask, joinedMask}
+use Rattle.masks.specs.Windows.{unitRows, unitMask, leftMask, rightMask, upperMask, lowerMask, joinedMask}
 use Rattle.masks.proofs.Masks.{leaves-row}
 
 -- ---- the four cells
@@ -219,6 +220,15 @@ module _ {r : Rows} (listed : Listed r) where
     mark = sym is;
   }
 
+-- The mask of a table, for the rows that it has.
+pub window-within : {r t : Rows} {b n : ℕ} → Within r t → Window t b n → Window r b n
+window-within {r} {t} {b} {n} I W = record {
+  rows = λ m l.
+      let k = I .at m l in
+      subst (λ k. bit n k ≡ openIn (rowMove k) (bit b 0) (bit b 1) (bit b 2) (bit b 3)) (sym (k .2)) (W .rows (k .0) (k .1));
+  mark = W .mark;
+}
+
 -- ---- the sixteen
 
 pub windows-none : {r : Rows} {l : List ℕ} → length l ≡ 16 → WindowsTo r 0 l
@@ -265,10 +275,6 @@ read-more {f} {y} {n} {b} {t} {l} R i e = record {
       let s : x ≡ n = omega arith in
       rw (s, getD-set-same l n (getD t b 0) 0 (omega (arith, R .len))) (ap (λ k. getD t k 0) e)) (le-or-lt (suc x) n);
 }
-
-pub sixteen-listed : Listed sixteenRows
-unfolding neighbourhoodOf
-sixteen-listed = record { number = 16; known = refl }
 
 pub listed-sixteen : {r : Rows} → Listed r → r .count ≡ 16 → r ≡ sixteenRows
 listed-sixteen h =

@@ -11,7 +11,6 @@
 --   Window r b n     == n is the mask of the rows r where the four cells are b
 --   WindowsTo r k l  == the list l has these masks for the numbers below k
 --   WindowRow f y t n l == the list l begins with the masks, of those in t, of the windows at the first n vertices of row y
---   sixteenRows      == the rows of the table of sixteen
 --   unitRows r       == no move of the rows r goes two columns or two rows
 --   unitMask, leftMask, rightMask, upperMask, lowerMask == of the rows of the sixteen, those of the eight moves by at most
 --                       one column and one row, and of those by two, those that go left, right, up and down
@@ -30,7 +29,7 @@ use Rattle.basics.specs.Bits.{bit}
 use Rattle.floor.specs.Floor.{Floor, blocked}
 use Rattle.moves.specs.declared.Move.{Move}
 use Rattle.moves.specs.declared.Rows.{Rows}
-use Rattle.moves.specs.Moves.{rowsOf, rowAt, moveAt}
+use Rattle.moves.specs.Moves.{rowAt, moveAt}
 use Rattle.moves.specs.Steps.{up, down}
 use Rattle.moves.specs.Cells.{windowBlocked}
 use Rattle.masks.specs.Masks.{pinchBit, pinchMask}
@@ -63,9 +62,6 @@ pub record WindowRow (f : Floor) (y : ℕ) (t : List ℕ) (n : ℕ) (l : List �
   pub at : (x : ℕ) → x < n → getD l x 0 ≡ getD t (windowAt f x y) 0
 
 -- ---- the rows of the sixteen by where their cells are
-
-abbrev pub sixteenRows : Rows
-sixteenRows = rowsOf 16 1 16
 
 abbrev pub unitRows : Rows → Bool
 unitRows r = every (r .count) (λ m. leb (natAbs (moveAt r m .dx)) 1 && leb (natAbs (moveAt r m .dy)) 1)

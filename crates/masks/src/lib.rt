@@ -2,20 +2,22 @@
 // that are open. Every bit of a mask comes from the test of a move, and the pinches from that of a vertex, both in sight:
 // they are asked of the sixteen floors of 2 by 2 cells, and the cells at a vertex say which.
 ghost use mathlib.Core.Path.{_≡_};
-ghost use mathlib.Core.Bool.{false};
+ghost use mathlib.Core.Bool.{true, false};
 ghost use Prim.Native.Nat.{suc, _+_, _-_, _^_, _<_, _≤_};
 ghost use lib.IntN.{natAbs};
 ghost use lib.ListN.{length};
 ghost use Rattle.basics.specs.Bounded.{pick};
 ghost use Rattle.basics.specs.Bits.{bit};
 ghost use Rattle.floor.specs.Floor.{Sized, floorOf, vertices, number};
-ghost use Rattle.moves.specs.Moves.{rowCount, moveAt};
-ghost use Rattle.moves.specs.Table.{Listed, OnFloor};
+ghost use Rattle.moves.specs.Moves.{moveOf, rowCount};
+ghost use Rattle.moves.specs.Table.{Listed, eightRows, sixteenRows, tableOf, Short, narrow, OnFloor};
 ghost use Rattle.masks.specs.Masks.{OpenMasks, LeavingRow, LeavingTo};
 ghost use Rattle.masks.specs.Windows.{pairAt, startOf, openIn, pinchOf, Window, WindowsTo};
-ghost use Rattle.masks.specs.Windows.{WindowRow, sixteenRows, joinedMask};
+ghost use Rattle.masks.specs.Windows.{WindowRow, joinedMask};
 ghost use Rattle.masks.specs.Masks.{Cleared, WithoutBit, turnedRow, ClearsMove, ClearsTo};
+use moves::EIGHT_ROWS;
 use moves::Rows;
+use moves::SIXTEEN_ROWS;
 use moves::Step;
 
 // The mask of a pinch: no row, and a bit that is no row's of a neighbourhood.
@@ -64,19 +66,49 @@ fn start_of(d: i8) -> usize
     1 + o.down / 2 - o.up / 2
 }
 
-// Whether move m of the rows is open in a floor of 2 by 2 cells, of which cell c is blocked where b has bit c, and whose
-// middle is no pinch: the cells beside the move are these four.
-fn window_open(b: u8, rows: Rows, m: usize) -> bool
-    requires { ⌜ Listed rows × (m < rows .count)
+// The bit of row k, where a move of these offsets is open in a floor of 2 by 2 cells, of which cell c is blocked where b has
+// bit c, and whose middle is no pinch: the cells beside the move are these four. The offsets are numbers of their own, so
+// that where they are constants the test is compiled for them.
+fn row_open(b: u8, dx: i8, dy: i8, k: usize) -> u32
+    requires { ⌜ Short (moveOf dx dy 0) × (narrow (moveOf dx dy 0) ≡ true) × (k < rowCount)
         × (pinchOf (bit b 0) (bit b 1) (bit b 2) (bit b 3) ≡ false) ⌝ }
-    ensures { λ r. ⌜ r ≡ openIn (moveAt rows m) (bit b 0) (bit b 1) (bit b 2) (bit b 3) ⌝ }
+    ensures { λ r. ⌜ r ≡ pick (openIn (moveOf dx dy 0) (bit b 0) (bit b 1) (bit b 2) (bit b 3)) (2 ^ k) 0 ⌝ }
 {
     let map = floor::window_map(b);
-    let t = moves::move_at(rows, m);
-    moves::is_unblocked(2, 2, &map, start_of(t.dx), start_of(t.dy), t.dx, t.dy)
+    row_where(
+        moves::is_unblocked(2, 2, &map, start_of(dx), start_of(dy), dx, dy),
+        k,
+    )
 }
 
-// The mask of the rows where the four cells beside a move are b.
+// The mask of the eight. The rows and how many they are stand here as constants, so that the loop is written out move by
+// move; so it is below, wherever the eight and the sixteen have a function each.
+fn eight_open(b: u8) -> u32
+    requires { ⌜ pinchOf (bit b 0) (bit b 1) (bit b 2) (bit b 3) ≡ false ⌝ }
+    ensures { λ r. ⌜ Window eightRows b r ⌝ }
+{
+    let mut mask: u32 = 0;
+    for m in 0..8 {
+        let t = moves::move_at(EIGHT_ROWS, m);
+        mask = mask | row_open(b, t.dx, t.dy, moves::row_at(EIGHT_ROWS, m));
+    }
+    mask
+}
+
+// The mask of the sixteen.
+fn sixteen_open(b: u8) -> u32
+    requires { ⌜ pinchOf (bit b 0) (bit b 1) (bit b 2) (bit b 3) ≡ false ⌝ }
+    ensures { λ r. ⌜ Window sixteenRows b r ⌝ }
+{
+    let mut mask: u32 = 0;
+    for m in 0..16 {
+        let t = moves::move_at(SIXTEEN_ROWS, m);
+        mask = mask | row_open(b, t.dx, t.dy, moves::row_at(SIXTEEN_ROWS, m));
+    }
+    mask
+}
+
+// The mask of the rows where the four cells beside a move are b. The rows of 4 are among those of 8.
 fn window_mask(b: u8, rows: Rows) -> u32
     requires { ⌜ Listed rows ⌝ }
     ensures { λ r. ⌜ Window rows b r ⌝ }
@@ -85,11 +117,10 @@ fn window_mask(b: u8, rows: Rows) -> u32
     if sight::is_pinch(2, 2, &map, 1, 1) {
         return PINCH;
     }
-    let mut mask: u32 = 0;
-    for m in 0..rows.count {
-        mask = mask | row_where(window_open(b, rows, m), moves::row_at(rows, m));
+    if rows.count == 16 {
+        return sixteen_open(b);
     }
-    mask
+    eight_open(b)
 }
 
 // These masks for all sixteen: what is asked of sight is asked of these floors, once for each pass over the floor.
@@ -256,14 +287,36 @@ fn clear_back(w: usize, h: usize, rows: Rows, x: usize, y: usize, m: usize, mask
     masks[at] = without(masks[at], turned_row(rows, m));
 }
 
-// Clears the bit of every move that leads to (x, y).
-fn clear_to(w: usize, h: usize, rows: Rows, x: usize, y: usize, masks: &mut [u32])
-    requires { ⌜ OnFloor w h x y × Listed rows × (length (now masks) ≡ vertices w h) ⌝ }
-    ensures { λ _. ⌜ ClearsTo w h rows x y (rows .count) (now (masks .entry)) (now (masks .exit)) ⌝ }
+// Clears the bit of every move of the eight that leads to (x, y).
+fn clear_eight(w: usize, h: usize, x: usize, y: usize, masks: &mut [u32])
+    requires { ⌜ OnFloor w h x y × (length (now masks) ≡ vertices w h) ⌝ }
+    ensures { λ _. ⌜ ClearsTo w h eightRows x y 8 (now (masks .entry)) (now (masks .exit)) ⌝ }
 {
-    for m in 0..rows.count {
-        clear_back(w, h, rows, x, y, m, masks);
+    for m in 0..8 {
+        clear_back(w, h, EIGHT_ROWS, x, y, m, masks);
     }
+}
+
+// Clears the bit of every move of the sixteen that leads to (x, y).
+fn clear_sixteen(w: usize, h: usize, x: usize, y: usize, masks: &mut [u32])
+    requires { ⌜ OnFloor w h x y × (length (now masks) ≡ vertices w h) ⌝ }
+    ensures { λ _. ⌜ ClearsTo w h sixteenRows x y 16 (now (masks .entry)) (now (masks .exit)) ⌝ }
+{
+    for m in 0..16 {
+        clear_back(w, h, SIXTEEN_ROWS, x, y, m, masks);
+    }
+}
+
+// Clears the bit of every move that leads to (x, y), of the table that has the rows.
+fn clear_to(w: usize, h: usize, rows: Rows, x: usize, y: usize, masks: &mut [u32])
+    requires { ⌜ OnFloor w h x y × (length (now masks) ≡ vertices w h) ⌝ }
+    ensures { λ _. ⌜ ClearsTo w h (tableOf rows) x y (tableOf rows .count) (now (masks .entry)) (now (masks .exit)) ⌝ }
+{
+    if rows.count == 16 {
+        clear_sixteen(w, h, x, y, masks);
+        return;
+    }
+    clear_eight(w, h, x, y, masks);
 }
 
 // Clears the bits of the moves that lead to (x, y) where it is a pinch. The map is for the contract only.

@@ -1,9 +1,10 @@
--- A small signed byte: what the machine reads back, and its two parts by its sign.
+-- A small signed byte: what the machine reads back, and how far up it goes by its sign.
 --
 --   back, back-neg   == the offset, and its negation, as the machine reads them back
 --   parts-abs        == its two parts together are how far it goes
---   Below d, Above d == the parts of an offset below 0, and of one that is not
-use Prim.Native.Nat.{ℕ, _+_, _≤_}
+--   neg-up           == an offset goes as far down as its negation goes up
+--   below, Above d   == how far up an offset below 0 goes, and one that is not
+use Prim.Native.Nat.{ℕ, zero, suc, _+_, _≤_}
 use mathlib.Core.Path.{_≡_, refl}
 use mathlib.Core.Bool.{true, false}
 use native.Mathlib.Omega.{arith}
@@ -23,36 +24,40 @@ small (negsuc n) h = record { sfits = omega arith }
 pub back : (d : ℤ) → natAbs d ≤ 2 → toZ w8 (ofZ w8 d) ≡ d
 back d h = toZ-ofZ w8 d (small d h)
 
-neg-abs : (d : ℤ) → ltZ d (pos 0) ≡ true → natAbs (pos 0 -ℤ d) ≡ natAbs d
-neg-abs (pos n) e = absurd (omega (arith, ltb-true n 0 e))
-neg-abs (negsuc n) e = omega arith
+pub neg-abs : (d : ℤ) → natAbs d ≤ 2 → natAbs (pos 0 -ℤ d) ≡ natAbs d
+neg-abs (pos zero) h = refl
+neg-abs (pos (suc zero)) h = refl
+neg-abs (pos (suc (suc zero))) h = refl
+neg-abs (pos (suc (suc (suc n)))) h = absurd (omega arith)
+neg-abs (negsuc n) h = omega arith
 
-pub neg-fits : (d : ℤ) → natAbs d ≤ 2 → ltZ d (pos 0) ≡ true → SFits w8 (pos 0 -ℤ d)
-neg-fits d h e = small (pos 0 -ℤ d) (omega (arith, neg-abs d e))
+pub neg-fits : (d : ℤ) → natAbs d ≤ 2 → SFits w8 (pos 0 -ℤ d)
+neg-fits d h = small (pos 0 -ℤ d) (omega (arith, neg-abs d h))
 
-pub back-neg : (d : ℤ) → natAbs d ≤ 2 → ltZ d (pos 0) ≡ true → toZ w8 (ofZ w8 (pos 0 -ℤ toZ w8 (ofZ w8 d))) ≡ pos 0 -ℤ d
-back-neg d h e = rw (back d h) (toZ-ofZ w8 (pos 0 -ℤ d) (neg-fits d h e))
+pub back-neg : (d : ℤ) → natAbs d ≤ 2 → toZ w8 (ofZ w8 (pos 0 -ℤ toZ w8 (ofZ w8 d))) ≡ pos 0 -ℤ d
+back-neg d h = rw (back d h) (toZ-ofZ w8 (pos 0 -ℤ d) (neg-fits d h))
 
-pub record Below (d : ℤ) : Type 0 where
-  pub sign : T (nonNeg (pos 0 -ℤ d))
-  pub up-zero : up d ≡ 0
-  pub down-is : natAbs (pos 0 -ℤ d) ≡ down d
-  pub fits : Fits w64 (natAbs (pos 0 -ℤ d))
-
-pub below : (d : ℤ) → natAbs d ≤ 2 → ltZ d (pos 0) ≡ true → Below d
+pub neg-up : (d : ℤ) → natAbs d ≤ 2 → up (pos 0 -ℤ d) ≡ down d
 unfolding up down
-below (pos n) h e = absurd (omega (arith, ltb-true n 0 e))
-below (negsuc n) h e = record { sign = tt; up-zero = refl; down-is = omega arith; fits = record { fits = omega arith } }
+neg-up (pos zero) h = refl
+neg-up (pos (suc zero)) h = refl
+neg-up (pos (suc (suc zero))) h = refl
+neg-up (pos (suc (suc (suc n)))) h = absurd (omega arith)
+neg-up (negsuc n) h = omega arith
+
+pub below : (d : ℤ) → ltZ d (pos 0) ≡ true → up d ≡ 0
+unfolding up
+below (pos n) e = absurd (omega (arith, ltb-true n 0 e))
+below (negsuc n) e = refl
 
 pub record Above (d : ℤ) : Type 0 where
   pub sign : T (nonNeg d)
   pub up-is : natAbs d ≡ up d
-  pub down-zero : down d ≡ 0
   pub fits : Fits w64 (natAbs d)
 
 pub above : (d : ℤ) → natAbs d ≤ 2 → ltZ d (pos 0) ≡ false → Above d
-unfolding up down
-above (pos n) h e = record { sign = tt; up-is = refl; down-zero = refl; fits = record { fits = omega arith } }
+unfolding up
+above (pos n) h e = record { sign = tt; up-is = refl; fits = record { fits = omega arith } }
 above (negsuc n) h e = let g : true ≡ false = e in let z : _≡_ {A = ℕ} 0 1 = cc in absurd (omega arith)
 
 pub parts-abs : (d : ℤ) → up d + down d ≡ natAbs d

@@ -7,9 +7,11 @@
 --   rows-lawful          == rows that pass the test are a lawful table
 --   listed-lawful        == the rows of a neighbourhood pass the test
 --   listed-few           == it has at most sixteen moves
+--   eight-listed, sixteen-listed == the two tables are neighbourhoods
+--   table-listed, table-within == so is the one that has the rows of a neighbourhood, and it has them
+--   table-sixteen, table-eight == which it is, by the number of moves
 --   dearest, listed-cost == no move of a neighbourhood costs more than 577, or with sixteen 2,236
 --   rowCost, row-cost    == the cost of a row, by where it stands in a quarter turn
---   table-short          == every row of the tables is short
 --   offset-eq            == an offset is known by where it leads
 use Prim.Native.Nat.{ℕ, zero, suc, _+_, _*_, _%_, _≤_, _<_}
 use mathlib.Core.Path.{_≡_, refl, sym, ap, ap₂, subst}
@@ -18,14 +20,14 @@ use mathlib.Core.Bool.{Bool, true, false, _&&_, _||_, not}
 use mathlib.Core.List.{List, [], _∷_, _++_}
 use native.Mathlib.Omega.{arith}
 use native.Mathlib.Nat.{mod-lt}
-use borrow.Author.Tests.{eqb-true, eq-eqb, leb-true, ltb-true, not-true}
+use borrow.Author.Tests.{eqb-true, eq-eqb, ne-eqb, leb-true, ltb-true, not-true}
 use lib.Dec.{eqb, leb, ltb}
 use lib.IntN.{ℤ, pos, negsuc, natAbs}
 use lib.ListN.{length, getD}
-use Rattle.basics.specs.Bounded.{pick, every, bounded-opened}
+use Rattle.basics.specs.Bounded.{pick, every, any, bounded-opened}
 use Rattle.basics.proofs.Order.{le-or-lt}
 use Rattle.basics.proofs.Bools.{and-left, and-right, not-both}
-use Rattle.basics.proofs.Bounded.{every-at}
+use Rattle.basics.proofs.Bounded.{every-at, any-cases}
 use Rattle.moves.specs.declared.Move.{Move}
 use Rattle.moves.specs.declared.Rows.{Rows}
 use Rattle.moves.specs.declared.Neighbourhood.{Neighbourhood}
@@ -33,7 +35,8 @@ use Rattle.moves.specs.declared.Neighbourhood.the-variants.{Known, Unkno
 use Rattle.moves.specs.Moves.{moves, sixteen, rowCount, rowMove, rowsOf, rowAt, moveAt, neighbourhoodOf}
 use Rattle.moves.specs.Steps.{up, down}
 use Rattle.moves.specs.AnyTable.{Turned, LawfulTable}
-use Rattle.moves.specs.Table.{Listed, Short, oppositeOf, turned, sameOffset, narrow, lawfulTests, lawfulRow, lawfulRows}
+use Rattle.moves.specs.Table.{Listed, eightRows, sixteenRows, tableOf, Within}
+use Rattle.moves.specs.Table.{Short, oppositeOf, turned, sameOffset, narrow, lawfulTests, lawfulRow, lawfulRows}
 
 -- ---- which moves a neighbourhood has
 
@@ -102,6 +105,44 @@ listed-lawful h = each-listed (λ r. lawfulRows r ≡ true) cardinal-lawful eigh
 
 pub listed-few : {r : Rows} → Listed r → r .count ≤ 16
 listed-few h = each-listed (λ r. r .count ≤ 16) (omega arith) (omega arith) (omega arith) h
+
+-- ---- the tables
+
+pub eight-listed : Listed eightRows
+unfolding neighbourhoodOf
+eight-listed = record { number = 8; known = refl }
+
+pub sixteen-listed : Listed sixteenRows
+unfolding neighbourhoodOf
+sixteen-listed = record { number = 16; known = refl }
+
+pub table-sixteen : (r : Rows) → r .count ≡ 16 → tableOf r ≡ sixteenRows
+table-sixteen r e = rw (eq-eqb (r .count) 16 e)
+
+pub table-eight : (r : Rows) → (r .count ≡ 16 → ⊥) → tableOf r ≡ eightRows
+table-eight r n = rw (ne-eqb (r .count) 16 n)
+
+pub table-listed : (r : Rows) → Listed (tableOf r)
+table-listed r = cases (eqb (r .count) 16)
+  where
+    cases : (b : Bool) → Listed (pick b sixteenRows eightRows)
+    cases true = sixteen-listed
+    cases false = eight-listed
+
+-- Row m of r is one of its table.
+abbrev inTable : Rows → ℕ → Bool
+inTable r m = any (tableOf r .count) (λ k. eqb (rowAt r m) (rowAt (tableOf r) k))
+
+pub table-within : {r : Rows} → Listed r → Within r (tableOf r)
+unfolding bounded-opened
+table-within {r} h = record {
+  at = λ m l.
+      let all = each-listed (λ r. every (r .count) (inTable r) ≡ true) refl refl refl h in
+      let c = any-cases (tableOf r .count) (λ k. eqb (rowAt r m) (rowAt (tableOf r) k)) (every-at (r .count) (inTable r) all m l) in
+      (c .0, c .1, eqb-true _ _ (c .2));
+}
+
+-- ---- what a move costs
 
 -- 2,236 where there are sixteen, else 577.
 abbrev pub dearest : Rows → ℕ
@@ -206,15 +247,3 @@ rowCost k =
 pub row-cost : (k : ℕ) → k < rowCount → rowMove k .cost ≡ rowCost k
 unfolding bounded-opened
 row-cost k l = eqb-true _ _ (every-at rowCount (λ k. eqb (rowMove k .cost) (rowCost k)) refl k l)
-
--- Every row of the tables is short.
-abbrev short : ℕ → Bool
-short k = leb (natAbs (rowMove k .dx)) 2 && leb (natAbs (rowMove k .dy)) 2
-
-pub table-short : (k : ℕ) → k < rowCount → Short (rowMove k)
-unfolding bounded-opened
-table-short k l =
-    let t = every-at rowCount short refl k l in
-    let columns = leb (natAbs (rowMove k .dx)) 2 in
-    let rows = leb (natAbs (rowMove k .dy)) 2 in
-    record { columns = leb-true _ 2 (and-left columns rows t); rows = leb-true _ 2 (and-right columns rows t) }

@@ -2,6 +2,9 @@
 -- these: the test is computed in proofs/, and the parts stand in contracts of private functions.
 --
 --   Listed r       == r are the rows of a neighbourhood
+--   eightRows, sixteenRows == the rows of the table of eight, and of the table of sixteen
+--   tableOf r      == of these two, those that have the rows of the neighbourhood r
+--   Within r t     == every row of r is one of t
 --   lawfulRows r   == the rows are in the tables; each costs 1 to 4,095, goes at most 2 columns and 2 rows, leads where
 --                     no other row leads, has its opposite, half the rows on, at the same cost, and is narrow
 --   narrow m       == move m goes one column or one row: it passes its two ends and no vertex between them
@@ -11,7 +14,7 @@
 --   partsOf d      == the signed offset d as how far up and how far down
 --   placeOf a      == one coordinate where it is there, as the code answers it
 --   spotOf a b     == the column a and the row b, where both are there
-use Prim.Native.Nat.{ℕ, _+_, _/_, _%_, _≤_}
+use Prim.Native.Nat.{ℕ, _+_, _/_, _%_, _≤_, _<_}
 use mathlib.Core.Path.{_≡_}
 use mathlib.Core.Bool.{Bool, true, _&&_, _||_, not}
 use mathlib.Core.List.{List, [], _∷_}
@@ -19,7 +22,7 @@ use mathlib.Core.Option.{Option, none, some}
 use lib.Dec.{leb, ltb, eqb}
 use lib.IntN.{ℤ, natAbs}
 use lib.ListN.{length, getD}
-use Rattle.basics.specs.Bounded.{every}
+use Rattle.basics.specs.Bounded.{pick, every}
 use Rattle.moves.specs.declared.Move.{Move}
 use Rattle.moves.specs.declared.Rows.{Rows}
 use Rattle.moves.specs.declared.Neighbourhood.the-variants.{Known}
@@ -28,12 +31,24 @@ use Rattle.moves.specs.declared.Place.{Place}
 use Rattle.moves.specs.declared.Place.the-variants.{Is, Past}
 use Rattle.moves.specs.declared.Spot.{Spot}
 use Rattle.moves.specs.declared.Spot.the-variants.{At, Outside}
-use Rattle.moves.specs.Moves.{rowCount, rowAt, moveAt, neighbourhoodOf}
+use Rattle.moves.specs.Moves.{rowCount, rowsOf, rowAt, moveAt, neighbourhoodOf}
 use Rattle.moves.specs.Steps.{up, down, shifted}
 
 pub record Listed (r : Rows) : Type 0 where
   pub number : ℕ
   pub known : neighbourhoodOf number ≡ Known r
+
+abbrev pub eightRows : Rows
+eightRows = rowsOf 0 2 8
+
+abbrev pub sixteenRows : Rows
+sixteenRows = rowsOf 16 1 16
+
+abbrev pub tableOf : Rows → Rows
+tableOf r = pick (eqb (r .count) 16) sixteenRows eightRows
+
+pub record Within (r t : Rows) : Type 0 where
+  pub at : (m : ℕ) → m < r .count → (k : ℕ) × (k < t .count) × (rowAt r m ≡ rowAt t k)
 
 -- In a table in order of angle the opposite of a move stands half its length on.
 abbrev pub oppositeOf : Rows → ℕ → ℕ

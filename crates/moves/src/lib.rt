@@ -183,23 +183,28 @@ const SIXTEEN: [Move; 16] = [
     },
 ];
 
+// The rows of the table of eight, and of the table of sixteen.
+pub const EIGHT_ROWS: Rows = Rows {
+    first: 0,
+    stride: 2,
+    count: 8,
+};
+
+pub const SIXTEEN_ROWS: Rows = Rows {
+    first: 16,
+    stride: 1,
+    count: 16,
+};
+
 // The rows of the neighbourhood with number n: 8 has the table of eight, 4 its cardinal rows, 16 the table of sixteen.
 pub fn rows_of(n: usize) -> Neighbourhood
     ensures { λ r. ⌜ r ≡ neighbourhoodOf n ⌝ }
 {
     if n == 16 {
-        return Neighbourhood::Known(Rows {
-            first: 16,
-            stride: 1,
-            count: 16,
-        });
+        return Neighbourhood::Known(SIXTEEN_ROWS);
     }
     if n == 8 {
-        return Neighbourhood::Known(Rows {
-            first: 0,
-            stride: 2,
-            count: 8,
-        });
+        return Neighbourhood::Known(EIGHT_ROWS);
     }
     if n == 4 {
         return Neighbourhood::Known(Rows {
@@ -312,20 +317,26 @@ pub fn cost_at(rows: Rows, m: usize) -> u32
     row_cost(row_at(rows, m))
 }
 
-// A signed offset as how far it goes up and how far down.
+// How far up a signed offset goes.
+fn up_of(d: i8) -> usize
+    requires { ⌜ natAbs d ≤ 2 ⌝ }
+    ensures { λ r. ⌜ r ≡ up d ⌝ }
+{
+    if d < 0 {
+        return 0;
+    }
+    d as usize
+}
+
+// A signed offset as how far it goes up and how far down. Each is told on its own, without a choice between two offsets, so
+// that the compiler sees what a constant one comes to before it puts a function in its caller's place.
 pub fn parts_of(d: i8) -> Offset
     requires { ⌜ natAbs d ≤ 2 ⌝ }
     ensures { λ r. ⌜ r ≡ partsOf d ⌝ }
 {
-    if d < 0 {
-        return Offset {
-            up: 0,
-            down: (-d) as usize,
-        };
-    }
     Offset {
-        up: d as usize,
-        down: 0,
+        up: up_of(d),
+        down: up_of(-d),
     }
 }
 

@@ -7,7 +7,7 @@
 --   masked-movable  == and that can be worked out
 --   shifts-..       == and the same by the list of shifts
 use Prim.Native.Nat.{ℕ, suc, _+_, _-_, _*_, _≤_, _<_}
-use mathlib.Core.Path.{_≡_, refl, sym, ap, _∙_}
+use mathlib.Core.Path.{_≡_, refl, sym, ap, subst, _∙_}
 use mathlib.Core.Logic.{⊎-elim}
 use mathlib.Core.Bool.{Bool, true, false}
 use mathlib.Core.Option.{Option, none, some}
@@ -25,9 +25,9 @@ use Rattle.sight.specs.Sight.{Segment}
 use Rattle.moves.specs.declared.Move.{Move}
 use Rattle.moves.specs.declared.Offset.{Offset}
 use Rattle.moves.specs.declared.Rows.{Rows}
-use Rattle.moves.specs.Moves.{rowCount, rowAt, moveAt}
+use Rattle.moves.specs.Moves.{rowCount, rowMove, rowAt, moveAt}
 use Rattle.moves.specs.Steps.{up, down, endIf, isSome}
-use Rattle.moves.specs.Table.{Short, lawfulRows, partsOf}
+use Rattle.moves.specs.Table.{Within, Short, lawfulRows, partsOf}
 use Rattle.basics.specs.Bits.{bit}
 use Rattle.masks.specs.Masks.{MaskAt}
 use Rattle.offsets.specs.Offsets.{offsetOf, maskedEnd, Movable}
@@ -166,9 +166,10 @@ pub record ShiftsTo (w : ℕ) (r : Rows) (n : ℕ) (l : List ℕ) : Type 0 where
 pub shifts-none : {w : ℕ} {r : Rows} {l : List ℕ} → length l ≡ rowCount → ShiftsTo w r 0 l
 shifts-none e = record { len = e; at = λ m h. absurd (omega arith) }
 
-pub shifts-more : {w n k : ℕ} {r : Rows} {l : List ℕ} {o : Offset} → lawfulRows r ≡ true → ShiftsTo w r n l → n < r .count
-    → MoveOffset w (moveAt r n) o → k ≡ rowAt r n → ShiftsTo w r (n + 1) (set l k (shiftBase + o .up - o .down))
-shifts-more {w} {n} {k} {r} {l} {o} lawful S h t e = rw e (record {
+pub shifts-more : {w n k : ℕ} {r : Rows} {l : List ℕ} (x : ℕ) → lawfulRows r ≡ true → ShiftsTo w r n l → n < r .count
+    → k ≡ rowAt r n → x + offsetOf w (moveAt r n) .down ≡ shiftBase + offsetOf w (moveAt r n) .up
+    → ShiftsTo w r (n + 1) (set l k x)
+shifts-more {w} {n} {k} {r} {l} x lawful S h e is = rw e (record {
   len = length-set l (rowAt r n) x ∙ S .len;
   at = λ m g. ⊎-elim
       (λ (lt : suc m ≤ n).
@@ -176,14 +177,19 @@ shifts-more {w} {n} {k} {r} {l} {o} lawful S h t e = rw e (record {
       (λ same. let z = same-row r lawful m n (omega arith) h same in omega arith)) (S .at m lt))
       (λ (ge : n < suc m).
       let z : m ≡ n = omega arith in
-      let u = ap (λ (o : Offset). o .up) (t .is) in
-      let d = ap (λ (o : Offset). o .down) (t .is) in
-      rw (z, getD-set-same l (rowAt r n) x 0 (omega (arith, S .len, lawful-move r n lawful h .in-table)))
-      (omega (arith, t .downs, u, d))) (le-or-lt (suc m) n);
+      rw (z, getD-set-same l (rowAt r n) x 0 (omega (arith, S .len, lawful-move r n lawful h .in-table))) is)
+      (le-or-lt (suc m) n);
 })
-  where
-    x : ℕ
-    x = shiftBase + o .up - o .down
 
 pub shifts-all : {w : ℕ} {r : Rows} {l : List ℕ} → ShiftsTo w r (r .count) l → Shifts w r l
 shifts-all S = record { len = S .len; at = S .at }
+
+-- The shifts of a table, for the rows that it has.
+pub shifts-within : {w : ℕ} {r t : Rows} {l : List ℕ} → Within r t → Shifts w t l → Shifts w r l
+shifts-within {w} {r} {t} {l} I S = record {
+  len = S .len;
+  at = λ m h.
+      let k = I .at m h in
+      subst (λ k. getD l k 0 + offsetOf w (rowMove k) .down ≡ shiftBase + offsetOf w (rowMove k) .up) (sym (k .2))
+      (S .at (k .0) (k .1));
+}

@@ -2,14 +2,16 @@
 // of one cost.
 ghost use mathlib.Core.Path.{_≡_};
 ghost use mathlib.Core.Bool.{true};
-ghost use Prim.Native.Nat.{_<_, _≤_};
+ghost use Prim.Native.Nat.{_+_, _<_, _≤_};
 ghost use Rattle.moves.specs.Moves.{moveAt};
-ghost use Rattle.moves.specs.Table.{Listed, lawfulRows};
-ghost use Rattle.offsets.specs.Offsets.{offsetOf, maskedEnd, Movable, Shifts, byShift, endOf};
+ghost use Rattle.moves.specs.Table.{Listed, eightRows, sixteenRows, lawfulRows};
+ghost use Rattle.offsets.specs.Offsets.{offsetOf, maskedEnd, Movable, shiftBase, Shifts, byShift, endOf};
 ghost use Rattle.offsets.specs.Classes.{classRow, classFor, Classes};
 use floor::Vertex;
+use moves::EIGHT_ROWS;
 use moves::Offset;
 use moves::Rows;
+use moves::SIXTEEN_ROWS;
 
 // What is added to a change of a vertex number that stands in a list.
 pub const SHIFT_BASE: usize = 512;
@@ -63,19 +65,52 @@ pub fn open_end(mask: u32, v: Vertex, k: usize, shift: usize) -> OpenEnd
     OpenEnd::Shut
 }
 
+// By how much move m of a neighbourhood changes a vertex number, and SHIFT_BASE more.
+fn shift_of(w: usize, rows: Rows, m: usize) -> usize
+    requires { ⌜ (w ≤ 127) × (lawfulRows rows ≡ true) × (m < rows .count) ⌝ }
+    ensures { λ r. ⌜ r + offsetOf w (moveAt rows m) .down ≡ shiftBase + offsetOf w (moveAt rows m) .up ⌝ }
+{
+    let by = offset_of(w, rows, m);
+    SHIFT_BASE + by.up - by.down
+}
+
+// The shifts of the eight. The rows and how many they are stand here as constants, so that the loop is written out move by
+// move.
+fn eight_shifts(w: usize) -> [usize; ROWS]
+    requires { ⌜ w ≤ 127 ⌝ }
+    ensures { λ r. ⌜ Shifts w eightRows r ⌝ }
+{
+    let mut shifts = [0; ROWS];
+    for m in 0..8 {
+        let k = moves::row_at(EIGHT_ROWS, m);
+        shifts[k] = shift_of(w, EIGHT_ROWS, m);
+    }
+    shifts
+}
+
+// The shifts of the sixteen.
+fn sixteen_shifts(w: usize) -> [usize; ROWS]
+    requires { ⌜ w ≤ 127 ⌝ }
+    ensures { λ r. ⌜ Shifts w sixteenRows r ⌝ }
+{
+    let mut shifts = [0; ROWS];
+    for m in 0..16 {
+        let k = moves::row_at(SIXTEEN_ROWS, m);
+        shifts[k] = shift_of(w, SIXTEEN_ROWS, m);
+    }
+    shifts
+}
+
 // By how much the move of each row of a neighbourhood changes a vertex number on floors of width w, and SHIFT_BASE more, so
-// that no number is negative. The place of another row has 0.
+// that no number is negative. The rows of 4 are among those of 8. The place of a row of neither has 0.
 pub fn shifts_of(w: usize, rows: Rows) -> [usize; ROWS]
     requires { ⌜ (w ≤ 127) × Listed rows ⌝ }
     ensures { λ r. ⌜ Shifts w rows r ⌝ }
 {
-    let mut shifts = [0; ROWS];
-    for m in 0..rows.count {
-        let by = offset_of(w, rows, m);
-        let k = moves::row_at(rows, m);
-        shifts[k] = SHIFT_BASE + by.up - by.down;
+    if rows.count == 16 {
+        return sixteen_shifts(w);
     }
-    shifts
+    eight_shifts(w)
 }
 
 // Row number j of a class.

@@ -8,6 +8,8 @@ use borrow.Author.Tests.{eq-eqb, ne-eqb}
 use lib.ListN.{length}
 use Rattle.floor.specs.Floor.{floorOf, vertices, number}
 use Rattle.floor.proofs.Numbers.{number-lt}
+use Rattle.moves.specs.Table.{tableOf}
+use Rattle.moves.proofs.Table.{table-listed, table-within}
 use Rattle.masks.proofs.Clearing.{past-skip, past-hit}
 use borrow.Author.Needs.{needs}
 use Rattle.masks.proofs.clear_at.Statement.{statement}
@@ -43,13 +45,14 @@ returns : tie.Need-returns
 returns c =
     let s = c .before .before .before .before in
     let a = s .args in
-    rw add-one (past-skip (floorOf (a .w) (a .h) (a .map .now)) (a .rows) (s .pre .2) (a .x) (a .y) (s .pre .1 .column) (s .pre .1 .row) (s .pre .3)
+    rw add-one (past-skip (floorOf (a .w) (a .h) (a .map .now)) (tableOf (a .rows)) (table-listed (a .rows)) (a .x) (a .y) (s .pre .1 .column)
+    (s .pre .1 .row) (table-within (s .pre .2)) (s .pre .3)
     (rw (← place s) (ne-eqb _ 1 (c .if1 .taken))))
 
 clear-to-requires : tie.Need-clear-to-requires
 clear-to-requires c κs =
     let s = c .before .before .before .before .before in
-    (s .pre .1, s .pre .2, s .pre .3 .len)
+    (s .pre .1, s .pre .3 .len)
 
 same-length : tie.Need-same-length
 same-length c = search needs
@@ -59,7 +62,8 @@ returns-2 c =
     let b = c .before .before in
     let s = b .before .before .before .before .before .before in
     let a = s .args in
-    rw add-one (past-hit (floorOf (a .w) (a .h) (a .map .now)) (a .rows) (s .pre .2) (a .x) (a .y) (s .pre .1 .column) (s .pre .1 .row) (s .pre .3)
+    rw add-one (past-hit (floorOf (a .w) (a .h) (a .map .now)) (tableOf (a .rows)) (table-listed (a .rows)) (a .x) (a .y) (s .pre .1 .column)
+    (s .pre .1 .row) (table-within (s .pre .2)) (s .pre .3)
     (rw (← place s) (eq-eqb _ 1 (b .before .before .if1 .left))) (b .clear-to .ensures))
 
 pub clear-at-spec : {M : Type 1} → statement M

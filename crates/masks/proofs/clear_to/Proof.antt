@@ -1,59 +1,41 @@
--- `masks::clear_to` meets its contract: the moves before m are cleared. Assumes nothing.
-use Prim.Native.Nat.{_-_, _≤_}
-use mathlib.Core.Path.{_≡_, _∙_}
-use native.Mathlib.Omega.{arith}
-use native.Mathlib.Numerals.{add-one}
-use Rattle.masks.specs.Masks.{ClearsTo}
-use Rattle.masks.proofs.Clearing.{clears-none, clears-more}
+-- `masks::clear_to` meets its contract: by the number of moves the table is that of the sixteen or that of the eight. Assumes
+-- nothing.
+use Rattle.moves.proofs.Table.{table-sixteen, table-eight}
+use borrow.Author.Needs.{needs}
 use Rattle.masks.proofs.clear_to.Statement.{statement}
 use Rattle.masks.proofs.clear_to.Tie as tie
 
-abbrev Inv-loop : tie.InvT-loop
-Inv-loop w h rows x y masks₀ m₀ m-end masks m = ClearsTo w h rows x y m masks₀ masks × (m ≤ rows .count)
+clear-sixteen-requires : tie.Need-clear-sixteen-requires
+clear-sixteen-requires c κs = search needs
 
-abbrev μ-loop : tie.MeasureT-loop
-μ-loop w h rows x y masks₀ m₀ m-end masks m = m-end - m
+same-length : tie.Need-same-length
+same-length c = search needs
 
-loop-holds : tie.Need-loop-holds Inv-loop μ-loop
-loop-holds c = (clears-none, omega arith)
-
-clear-back-requires : tie.Need-clear-back-requires Inv-loop μ-loop
-clear-back-requires c κs =
-    let l = c .before .before in
-    let p = l .before .before .pre in
-    (p .0, p .1, omega arith, l .loop .inv .0 .len ∙ p .2)
-
-add-m : tie.Need-add-m Inv-loop μ-loop
-add-m c = omega arith
-
-loop-less : tie.Need-loop-less Inv-loop μ-loop
-loop-less c = omega arith
-
-loop-again : tie.Need-loop-again Inv-loop μ-loop
-loop-again c =
-    let b = c .before .before in
-    let l = b .before .before .before in
-    (rw add-one (clears-more (l .loop .inv .0) (b .clear-back .ensures)), omega arith)
-
-same-length : tie.Need-same-length Inv-loop μ-loop
-same-length c = c .before .loop .inv .0 .len
-
-returns : tie.Need-returns Inv-loop μ-loop
+returns : tie.Need-returns
 returns c =
-    let l = c .before in
-    let e : l .loop .m ≡ l .before .before .args .rows .count = omega (arith, l .loop .inv .1) in
-    rw e at (l .loop .inv .0)
+    let d = c .before .before in
+    let t = d .before .before in
+    rw (table-sixteen (t .before .before .before .args .rows) (t .if1 .taken)) (d .clear-sixteen .ensures)
+
+clear-eight-requires : tie.Need-clear-eight-requires
+clear-eight-requires c κs = search needs
+
+same-length-2 : tie.Need-same-length-2
+same-length-2 c = search needs
+
+returns-2 : tie.Need-returns-2
+returns-2 c =
+    let d = c .before .before in
+    let t = d .before .before in
+    rw (table-eight (t .before .before .before .args .rows) (t .if1 .left)) (d .clear-eight .ensures)
 
 pub clear-to-spec : {M : Type 1} → statement M
 clear-to-spec =
     tie.close
     (tie.spec
-    Inv-loop
-    μ-loop
-    loop-holds
-    clear-back-requires
-    add-m
-    loop-less
-    loop-again
+    clear-sixteen-requires
     same-length
-    returns)
+    returns
+    clear-eight-requires
+    same-length-2
+    returns-2)

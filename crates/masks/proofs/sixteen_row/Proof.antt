@@ -7,10 +7,12 @@ use native.Mathlib.Omega.{arith}
 use native.Mathlib.Numerals.{add-one}
 use lib.ListN.{getD}
 use Rattle.floor.specs.Floor.{Floor, floorOf}
+use Rattle.moves.specs.Table.{sixteenRows}
+use Rattle.moves.proofs.Table.{sixteen-listed}
 use Rattle.masks.specs.Masks.{LeavingRow}
-use Rattle.masks.specs.Windows.{pairAt, windowAt, sixteenRows}
+use Rattle.masks.specs.Windows.{pairAt, windowAt}
 use Rattle.masks.proofs.Masks.{row-none, row-more}
-use Rattle.masks.proofs.Windows.{Cells, window-read, sixteen-listed, joined-leaving}
+use Rattle.masks.proofs.Windows.{Cells, window-read, joined-leaving}
 use borrow.Author.Needs.{needs}
 use Rattle.masks.proofs.sixteen_row.Statement.{statement}
 use Rattle.masks.proofs.sixteen_row.Tie as tie

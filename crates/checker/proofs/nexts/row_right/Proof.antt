@@ -22,12 +22,12 @@ use Rattle.checker.proofs.nexts.row_right.Statement.{statement}
 use Rattle.checker.proofs.nexts.row_right.Tie as tie
 
 abbrev Inv-loop : tie.InvT-loop
-Inv-loop w h map rows b d e f back next y first past shifts leaving right₀ x₀ x-end right x =
+Inv-loop w h map rows b d e f back next shifts y first past leaving right₀ x₀ x-end right x =
     (right ≡ every x (nextColumnTest (floorGraph (floorOf w h map) rows) b (chosenOf d e f back next) w y))
     × (x ≤ w + 1)
 
 abbrev μ-loop : tie.MeasureT-loop
-μ-loop w h map rows b d e f back next y first past shifts leaving right₀ x₀ x-end right x = x-end - x
+μ-loop w h map rows b d e f back next shifts y first past leaving right₀ x₀ x-end right x = x-end - x
 
 abbrev entered : tie.After-leaving-row Inv-loop μ-loop → tie.Start Inv-loop μ-loop
 entered c = c .before .before .before .before .before .before .before .before .before .before
@@ -60,8 +60,8 @@ small c =
     )
 
 -- The place before the first test, and the row there.
-abbrev begun : tie.After-shared-slice-known6 Inv-loop μ-loop → tie.Start Inv-loop μ-loop
-begun c = c .before .before .before .before .before .before
+abbrev begun : tie.After-shared-slice-known7 Inv-loop μ-loop → tie.Start Inv-loop μ-loop
+begun c = c .before .before .before .before .before .before .before
 
 -- The row ends within the slices.
 row-within : (c : tie.Start Inv-loop μ-loop)
@@ -110,9 +110,6 @@ returns c =
     (ap (λ z. a .y * z) (add-one (a .w))) (ap (λ z. a .y * (a .w + 1) + z) (add-one (a .w)))
     (o .any-on-way .ensures (not-true _ (c .before .if1 .taken))) (c .all-zero .result) (c .all-zero .ensures)
 
-shifts-of-requires : tie.Need-shifts-of-requires Inv-loop μ-loop
-shifts-of-requires c κs = search needs
-
 leaving-row-requires : tie.Need-leaving-row-requires Inv-loop μ-loop
 leaving-row-requires c κs =
     let s = c .before .before .before .before .before .before .before .before .before in
@@ -125,14 +122,11 @@ loop-holds : tie.Need-loop-holds Inv-loop μ-loop
 unfolding every
 loop-holds c = (refl, omega arith)
 
-slice-aggregate-next-right : tie.Need-slice-aggregate-next-right Inv-loop μ-loop
-slice-aggregate-next-right c = search needs
-
 mul-next-right : tie.Need-mul-next-right Inv-loop μ-loop
-mul-next-right c = let o = on-row (c .before) in omega (arith, o .wide, o .column)
+mul-next-right c = let o = on-row c in omega (arith, o .wide, o .column)
 
 array-read-next-right : tie.Need-array-read-next-right Inv-loop μ-loop
-array-read-next-right c = let o = on-row (c .before) in omega (arith, o .wide, o .column)
+array-read-next-right c = let o = on-row c in omega (arith, o .wide, o .column)
 
 -- The mask that the code reads.
 mask-is : (c : tie.In-loop Inv-loop μ-loop)
@@ -143,22 +137,20 @@ mask-is c = c .before .before .leaving-row .ensures .at (c .before .loop .x) (om
 
 add-next-right : tie.Need-add-next-right Inv-loop μ-loop
 add-next-right c =
-    let t = c .before in
-    let o = on-row t in
-    omega (arith, at-number t, number-lt _ _ _ _ (o .column) (o .row), vertices-le (o .wide) (o .high))
+    let o = on-row c in
+    omega (arith, at-number c, number-lt _ _ _ _ (o .column) (o .row), vertices-le (o .wide) (o .high))
 
 next-right-requires : tie.Need-next-right-requires Inv-loop μ-loop
 next-right-requires c κs =
-    let t = c .before in
-    let p = start t .pre .0 in
-    let S = t .before .before .before .shifts-of .ensures in (
-      next-choosing p S (on-row t) (mask-is t) (at-number t),
+    let s = start c in
+    let p = s .pre .0 in (
+      next-choosing p (s .pre .3) (on-row c) (mask-is c) (at-number c),
       p .counted,
       p .posed .shape .next ∙ sym (p .posed .shape .d),
     )
 
 add-x : tie.Need-add-x Inv-loop μ-loop
-add-x c = let o = on-row (c .before .before .before) in omega (arith, o .wide, o .column)
+add-x c = let o = on-row (c .before .before) in omega (arith, o .wide, o .column)
 
 loop-less : tie.Need-loop-less Inv-loop μ-loop
 loop-less c = search needs
@@ -166,9 +158,9 @@ loop-less c = search needs
 loop-again : tie.Need-loop-again Inv-loop μ-loop
 loop-again c =
     let r = c .before in
-    let t = r .before .before in
+    let t = r .before in
     let p = start t .pre .0 in
-    let S = t .before .before .before .shifts-of .ensures in
+    let S = start t .pre .3 in
     let i = t .before .loop .inv .0 in (
       ⊎-elim (λ w. w .1 ∙ next-stops p S (on-row t) (mask-is t) (at-number t) (small t) i (r .next-right .ensures)
           (w .0 .taken))
@@ -196,11 +188,9 @@ row-right-spec =
     any-on-way-requires
     all-zero-requires
     returns
-    shifts-of-requires
     leaving-row-requires
     add-x-end
     loop-holds
-    slice-aggregate-next-right
     mul-next-right
     array-read-next-right
     add-next-right

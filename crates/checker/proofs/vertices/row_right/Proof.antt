@@ -21,12 +21,12 @@ use Rattle.checker.proofs.vertices.row_right.Statement.{statement}
 use Rattle.checker.proofs.vertices.row_right.Tie as tie
 
 abbrev Inv-loop : tie.InvT-loop
-Inv-loop w h map rows joined a b d e f back route next y shifts classes leaving first right₀ x₀ x-end right x =
+Inv-loop w h map rows joined a b d e f back route next shifts y classes leaving first right₀ x₀ x-end right x =
     (right ≡ every x (columnTest joined (leavingGraph (floorOf w h map) rows) a b (sheetOf d e f back route next 0) w y))
     × (x ≤ w + 1)
 
 abbrev μ-loop : tie.MeasureT-loop
-μ-loop w h map rows joined a b d e f back route next y shifts classes leaving first right₀ x₀ x-end right x = x-end - x
+μ-loop w h map rows joined a b d e f back route next shifts y classes leaving first right₀ x₀ x-end right x = x-end - x
 
 abbrev entered : tie.After-leaving-row Inv-loop μ-loop → tie.Start Inv-loop μ-loop
 entered c = c .before .before .before .before .before .before .before .before .before .before
@@ -45,9 +45,6 @@ at-number : (c : tie.In-loop Inv-loop μ-loop)
     → let a = start c .args in
     a .y * (a .w + 1) + c .before .loop .x ≡ number (a .w) (c .before .loop .x) (a .y)
 at-number c = let a = start c .args in ap (λ z. a .y * z + c .before .loop .x) (add-one (a .w))
-
-shifts-of-requires : tie.Need-shifts-of-requires Inv-loop μ-loop
-shifts-of-requires c κs = search needs
 
 classes-of-requires : tie.Need-classes-of-requires Inv-loop μ-loop
 classes-of-requires c κs = search needs
@@ -74,14 +71,11 @@ loop-holds : tie.Need-loop-holds Inv-loop μ-loop
 unfolding every
 loop-holds c = (refl, omega arith)
 
-slice-aggregate-vertex-right : tie.Need-slice-aggregate-vertex-right Inv-loop μ-loop
-slice-aggregate-vertex-right c = search needs
-
 mul-vertex-right : tie.Need-mul-vertex-right Inv-loop μ-loop
-mul-vertex-right c = let o = on-row (c .before) in omega (arith, o .wide, o .column)
+mul-vertex-right c = let o = on-row c in omega (arith, o .wide, o .column)
 
 array-read-vertex-right : tie.Need-array-read-vertex-right Inv-loop μ-loop
-array-read-vertex-right c = let o = on-row (c .before) in omega (arith, o .wide, o .column)
+array-read-vertex-right c = let o = on-row c in omega (arith, o .wide, o .column)
 
 -- The mask that the code reads.
 mask-is : (c : tie.In-loop Inv-loop μ-loop)
@@ -92,24 +86,21 @@ mask-is c = c .before .before .leaving-row .ensures .at (c .before .loop .x) (om
 
 add-vertex-right : tie.Need-add-vertex-right Inv-loop μ-loop
 add-vertex-right c =
-    let t = c .before in
-    let o = on-row t in
-    omega (arith, at-number t, number-lt _ _ _ _ (o .column) (o .row), vertices-le (o .wide) (o .high))
+    let o = on-row c in
+    omega (arith, at-number c, number-lt _ _ _ _ (o .column) (o .row), vertices-le (o .wide) (o .high))
 
 vertex-right-requires : tie.Need-vertex-right-requires Inv-loop μ-loop
 vertex-right-requires c κs =
-    let t = c .before in
-    let k = t .before .before .before in
-    let p = start t .pre .0 in
-    let S = k .before .shifts-of in (
-      column-readable p (S .ensures) (on-row t) (mask-is t) (at-number t),
-      k .classes-of .ensures,
+    let s = start c in
+    let p = s .pre .0 in (
+      column-readable p (s .pre .3) (on-row c) (mask-is c) (at-number c),
+      c .before .before .before .classes-of .ensures,
       omega (arith, p .job .goal-in, p .shape .d),
       posed-shaped p,
     )
 
 add-x : tie.Need-add-x Inv-loop μ-loop
-add-x c = let o = on-row (c .before .before .before) in omega (arith, o .wide, o .column)
+add-x c = let o = on-row (c .before .before) in omega (arith, o .wide, o .column)
 
 loop-less : tie.Need-loop-less Inv-loop μ-loop
 loop-less c = search needs
@@ -117,9 +108,9 @@ loop-less c = search needs
 loop-again : tie.Need-loop-again Inv-loop μ-loop
 loop-again c =
     let r = c .before in
-    let t = r .before .before in
+    let t = r .before in
     let s = start t in
-    let S = t .before .before .before .before .shifts-of .ensures in
+    let S = s .pre .3 in
     let i = t .before .loop .inv .0 in (
       ⊎-elim (λ w. w .1 ∙ column-stops (s .pre .0) S (on-row t) (mask-is t) (at-number t) (s .args .joined)
           i (r .vertex-right .ensures) (w .0 .taken))
@@ -140,14 +131,12 @@ row-right-spec =
     (tie.spec
     Inv-loop
     μ-loop
-    shifts-of-requires
     classes-of-requires
     leaving-row-requires
     add-first
     mul-first
     add-x-end
     loop-holds
-    slice-aggregate-vertex-right
     mul-vertex-right
     array-read-vertex-right
     add-vertex-right
