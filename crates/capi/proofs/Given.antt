@@ -1,8 +1,10 @@
 -- The answers of the C interface from those of the operations.
 use Prim.Native.Nat.{ℕ}
 use mathlib.Core.Path.{_≡_, refl, sym, ap, _∙_}
+use mathlib.Core.Bool.{Bool}
 use mathlib.Core.List.{List}
 use lib.Dec.{eqb}
+use Rattle.basics.specs.Bounded.{pick}
 use Rattle.floor.specs.Refusals.{refusalNumber}
 use Rattle.floor.specs.declared.Refusal.{Refusal}
 use Rattle.sight.specs.Question.{sightNumber}
@@ -22,8 +24,12 @@ use Rattle.closures.specs.declared.Posting.{Posting}
 use Rattle.closures.specs.declared.Striking.{Striking}
 use Rattle.closures.specs.declared.Writing.{Writing}
 use Rattle.stored_closures.specs.Stored.{PostsIn, StrikesIn, WritesFrom}
+use Rattle.replay.specs.Replay.{ReplaySlices, Replays, replayNumber}
+use Rattle.replay.specs.Replay.{replayRead, replayCost, replayUnfollowed, replayBad, replayCheapest}
+use Rattle.replay.specs.declared.Replayed.{Replayed}
 use Rattle.capi.specs.Results.{obstacleNumber, obstaclePlace, obstacleResult, planResult, thinResult, postResult}
 use Rattle.capi.specs.Results.{FillsTo, FinishesTo, ThinsTo, PostsTo, StrikesTo, WritesTo}
+use Rattle.capi.specs.Results.{replayResult, ReplaysTo}
 
 pub obstacle-refused : {s : Sight} {x : Refusal} {r : ℕ} → s ≡ Unasked x → r ≡ refusalNumber x
     → record { place = 0; answer = r } ≡ obstacleResult s
@@ -67,3 +73,13 @@ strikes-to S e = record { answer = e ∙ ap strikeNumber (S .answers); left = S 
 pub writes-to : {w h : ℕ} {l base map map' : List ℕ} {r : ℕ} {s : Writing} → WritesFrom w h l base map s map'
     → r ≡ workNumber s → WritesTo w h l base map r map'
 writes-to W e = record { answer = e ∙ ap workNumber (W .answers); left = W .leaves }
+
+pub replays-to : {w h : ℕ} {map : List ℕ} {nb : ℕ} {log : List ℕ} {s s' : ReplaySlices} {a : Replayed}
+    {n u k c r f : ℕ} {b : Bool}
+    → Replays w h map nb log s a s'
+    → n ≡ replayRead a → u ≡ replayUnfollowed a → k ≡ replayBad a → c ≡ replayCost a
+    → b ≡ replayCheapest a → f ≡ pick b 1 0 → r ≡ replayNumber a
+    → ReplaysTo w h map nb log s
+    (record { read = n; unfollowed = u; bad = k; cost = c; cheapest = f; answer = r }) s'
+replays-to R en eu ek ec eb ef er =
+    record { answer = rw (en, eu, ek, ec, ef, eb, er) (ap replayResult (R .answer)); left = R .left }

@@ -7,15 +7,18 @@
 --   planResult p     == an answer of the planner's second operation
 --   thinResult t     == an answer of the thinning
 --   postResult p     == an answer of post
+--   replayResult r   == an answer of the replay; `cheapest` is 1 or 0
 --   FillsTo ..       == the statement of the planner's first operation: the answer r, and both lent slices afterwards
 --   FinishesTo ..    == that of its second: the answer r, and every slice lent to be written afterwards
 --   ThinsTo ..       == the thinning's statement: the answer r, and the output slice afterwards
 --   PostsTo, StrikesTo == the statements of post and strike: the answer, and the 64 numbers afterwards
 --   WritesTo ..      == the statement of writing the working map: the answer, and the slice afterwards
+--   ReplaysTo ..     == the replay's statement: the answer r, and both lent slices afterwards
 use Prim.Native.Nat.{ℕ}
 use mathlib.Core.Path.{_≡_}
 use mathlib.Core.List.{List}
 use lib.ListN.{length}
+use Rattle.basics.specs.Bounded.{pick}
 use Rattle.floor.specs.Refusals.{refusalNumber}
 use Rattle.sight.specs.declared.Obstacle.{Obstacle}
 use Rattle.sight.specs.declared.Obstacle.the-variants.{Clear, Cell, Step, Pinch}
@@ -31,10 +34,14 @@ use Rattle.closures.specs.Plain.{workAnswer, workLeft, workNumber}
 use Rattle.closures.specs.declared.Rectangle.{Rectangle}
 use Rattle.closures.specs.declared.Posting.{Posting}
 use Rattle.stored_closures.specs.Stored.{storedIn, postStored, strikeStored}
+use Rattle.replay.specs.Replay.{ReplaySlices, replayAnswer, replayLeft, replayNumber}
+use Rattle.replay.specs.Replay.{replayRead, replayCost, replayUnfollowed, replayBad, replayCheapest}
+use Rattle.replay.specs.declared.Replayed.{Replayed}
 use Rattle.capi.specs.declared.ObstacleResult.{ObstacleResult}
 use Rattle.capi.specs.declared.PlanResult.{PlanResult}
 use Rattle.capi.specs.declared.ThinResult.{ThinResult}
 use Rattle.capi.specs.declared.PostResult.{PostResult}
+use Rattle.capi.specs.declared.ReplayResult.{ReplayResult}
 
 abbrev pub obstacleNumber : Obstacle → ℕ
 obstacleNumber Clear = 0
@@ -61,6 +68,16 @@ thinResult t = record { kept = thinKept t; answer = thinNumber t }
 abbrev pub postResult : Posting → PostResult
 postResult p = record { slot = postSlot p; answer = postNumber p }
 
+abbrev pub replayResult : Replayed → ReplayResult
+replayResult r = record {
+  read = replayRead r;
+  unfollowed = replayUnfollowed r;
+  bad = replayBad r;
+  cost = replayCost r;
+  cheapest = pick (replayCheapest r) 1 0;
+  answer = replayNumber r;
+}
+
 pub record FillsTo (w h : ℕ) (map : List ℕ) (nb a : ℕ) (s : CostSlices) (r : ℕ) (s' : CostSlices) : Type 0 where
   pub answer : r ≡ costedNumber (costsAnswer w h map nb a s)
   pub left : s' ≡ costsLeft w h map nb a s
@@ -85,3 +102,8 @@ pub record StrikesTo (w h : ℕ) (l : List ℕ) (k r : ℕ) (l' : List ℕ) : Ty
 pub record WritesTo (w h : ℕ) (l base map : List ℕ) (r : ℕ) (map' : List ℕ) : Type 0 where
   pub answer : r ≡ workNumber (workAnswer w h base (length map))
   pub left : map' ≡ workLeft w h base (storedIn l) map
+
+pub record ReplaysTo (w h : ℕ) (map : List ℕ) (nb : ℕ) (log : List ℕ) (s : ReplaySlices) (r : ReplayResult)
+    (s' : ReplaySlices) : Type 0 where
+  pub answer : r ≡ replayResult (replayAnswer w h map nb log s)
+  pub left : s' ≡ replayLeft w h map nb log s

@@ -2,13 +2,15 @@
 // declares these functions. Sides, neighbourhood, ends, slots and the numbers of a rectangle are 32 bits wide, so that
 // no number is cut down on its way in.
 ghost use mathlib.Core.Path.{_≡_};
+ghost use Rattle.basics.specs.Bounded.{pick};
 ghost use Rattle.sight.specs.Question.{sightAnswer, sightNumber};
 ghost use Rattle.paths.specs.Sheet.{sheetOf};
 ghost use Rattle.planner.specs.Plan.{costSlicesOf, slicesOf};
 ghost use Rattle.checker.specs.Answer.{checkAnswer, checkNumber};
 ghost use Rattle.stored_closures.specs.Stored.{rectangleOf};
+ghost use Rattle.replay.specs.Replay.{replaySlicesOf};
 ghost use Rattle.capi.specs.Results.{obstacleNumber, obstaclePlace, obstacleResult};
-ghost use Rattle.capi.specs.Results.{FillsTo, FinishesTo, ThinsTo, PostsTo, StrikesTo, WritesTo};
+ghost use Rattle.capi.specs.Results.{FillsTo, FinishesTo, ThinsTo, PostsTo, StrikesTo, WritesTo, ReplaysTo};
 use sight::Obstacle;
 use sight::Sight;
 
@@ -39,6 +41,17 @@ pub struct ThinResult {
 #[repr(C)]
 pub struct PostResult {
     pub slot: u32,
+    pub answer: u8,
+}
+
+// The replay's answer with its values, all 0 at a refusal but 17. A record's number is 0 where there is no such record.
+#[repr(C)]
+pub struct ReplayResult {
+    pub read: usize,
+    pub unfollowed: usize,
+    pub bad: usize,
+    pub cost: u32,
+    pub cheapest: u8,
     pub answer: u8,
 }
 
@@ -285,4 +298,49 @@ pub extern "C" fn lurfanzi_working_map(
 {
     let s = stored_closures::working_map(width as usize, height as usize, slots, base, map);
     closures::work_number(s)
+}
+
+// A truth value as a number.
+fn flag(b: bool) -> u8
+    ensures { λ r. ⌜ r ≡ pick b 1 0 ⌝ }
+{
+    if b {
+        return 1;
+    }
+    0
+}
+
+// The replay of a log.
+#[no_mangle]
+pub extern "C" fn lurfanzi_replay(
+    width: u32,
+    height: u32,
+    map: &[u8],
+    neighbourhood: u32,
+    log: &[u8],
+    costs: &mut [u32],
+    work: &mut [u32],
+) -> ReplayResult
+    ensures { λ r. ⌜ ReplaysTo width height (now (map .entry)) neighbourhood (now (log .entry))
+        (replaySlicesOf (now (costs .entry)) (now (work .entry))) r
+        (replaySlicesOf (now (costs .exit)) (now (work .exit))) ⌝ }
+{
+    let r = replay::replay(
+        width as usize,
+        height as usize,
+        map,
+        neighbourhood as usize,
+        log,
+        costs,
+        work,
+    );
+    let cheapest = replay::replay_cheapest(r);
+    ReplayResult {
+        read: replay::replay_read(r),
+        unfollowed: replay::replay_unfollowed(r),
+        bad: replay::replay_bad(r),
+        cost: replay::replay_cost(r),
+        cheapest: flag(cheapest),
+        answer: replay::replay_number(r),
+    }
 }

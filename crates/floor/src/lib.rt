@@ -31,6 +31,8 @@ pub enum Refusal {
     ClosureBounds,
     SlotsFull,
     SlotEmpty,
+    LogLength,
+    BadLogRecord,
 }
 
 // What a test of an input's shape finds.
@@ -58,6 +60,8 @@ pub fn refusal_number(r: Refusal) -> u8
         Refusal::ClosureBounds => 12,
         Refusal::SlotsFull => 13,
         Refusal::SlotEmpty => 14,
+        Refusal::LogLength => 16,
+        Refusal::BadLogRecord => 17,
     }
 }
 

@@ -1,5 +1,5 @@
 -- `closures::post_number` meets its contract: a slot has the number 0, a refusal its own. Assumes nothing.
-use mathlib.Core.Path.{sym, ap}
+use mathlib.Core.Path.{sym, ap, _∙_}
 use borrow.Author.Needs.{needs}
 use Rattle.closures.specs.Plain.{postNumber}
 use Rattle.closures.proofs.post_number.Statement.{statement}
@@ -18,7 +18,7 @@ returns : tie.Need-returns
 returns c = sym (ap postNumber (c .enum-told .given .1))
 
 returns-2 : tie.Need-returns-2
-returns-2 c = search needs
+returns-2 c = c .refusal-number .ensures ∙ sym (ap postNumber (c .before .before .p .given .1))
 
 pub post-number-spec : {M : Type 1} → statement M
 post-number-spec =

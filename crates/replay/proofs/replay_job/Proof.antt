@@ -1,0 +1,122 @@
+-- `replay::replay_job` meets its contract: each return is one case of `replayJob`. Assumes nothing.
+use mathlib.Core.Path.{_≡_, sym, ap, _∙_}
+use native.Mathlib.Omega.{arith}
+use Rattle.floor.specs.Floor.{Sized, vertices}
+use Rattle.floor.specs.Refusals.{floorShape}
+use Rattle.floor.specs.declared.Shape.the-variants.{Good}
+use Rattle.floor.proofs.Shapes.{good-floor}
+use Rattle.moves.specs.declared.Neighbourhood.the-variants.{Known}
+use Rattle.moves.specs.Moves.{neighbourhoodOf}
+use Rattle.replay.specs.Replay.{logShape}
+use Rattle.replay.proofs.Shaped.{unfit-floor, unfit-neighbourhood, unfit-log, fit-log}
+use borrow.Author.Needs.{needs}
+use Rattle.replay.proofs.replay_job.Statement.{statement}
+use Rattle.replay.proofs.replay_job.Tie as tie
+
+-- The start from each place, and what the tests passed on the way have found.
+abbrev from-floor : tie.After-enum-told → tie.Start
+from-floor c = c .before .before .before .before
+
+floor-is : (c : tie.After-enum-told) → let a = from-floor c .args in floorShape (a .w) (a .h) (a .map .now) ≡ Good
+floor-is c = sym (c .before .before .floor-shape .ensures) ∙ c .enum-told .given .1
+
+sized : (c : tie.After-enum-told) → let a = from-floor c .args in Sized (a .w) (a .h) (a .map .now)
+sized c = let a = from-floor c .args in good-floor (a .w) (a .h) (a .map .now) (floor-is c) .sized
+
+abbrev rows-floor : tie.After-rows → tie.After-enum-told
+rows-floor c = c .before .before .before
+
+rows-are : (c : tie.After-rows) → neighbourhoodOf (from-floor (rows-floor c) .args .nb) ≡ Known (c .rows .given .0 .0)
+rows-are c = sym (c .before .before .rows-of .ensures) ∙ c .rows .given .1
+
+-- The shape of the lengths, on the floor's number of vertices.
+abbrev log-rows : tie.After-log-shape → tie.After-rows
+log-rows c = c .before .before .before
+
+lengths-are : (c : tie.After-log-shape) → let a = from-floor (rows-floor (log-rows c)) .args in
+    c .log-shape .result ≡ logShape (vertices (a .w) (a .h)) (a .log) (a .costs) (a .work)
+lengths-are c =
+    let a = from-floor (rows-floor (log-rows c)) .args in
+    c .log-shape .ensures ∙ ap (λ n. logShape n (a .log) (a .costs) (a .work)) (c .before .vertex-count .ensures .0)
+
+floor-shape-requires : tie.Need-floor-shape-requires
+floor-shape-requires c κs = search needs
+
+enum-known-map-shape : tie.Need-enum-known-map-shape
+enum-known-map-shape c = search needs
+
+returns : tie.Need-returns
+returns c =
+    let u = c .before .before .before in
+    let a = u .before .before .args in
+    unfit-floor (a .w) (a .h) (a .map .now) (a .nb) (a .log) (a .costs) (a .work) (c .before .map-shape .given .0 .0)
+    (sym (u .floor-shape .ensures) ∙ c .before .map-shape .given .1)
+
+enum-told : tie.Need-enum-told
+enum-told c = search needs
+
+rows-of-requires : tie.Need-rows-of-requires
+rows-of-requires c κs = search needs
+
+enum-known-rows : tie.Need-enum-known-rows
+enum-known-rows c = search needs
+
+enum-told-2 : tie.Need-enum-told-2
+enum-told-2 c = search needs
+
+returns-2 : tie.Need-returns-2
+returns-2 c =
+    let u = c .before .before in
+    let f = u .before in
+    let a = from-floor f .args in
+    unfit-neighbourhood (a .w) (a .h) (a .map .now) (a .nb) (a .log) (a .costs) (a .work) (floor-is f)
+    (sym (u .rows-of .ensures) ∙ c .enum-told2 .given .1)
+
+vertex-count-requires : tie.Need-vertex-count-requires
+vertex-count-requires c κs = let s = sized (rows-floor (c .before)) in omega arith
+
+log-shape-requires : tie.Need-log-shape-requires
+log-shape-requires c κs = search needs
+
+enum-known-lengths : tie.Need-enum-known-lengths
+enum-known-lengths c = search needs
+
+returns-3 : tie.Need-returns-3
+returns-3 c =
+    let u = c .before .before .before in
+    let k = log-rows u in
+    let f = rows-floor k in
+    let a = from-floor f .args in
+    unfit-log (a .w) (a .h) (a .map .now) (a .nb) (a .log) (a .costs) (a .work) (floor-is f) (k .rows .given .0 .0)
+    (rows-are k) (c .before .lengths .given .0 .0) (sym (lengths-are u) ∙ c .before .lengths .given .1)
+
+enum-told-3 : tie.Need-enum-told-3
+enum-told-3 c = search needs
+
+returns-4 : tie.Need-returns-4
+returns-4 c =
+    let u = c .before .before in
+    let k = log-rows u in
+    let f = rows-floor k in
+    let a = from-floor f .args in
+    fit-log (a .w) (a .h) (a .map .now) (a .nb) (a .log) (a .costs) (a .work) (floor-is f) (k .rows .given .0 .0)
+    (rows-are k) (sym (lengths-are u) ∙ c .enum-told3 .given .1)
+
+pub replay-job-spec : {M : Type 1} → statement M
+replay-job-spec =
+    tie.close
+    (tie.spec
+    floor-shape-requires
+    enum-known-map-shape
+    returns
+    enum-told
+    rows-of-requires
+    enum-known-rows
+    enum-told-2
+    returns-2
+    vertex-count-requires
+    log-shape-requires
+    enum-known-lengths
+    returns-3
+    enum-told-3
+    returns-4)
