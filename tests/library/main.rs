@@ -6,7 +6,7 @@
 #[path = "../../examples/rust/lurfanzi.rs"]
 mod lurfanzi;
 
-use lurfanzi::{Closures, Floor, Job, Obstacle, Rectangle, Refusal, Sheet, SheetMut, Verdict};
+use lurfanzi::{Closures, Floor, Job, Obstacle, Rectangle, Refusal, Replay, Sheet, SheetMut, Verdict};
 use std::io::{self, Error, ErrorKind, Read, Write};
 
 /// The number that some bytes make, the lowest first.
@@ -178,6 +178,7 @@ impl Driver {
             10 => self.working(record),
             11 => self.obstacle(record),
             12 => self.finish(record),
+            13 => self.replay(record),
             _ => return Err(Error::new(ErrorKind::InvalidData, "a record of no known operation")),
         })
     }
@@ -195,6 +196,20 @@ impl Driver {
         let work = patterned(&mut self.work, record.length(3), record.word(4));
         let filled = lurfanzi::costs(floor, record.word(0), record.word(1), d, work);
         format!("costs {} {} {}", answer(filled), digest(d), digest(work))
+    }
+
+    /// The log is the payload again and again, up to its length.
+    fn replay(&mut self, record: &Record) -> String {
+        let floor = self.ground.floor();
+        let costs = patterned(&mut self.slices.d, record.length(2), record.word(4));
+        let work = patterned(&mut self.work, record.length(3), record.word(4));
+        let log: Vec<u8> = record.payload.iter().copied().cycle().take(record.length(1)).collect();
+        let replayed = lurfanzi::replay(floor, record.word(0), &log, costs, work);
+        let answer = replayed.map_or_else(Refusal::number, |told| told.number());
+        let Replay { read, cost, unfollowed, bad, cheapest } = replayed.unwrap_or_default();
+        let [unfollowed, bad] = [unfollowed, bad].map(|record| record.map_or(0, usize::from));
+        let records = format!("{read} {cost} {unfollowed} {bad} {}", u8::from(cheapest));
+        format!("replay {answer} {records} {} {}", digest(costs), digest(work))
     }
 
     /// The costs handed in are a copy with the changes made, so that nothing has to be put back.

@@ -3,6 +3,7 @@
 use crate::closures::{Rectangle, Table};
 use crate::format::{self, Damage, Digest, Record};
 use crate::packed::{self, PackedFloor};
+use crate::replay;
 use crate::sheet::{self, Handed, Lent, Request, Solver};
 use crate::sight::{self, Obstacle};
 use crate::thin;
@@ -124,6 +125,7 @@ impl Runner {
             format::STRIKE => self.strike(record),
             format::WORKING => self.working(record),
             format::OBSTACLE => self.obstacle(record),
+            format::REPLAY => self.replay(record),
             other => panic!("no operation {other}"),
         }
     }
@@ -147,6 +149,19 @@ impl Runner {
         let (neighbourhood, start) = (record.words[0].into(), record.words[1].into());
         let answer = sheet::costs(&mut self.solver, neighbourhood, start, d, work);
         format!("costs {answer} {} {}", digest32(d), digest32(work))
+    }
+
+    /// The log is the payload again and again, up to its length.
+    fn replay(&mut self, record: &Record) -> String {
+        let at = &mut self.buffers;
+        let (costs, work) = (&mut at.d[..record.word(2)], &mut at.work[..record.word(3)]);
+        fill32(costs, record.words[4]);
+        fill32(work, record.words[4]);
+        let log: Vec<u8> = record.payload.iter().copied().cycle().take(record.word(1)).collect();
+        let told = replay::replay(&mut self.solver, record.words[0].into(), &log, costs, work);
+        let records = format!("{} {} {}", told.cost, told.unfollowed, told.bad);
+        let digests = format!("{} {}", digest32(costs), digest32(work));
+        format!("replay {} {} {records} {} {digests}", told.answer, told.read, u8::from(told.cheapest))
     }
 
     fn finish(&mut self, record: &Record) -> String {

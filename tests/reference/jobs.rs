@@ -38,6 +38,8 @@ pub struct Maker {
     pushed: Random,
     /// For neighbourhoods: their records change nothing of the others.
     steered: Random,
+    /// For logs: their records change nothing of the others.
+    driven: Random,
     /// Whether numbers may pass 8 bits (sides, neighbourhood) and 16 bits (ends, n).
     wide: bool,
     /// The floor's map as the records leave it, and what the solver has of it.
@@ -52,9 +54,12 @@ pub fn make(seed: u64, count: u64, wide: bool) -> Vec<u8> {
     let [random, aside, given] = [seed, !seed, seed ^ u64::from(u32::MAX)].map(Random::new);
     let [corners, bits] = [!seed ^ u64::from(u32::MAX), seed.reverse_bits()].map(Random::new);
     let [pushed, steered] = [!seed.reverse_bits(), seed.swap_bytes() ^ 16].map(Random::new);
+    let driven = Random::new(seed.swap_bytes() ^ 9);
     let (solver, table) = (Solver::new(Floor::open(1, 1)), Table::empty());
     let (out, map) = (Vec::new(), vec![0]);
-    let mut maker = Maker { out, random, aside, given, corners, bits, pushed, steered, wide, map, solver, table };
+    let mut maker = Maker {
+        out, random, aside, given, corners, bits, pushed, steered, driven, wide, map, solver, table,
+    };
     let fixed = fixed_floors(&mut maker.random).into_iter().take(count as usize);
     let mut floors: Vec<_> = fixed.map(|(floor, requests)| (PackedFloor::of(&floor), requests)).collect();
     for k in floors.len() as u64..count {
@@ -190,10 +195,12 @@ impl Maker {
         let is_good = floor.fault().is_none();
         self.floor_record(floor.clone());
         if is_good {
-            self.good_operations(requests);
+            let requests = self.good_operations(requests);
             self.pinch_operations();
+            self.replay_operations(&requests);
         } else {
             self.bad_operations();
+            self.logs_on_bad_floor();
         }
         self.use_aside();
         if is_good {
@@ -233,6 +240,10 @@ impl Maker {
         std::mem::swap(&mut self.random, &mut self.steered);
     }
 
+    pub fn use_driven(&mut self) {
+        std::mem::swap(&mut self.random, &mut self.driven);
+    }
+
     pub fn is_large(&self) -> bool {
         self.count() > LARGE
     }
@@ -245,10 +256,12 @@ impl Maker {
         self.solver.floor.vertex_count()
     }
 
-    fn good_operations(&mut self, requests: &[Request]) {
+    /// The requests given and some more, and what else there is: the requests made.
+    fn good_operations(&mut self, requests: &[Request]) -> Vec<Request> {
         let large = self.is_large();
         self.sight_pairs(if large { 24 } else { 48 });
-        for request in self.all_requests(requests, if large { 2 } else { 3 }) {
+        let requests = self.all_requests(requests, if large { 2 } else { 3 });
+        for &request in &requests {
             self.job(request, if large { 4 } else { 5 });
         }
         for _ in 0..if large { 1 } else { 2 } {
@@ -261,6 +274,7 @@ impl Maker {
         self.sheets_by_other_rules();
         self.sheets_over_other_moves();
         self.lists(if large { 2 } else { 4 });
+        requests
     }
 
     /// The requests given, one of 16 if they have none, and up to so many in all of the others that are missing.
@@ -408,11 +422,7 @@ impl Maker {
         let mut request = self.any_request();
         let fault = self.random.within(1, 3);
         if fault != 2 {
-            let mut choices = vec![0, 1, 2, 3, 5, 6, 7, 9, 12, 15, 17, 20, 24, 32, 84, 255];
-            if self.wide {
-                choices.extend([256, 260, 272, 65_544, 65_552, (1 << 31) + 4, (1 << 31) + 16, u64::from(u32::MAX)]);
-            }
-            request.neighbourhood = self.random.pick(&choices);
+            request.neighbourhood = self.bad_neighbourhood();
         }
         if fault != 1 {
             let end = self.bad_end();
@@ -423,6 +433,14 @@ impl Maker {
             }
         }
         request
+    }
+
+    pub fn bad_neighbourhood(&mut self) -> u64 {
+        let mut choices = vec![0, 1, 2, 3, 5, 6, 7, 9, 12, 15, 17, 20, 24, 32, 84, 255];
+        if self.wide {
+            choices.extend([256, 260, 272, 65_544, 65_552, (1 << 31) + 4, (1 << 31) + 16, u64::from(u32::MAX)]);
+        }
+        self.random.pick(&choices)
     }
 
     pub fn bad_end(&mut self) -> u64 {

@@ -1,5 +1,5 @@
 //! An independent second program for the route planner, its checker, the
-//! thinner, the sight questions, the closures and the program. Subcommands:
+//! thinner, the sight questions, the closures, the replay and the program. Subcommands:
 //!
 //! vectors                 runs known answers and self checks
 //! program                 record stream on standard input, lines out
@@ -28,6 +28,8 @@ mod pinch_jobs;
 mod program;
 mod random;
 mod records;
+mod replay;
+mod replay_jobs;
 mod self_checks;
 mod sheet;
 mod sight;

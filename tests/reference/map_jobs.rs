@@ -8,6 +8,7 @@ use crate::graph::NEIGHBOURHOODS;
 use crate::jobs::{good_lengths, Maker};
 use crate::layouts::{self, KINDS};
 use crate::packed::PackedFloor;
+use crate::replay::log_of;
 use crate::sheet::Request;
 
 /// Bytes above this make a map large: fewer of its unused bits are set.
@@ -92,6 +93,10 @@ impl Maker {
         let pairs = [(0, 0), (0, last as u32), (last as u32 + 1, 0)];
         self.pairs_record(format::SIGHT, &pairs);
         self.pairs_record(format::OBSTACLE, &pairs);
+        self.use_driven();
+        let (neighbourhood, log) = (self.random.pick(&[good.neighbourhood, 5]), self.random.pick(&[4, 16_385]));
+        self.replay_record(neighbourhood, log_of(&[0]), log, [count, 4 * count]);
+        self.use_driven();
         let length = self.map.len();
         self.working_record(Base::Floor, length, true);
     }

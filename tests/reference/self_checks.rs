@@ -7,6 +7,7 @@ use crate::layouts::{self, KINDS};
 use crate::natural::Natural;
 use crate::packed::{self, PackedFloor};
 use crate::random::Random;
+use crate::replay::{self, Replayed};
 use crate::sheet::{self, Handed, Request, Sheet, Solver, Truth, NO_WALK};
 use crate::sight::{self, Obstacle, Point};
 use crate::sixteen::REFUSED;
@@ -29,6 +30,7 @@ pub fn run(tally: &mut Tally) {
     let stream = jobs::make(6, 30, false);
     streams_of_maps(tally, &stream);
     streams_of_next(tally, &stream);
+    replays(tally);
 }
 
 fn naturals(tally: &mut Tally) {
@@ -463,12 +465,189 @@ fn thinning(tally: &mut Tally) {
     tally.equal("unseen neighbours", thin::thin(&floor, &[0, 15], &mut [5, 5], 2), (10, 0));
 }
 
+/// A replay byte by byte, on the floor itself: a record is read as its bytes come, a move is a length that the
+/// neighbourhood has and a sight, and the least cost is by rounds over all edges.
+fn replay_by_bytes(floor: &Floor, neighbourhood: u64, log: &[u8]) -> Replayed {
+    let count = floor.vertex_count() as u64;
+    let mut told = Replayed { answer: 0, read: 0, cost: 0, unfollowed: 0, bad: 0, cheapest: false };
+    let (mut ends, mut record): (Option<(usize, usize)>, Vec<u8>) = (None, Vec::new());
+    for (place, &byte) in log.iter().enumerate() {
+        record.push(byte);
+        let number = || u64::from(record[2]) + 256 * u64::from(record[3]);
+        let is_bad = match record.len() {
+            1 => byte != b'V',
+            2 => byte != b'T',
+            4 => number() >= count,
+            _ => false,
+        };
+        if is_bad || (place + 1 == log.len() && record.len() < 4) {
+            return Replayed { answer: 17, bad: told.read + 1, ..told };
+        }
+        if record.len() < 4 {
+            continue;
+        }
+        let to = number() as usize;
+        let (first, from) = ends.unwrap_or((to, to));
+        let (p, q) = (floor.point(from), floor.point(to));
+        let squared = (p.0 - q.0).pow(2) + (p.1 - q.1).pow(2);
+        let cost = match (neighbourhood, squared) {
+            (_, 0) => Some(0),
+            (4 | 8, 1) => Some(408),
+            (8, 2) => Some(577),
+            (16, 1) => Some(1000),
+            (16, 2) => Some(1414),
+            (16, 5) => Some(2236),
+            _ => None,
+        };
+        let cost = cost.filter(|_| sight::sees(floor, p, q) && !is_pinched(floor, q));
+        told.read += 1;
+        match cost {
+            Some(cost) if told.unfollowed == 0 => told.cost += cost,
+            None if told.unfollowed == 0 => told.unfollowed = told.read,
+            _ => {}
+        }
+        ends = Some((first, to));
+        record.clear();
+    }
+    if let (Some((first, last)), 0) = (ends, told.unfollowed) {
+        let least = graph::distances_by_rounds(&Graph::of_floor(floor, neighbourhood), first);
+        told.cheapest = least[last] == Some(told.cost);
+    }
+    told
+}
+
+/// Logs of random walks with rests, strays and changed bytes, by both methods. No drive is cheaper than the cheapest,
+/// and the costs are those from the first record exactly where there is no fault.
+fn replays(tally: &mut Tally) {
+    let mut random = Random::new(9);
+    let mut kinds = BTreeSet::new();
+    for kind in KINDS {
+        for (width, height) in [(2, 2), (5, 4), (9, 7)] {
+            let floor = layouts::make(kind, &mut random, width, height);
+            let count = floor.vertex_count();
+            let mut solver = Solver::new(floor.clone());
+            for k in 0..60 {
+                let neighbourhood = NEIGHBOURHOODS[k % 3];
+                let log = any_log(&mut random, &solver.graphs(neighbourhood).0);
+                let (mut costs, mut work) = (vec![9; count], vec![9; 4 * count]);
+                let told = replay::replay(&mut solver, neighbourhood, &log, &mut costs, &mut work);
+                tally.equal("a replay by bytes", told, replay_by_bytes(&floor, neighbourhood, &log));
+                tally.holds("the working slice of a replay", work.iter().all(|&number| number == 0));
+                let faultless = told.read > 0 && told.unfollowed == 0 && told.bad == 0;
+                let stop = |record: usize| usize::from(log[4 * record + 2]) + 256 * usize::from(log[4 * record + 3]);
+                let wanted = if faultless { solver.costs(neighbourhood, stop(0)).to_vec() } else { vec![0; count] };
+                tally.holds("the costs of a replay", costs == wanted);
+                if faultless {
+                    let least = u64::from(costs[stop(told.read as usize - 1)]);
+                    tally.holds("no drive is too cheap", least <= told.cost && told.cheapest == (least == told.cost));
+                }
+                kinds.insert((neighbourhood, told.unfollowed > 0, told.bad > 0, told.cheapest));
+            }
+        }
+    }
+    // With each neighbourhood no fault, cheapest and not; one of the two faults; and both.
+    tally.equal("kinds of logs", kinds.len(), 15);
+}
+
+/// A walk by open moves that now and then rests or goes astray, and as bytes now and then a changed one or a cut.
+fn any_log(random: &mut Random, graph: &Graph) -> Vec<u8> {
+    let mut stops = vec![random.index(graph.size()) as u16];
+    let strays = random.pick(&[0, 0, 4, 20]);
+    for place in 0..random.index(12) {
+        let from = stops[place];
+        let edges = &graph.edges[usize::from(from)];
+        let is_stray = random.percent(strays);
+        let stays = edges.is_empty() || random.percent(20);
+        stops.push(match (is_stray, stays) {
+            (true, _) => random.index(graph.size()) as u16,
+            (_, true) => from,
+            _ => edges[random.index(edges.len())].to as u16,
+        });
+    }
+    let mut log = replay::log_of(&stops);
+    match random.below(6) {
+        0 => {
+            let place = random.index(log.len());
+            log[place] ^= 1 << random.below(8);
+        }
+        1 => log.truncate(random.index(log.len())),
+        _ => {}
+    }
+    log
+}
+
+/// The logs of a stream: with each neighbourhood every answer, both faults and each alone, at the first record and
+/// later; cheapest logs and dearer ones; cuts of each length; lengths of each slice off by one; the longest logs.
+fn streams_of_logs(tally: &mut Tally, stream: &[u8], text: &str) {
+    let (mut input, mut seen, mut size) = (stream, BTreeSet::new(), 0);
+    for line in text.lines() {
+        let Some(record) = format::Record::read(&mut input) else { break };
+        let words = record.words;
+        if record.operation == format::FLOOR {
+            size = i64::from(words[0]).saturating_add(1).saturating_mul(i64::from(words[1]).saturating_add(1));
+        }
+        if record.operation != format::REPLAY {
+            continue;
+        }
+        let numbers: Vec<u64> = line.split(' ').skip(1).map(|word| word.parse().unwrap_or(u64::MAX)).collect();
+        let [answer, read, cost, unfollowed, bad, cheapest, ..] = numbers[..] else { continue };
+        let mut see = |what: &str| _ = seen.insert((words[0], what.to_string()));
+        see(&format!("answer {answer}"));
+        let off = (i64::from(words[2]) - size, i64::from(words[3]) - 4 * size);
+        if answer == 6 {
+            see(&format!("lengths off by {off:?}"));
+        }
+        if answer == 16 || answer == 6 || (answer == 17 && bad == 4096) || (answer == 0 && read == 4096) {
+            see(&format!("answer {answer}, a log of {} bytes", words[1]));
+        }
+        if !matches!(answer, 0 | 17) {
+            continue;
+        }
+        let at = |number: u64| match number {
+            0 => "none",
+            1 => "first",
+            _ if number == read => "last",
+            _ => "later",
+        };
+        see(&format!("unfollowed {}, bad {}", at(unfollowed), at(bad.min(2))));
+        see(&format!("cheapest {cheapest}, a cost: {}, a log: {}", cost > 0, read > 0));
+        if bad > 0 && u64::from(words[1]) < 4 * bad {
+            see(&format!("cut to {} bytes", words[1] % 4));
+        }
+    }
+    let faults = [
+        "unfollowed none, bad none", "unfollowed first, bad none", "unfollowed later, bad none",
+        "unfollowed last, bad none", "unfollowed none, bad first", "unfollowed none, bad later",
+        "unfollowed first, bad later", "unfollowed later, bad later", "unfollowed last, bad later",
+    ];
+    let others = [
+        "cheapest 1, a cost: true, a log: true", "cheapest 1, a cost: false, a log: true",
+        "cheapest 0, a cost: true, a log: true", "cheapest 0, a cost: false, a log: false",
+        "cut to 1 bytes", "cut to 2 bytes", "cut to 3 bytes", "answer 16, a log of 16385 bytes",
+        "lengths off by (-1, 0)", "lengths off by (1, 0)", "lengths off by (0, -1)", "lengths off by (0, 1)",
+        "answer 0, a log of 16384 bytes",
+    ];
+    let answers = [0, 1, 2, 3, 6, 16, 17].map(|answer| format!("answer {answer}"));
+    let all = faults.into_iter().chain(others).map(str::to_string).chain(answers);
+    for what in all {
+        for neighbourhood in [4, 8, 16] {
+            let has = seen.contains(&(neighbourhood, what.clone()));
+            tally.holds(&format!("logs with {neighbourhood}: {what}"), has);
+        }
+    }
+    for neighbourhood in [5, 256, u32::MAX] {
+        let refused = seen.contains(&(neighbourhood, "answer 4".to_string()));
+        tally.holds(&format!("logs with {neighbourhood}: answer 4"), refused);
+    }
+}
+
 /// A short job stream has every answer in it, and is read to its end.
 fn streams(tally: &mut Tally) {
     let stream = jobs::make(5, 120, true);
     let text = answers::run(&stream).unwrap_or_default();
     tally.holds("a stream ends", text.ends_with("\nend\n"));
     streams_of_neighbourhoods(tally, &stream, &text);
+    streams_of_logs(tally, &stream, &text);
     let has = |start: &str| text.lines().any(|line| format!("{line} ").starts_with(start));
     for answer in [0, 1, 2, 3, 4, 5, 6, 11] {
         tally.holds(&format!("costs answers {answer}"), has(&format!("costs {answer} ")));
