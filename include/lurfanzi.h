@@ -84,7 +84,10 @@ enum {
     LURFANZI_PINCHED_END = 11,      /* an end is a pinch */
     LURFANZI_BAD_CLOSURE = 12,      /* the rectangle is empty or leaves the floor */
     LURFANZI_SLOTS_FULL = 13,       /* no slot is free */
-    LURFANZI_SLOT_EMPTY = 14        /* the slot is above 15 or free */
+    LURFANZI_SLOT_EMPTY = 14,       /* the slot is above 15 or free */
+    LURFANZI_LONG_LOG = 16,         /* a log has more than 16,384 bytes */
+    LURFANZI_BAD_LOG_RECORD = 17    /* a record of a log is cut short, has a wrong mark or is off the floor; what was
+                                       read before it is answered */
 };
 
 /* The sight question's own answers. Only LURFANZI_SIGHT_YES says that the way is clear. */
@@ -232,6 +235,49 @@ typedef struct {
 lurfanzi_thin_result lurfanzi_thin(
     uint32_t width, uint32_t height, const uint8_t *map, size_t map_length,
     const uint16_t *list, size_t list_length, uint16_t *out, size_t out_length, size_t n);
+
+/* A cart's log holds a record of four bytes for each stop, one after the other and nothing else: 56 hex, 54 hex, and
+ * the number of a vertex in 16 bits, the low byte first. Records are numbered from 1.
+ */
+typedef struct {
+    size_t read;        /* how many records were read; a bad one is not counted */
+    size_t unfollowed;  /* the first record that can't follow the one before it; 0 where each can */
+    size_t bad;         /* the record that ended the reading with 17, read + 1; 0 where none did */
+    uint32_t cost;      /* the cost driven: of all records, or of those before the one that can't follow */
+    uint8_t cheapest;   /* 1 where the log has a record and neither fault, and cost is the least between its first and
+                           its last vertex; else 0 */
+    uint8_t answer;     /* 0, 17, or a refusal: 1, 2, 3, 4, 16 or 6; the other members are 0 at a refusal */
+} lurfanzi_replay_result;
+
+/* Replays a night log: what a cart drove, whether it could, and whether it could have been cheaper.
+ *
+ * A record follows the one before it where an open move of the neighbourhood leads from its vertex to this one, at the
+ * move's cost, and where both are the same vertex: standing still costs 0. The first record follows at cost 0. A record
+ * on a pinch can't follow, the first one too, nor by standing still there. From the first record that can't follow on
+ * the cost stops growing, also by moves that are open, and the reading goes on.
+ *
+ * A record that is cut short, one to three bytes at the log's end, or has a wrong mark, or whose vertex is not below V,
+ * is bad: the reading stops there, with 17, and the rest of the answer is kept. So a log may have both faults, a record
+ * that can't follow and after it a bad one, and both are told. An empty log has neither: 0 records, cost 0.
+ *
+ * log         at most 16,384 bytes, which are 4,096 records; read
+ * costs       V costs from the log's first vertex, as lurfanzi_costs leaves them in d, where the log has a record and
+ *             neither fault; else 0
+ * work        4 * V numbers of working memory; what it holds at entry does not matter
+ *
+ * answer      costs                                    work       read, unfollowed, bad, cost, cheapest
+ * 0           true; 0 for an empty log and where a     0          as above, bad 0
+ *             record can't follow
+ * 17          0                                        0          as above, cheapest 0
+ * 1 to 4,     untouched                                untouched  0
+ * 16, 6
+ *
+ * Refuses with 1, 2, 3, 4, 16 for a log of more bytes, whatever they are, and 6 for costs and work, in this order. No
+ * end is refused: a vertex that is off the floor is 17, one on a pinch is a record that can't follow.
+ */
+lurfanzi_replay_result lurfanzi_replay(
+    uint32_t width, uint32_t height, const uint8_t *map, size_t map_length, uint32_t neighbourhood,
+    const uint8_t *log, size_t log_length, uint32_t *costs, size_t costs_length, uint32_t *work, size_t work_length);
 
 /* Closures are rectangles of cells that are blocked for a time, as wet floors and parked beds. They stand in a table of
  * sixteen slots, 64 numbers that the caller lends to each call: slots[4 * k] to slots[4 * k + 3] are the first column,

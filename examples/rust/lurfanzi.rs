@@ -3,6 +3,8 @@
 //! Every function is total, as in C: any numbers and any slices may be handed in, and a fault of theirs is an `Err`. A
 //! slice that a call writes is borrowed mutably, so that it overlaps no other slice of the call.
 
+use std::num::NonZeroUsize;
+
 /// The header's `LURFANZI_INTERFACE`: maps have a bit to a cell, and a sheet has the slice of next vertices.
 pub const INTERFACE: u32 = 3;
 
@@ -74,6 +76,18 @@ pub enum Verdict {
     FalseSheet,
 }
 
+/// What a log tells: how many of its records were read, the cost driven, the first record that cannot follow the one
+/// before it and the bad record that ended the reading, each by its number from 1, and whether the log is faultless and
+/// as cheap as can be between its ends.
+#[derive(Clone, Copy, Debug, Default, PartialEq, Eq)]
+pub struct Replay {
+    pub read: usize,
+    pub cost: u32,
+    pub unfollowed: Option<NonZeroUsize>,
+    pub bad: Option<NonZeroUsize>,
+    pub cheapest: bool,
+}
+
 /// What is in the way between two vertices: nothing, the cell with a number, the shut step that begins in a vertex, or
 /// the pinch at a vertex.
 #[derive(Clone, Copy, Debug, PartialEq, Eq)]
@@ -119,6 +133,7 @@ pub enum Refusal {
     BadClosure,
     SlotsFull,
     SlotEmpty,
+    LongLog,
     /// A number that the header does not list for the call. The library gives none.
     Unlisted(u8),
 }
@@ -140,6 +155,7 @@ impl Refusal {
             12 => Refusal::BadClosure,
             13 => Refusal::SlotsFull,
             14 => Refusal::SlotEmpty,
+            16 => Refusal::LongLog,
             other => Refusal::Unlisted(other),
         }
     }
@@ -160,6 +176,7 @@ impl Refusal {
             Refusal::BadClosure => 12,
             Refusal::SlotsFull => 13,
             Refusal::SlotEmpty => 14,
+            Refusal::LongLog => 16,
             Refusal::Unlisted(number) => number,
         }
     }
@@ -182,6 +199,7 @@ impl std::fmt::Display for Refusal {
             Refusal::BadClosure => "the rectangle is empty or leaves the floor",
             Refusal::SlotsFull => "no slot is free",
             Refusal::SlotEmpty => "the slot is above 15 or free",
+            Refusal::LongLog => "the log has more than 16,384 bytes",
             Refusal::Unlisted(_) => "an answer that the header does not list",
         };
         write!(to, "{meaning} ({})", self.number())
@@ -201,6 +219,13 @@ impl SheetMut<'_> {
     /// The sheet as it stands, with the costs from the first end, for `check`.
     pub fn read<'b>(&'b self, d: &'b [u32], points: usize) -> Sheet<'b> {
         Sheet { d, e: self.e, f: self.f, back: self.back, route: self.route, next: self.next, points }
+    }
+}
+
+impl Replay {
+    /// The answer's number of the header.
+    pub fn number(&self) -> u8 {
+        if self.bad.is_some() { 17 } else { 0 }
     }
 }
 
@@ -295,6 +320,30 @@ pub fn thin(floor: Floor, list: &[u16], out: &mut [u16], n: usize) -> Result<usi
     }
 }
 
+/// The log of a cart that stopped at these vertices: for each the bytes 56 and 54 hex and its number, low byte first.
+pub fn log_of(stops: &[u16]) -> Vec<u8> {
+    stops.iter().flat_map(|stop| [[0x56, 0x54], stop.to_le_bytes()].concat()).collect()
+}
+
+/// Replays a log. A bad record, answer 17, is no refusal: it is told with the rest of the answer. `costs` has a place
+/// for every vertex and holds the costs from the log's first vertex afterwards where the log has a record and neither
+/// fault, else 0; `work` has four places for every vertex.
+pub fn replay(
+    floor: Floor, neighbourhood: u32, log: &[u8], costs: &mut [u32], work: &mut [u32],
+) -> Result<Replay, Refusal> {
+    let result = call::replay(floor, neighbourhood, log, costs, work);
+    match (result.answer, NonZeroUsize::new(result.bad)) {
+        (0, bad @ None) | (17, bad @ Some(_)) => Ok(Replay {
+            read: result.read,
+            cost: result.cost,
+            unfollowed: NonZeroUsize::new(result.unfollowed),
+            bad,
+            cheapest: result.cheapest != 0,
+        }),
+        (number, _) => Err(Refusal::from_number(number)),
+    }
+}
+
 /// The calls themselves: the only unsafe code.
 ///
 /// Why they are sound: the header asks that a slice's pointer be valid for its length, aligned, and that no written
@@ -327,6 +376,16 @@ mod call {
     #[repr(C)]
     pub struct ObstacleResult {
         pub place: u32,
+        pub answer: u8,
+    }
+
+    #[repr(C)]
+    pub struct ReplayResult {
+        pub read: usize,
+        pub unfollowed: usize,
+        pub bad: usize,
+        pub cost: u32,
+        pub cheapest: u8,
         pub answer: u8,
     }
 
@@ -371,6 +430,12 @@ mod call {
             width: u32, height: u32, map: *const u8, map_length: usize,
             list: *const u16, list_length: usize, out: *mut u16, out_length: usize, n: usize,
         ) -> ThinResult;
+
+        fn lurfanzi_replay(
+            width: u32, height: u32, map: *const u8, map_length: usize, neighbourhood: u32,
+            log: *const u8, log_length: usize, costs: *mut u32, costs_length: usize,
+            work: *mut u32, work_length: usize,
+        ) -> ReplayResult;
     }
 
     pub fn sight(floor: Floor, a: u32, b: u32) -> u8 {
@@ -445,6 +510,18 @@ mod call {
             lurfanzi_thin(
                 floor.width, floor.height, floor.map.as_ptr(), floor.map.len(),
                 list.as_ptr(), list.len(), out.as_mut_ptr(), out.len(), n,
+            )
+        }
+    }
+
+    pub fn replay(
+        floor: Floor, neighbourhood: u32, log: &[u8], costs: &mut [u32], work: &mut [u32],
+    ) -> ReplayResult {
+        // SAFETY: the map and the log are shared slices, the two others are exclusive ones.
+        unsafe {
+            lurfanzi_replay(
+                floor.width, floor.height, floor.map.as_ptr(), floor.map.len(), neighbourhood,
+                log.as_ptr(), log.len(), costs.as_mut_ptr(), costs.len(), work.as_mut_ptr(), work.len(),
             )
         }
     }
@@ -712,6 +789,92 @@ mod tests {
         assert_eq!(out, [0, 2, 0, 0]);
         assert_eq!(thin(TOUCHING, &[4, 4, 4, 5], &mut out, 4), Err(Refusal::NotJoined));
         assert_eq!(thin(TOUCHING, &[2, 6], &mut out[..2], 2), Err(Refusal::NotJoined));
+    }
+
+    /// Replays a log with slices that hold 7 at each place: the answer, and the costs. The working slice is 0.
+    fn replayed(floor: Floor, neighbourhood: u32, log: &[u8]) -> (Replay, Vec<u32>) {
+        let (mut d, mut work) = (vec![7; floor.vertices()], vec![7; 4 * floor.vertices()]);
+        let answer = replay(floor, neighbourhood, log, &mut d, &mut work).expect("a call of good shape");
+        assert!(work.iter().all(|&number| number == 0));
+        (answer, d)
+    }
+
+    /// What a log answers: records read, cost, and the two records' numbers, 0 for none.
+    fn told(read: usize, cost: u32, unfollowed: usize, bad: usize) -> Replay {
+        let [unfollowed, bad] = [unfollowed, bad].map(NonZeroUsize::new);
+        Replay { read, cost, unfollowed, bad, cheapest: false }
+    }
+
+    #[test]
+    fn faultless_logs() {
+        assert_eq!(log_of(&[1, 0x1234]), [0x56, 0x54, 1, 0, 0x56, 0x54, 0x34, 0x12]);
+        let from_0 = vec![0, 408, 816, 408, 577, 985];
+        let logs: [(&[u16], u32, bool); 5] = [
+            (&[0, 4, 5], 985, true),
+            (&[0, 1, 5], 985, true),
+            (&[0, 0, 4, 4, 4, 5, 5], 985, true),
+            (&[0, 1, 2, 5], 1224, false),
+            (&[0, 1, 0], 816, false),
+        ];
+        for (stops, cost, cheapest) in logs {
+            let wanted = Replay { cheapest, ..told(stops.len(), cost, 0, 0) };
+            assert_eq!(replayed(OPEN, 8, &log_of(stops)), (wanted, from_0.clone()));
+            assert_eq!(wanted.number(), 0);
+        }
+        let alone = Replay { cheapest: true, ..told(1, 0, 0, 0) };
+        assert_eq!(replayed(OPEN, 8, &log_of(&[3])), (alone, vec![408, 577, 985, 0, 408, 816]));
+        let fine = Replay { cheapest: true, ..told(2, 2236, 0, 0) };
+        assert_eq!(replayed(OPEN, 16, &log_of(&[0, 5])), (fine, vec![0, 1000, 2000, 1000, 1414, 2236]));
+        let longest = Replay { cheapest: true, ..told(4096, 0, 0, 0) };
+        assert_eq!(replayed(OPEN, 8, &log_of(&[0; 4096])), (longest, from_0));
+        assert_eq!(replayed(OPEN, 8, &[]), (told(0, 0, 0, 0), vec![0; 6]));
+    }
+
+    #[test]
+    fn faults_of_logs() {
+        let none = |length: usize| vec![0; length];
+        // No open move: too far, through the shut step, and on from a fault by an open one.
+        assert_eq!(replayed(OPEN, 8, &log_of(&[0, 5])), (told(2, 0, 2, 0), none(6)));
+        assert_eq!(replayed(OPEN, 4, &log_of(&[0, 1, 5])), (told(3, 408, 3, 0), none(6)));
+        assert_eq!(replayed(SHUT, 8, &log_of(&[0, 1, 2, 1, 0])), (told(5, 408, 3, 0), none(6)));
+        // Pinches: first, later, and standing still on one.
+        for neighbourhood in [4, 8, 16] {
+            assert_eq!(replayed(TOUCHING, neighbourhood, &log_of(&[4, 4])), (told(2, 0, 1, 0), none(9)));
+            let side = if neighbourhood == 16 { 1000 } else { 408 };
+            assert_eq!(replayed(TOUCHING, neighbourhood, &log_of(&[1, 2, 4, 5])), (told(4, side, 3, 0), none(9)));
+        }
+        // Bad records: off the floor, cut short, with a wrong mark; and both faults.
+        let off = replayed(OPEN, 8, &log_of(&[0, 1, 6, 2]));
+        assert_eq!((off.0.number(), off), (17, (told(2, 408, 0, 3), none(6))));
+        for length in 5..8 {
+            assert_eq!(replayed(OPEN, 8, &log_of(&[0, 1])[..length]), (told(1, 0, 0, 2), none(6)));
+        }
+        for place in 0..2 {
+            let mut log = log_of(&[0, 1]);
+            log[place] ^= 1;
+            assert_eq!(replayed(OPEN, 8, &log), (told(0, 0, 0, 1), none(6)));
+        }
+        assert_eq!(replayed(OPEN, 8, &log_of(&[0, 1, 3, 5, 4, u16::MAX, 0])), (told(5, 985, 4, 6), none(6)));
+    }
+
+    #[test]
+    fn refused_logs() {
+        let good = log_of(&[0, 4, 5]);
+        let long = [9; 16_385];
+        let refused = |floor: Floor, neighbourhood: u32, log: &[u8], lengths: [usize; 2], refusal: Refusal| {
+            let [mut d, mut work] = lengths.map(|length| vec![7; length]);
+            assert_eq!(replay(floor, neighbourhood, log, &mut d, &mut work), Err(refusal));
+            assert!(d.iter().chain(&work).all(|&number| number == 7));
+        };
+        refused(Floor { width: 0, ..OPEN }, 8, &good, [6, 24], Refusal::BadSize);
+        refused(Floor { map: &[0, 0], ..OPEN }, 8, &good, [6, 24], Refusal::BadMapLength);
+        refused(Floor { map: &[4], ..OPEN }, 5, &good, [6, 24], Refusal::UnusedBit);
+        refused(OPEN, 5, &long, [5, 24], Refusal::BadNeighbourhood);
+        refused(OPEN, 8, &long, [5, 24], Refusal::LongLog);
+        for lengths in [[5, 24], [7, 24], [0, 24], [6, 23], [6, 25], [6, 0], [24, 6]] {
+            refused(OPEN, 8, &good, lengths, Refusal::BadSliceLength);
+            refused(OPEN, 8, &[9], lengths, Refusal::BadSliceLength);
+        }
     }
 
     /// Each cell alone, on floors with every number of unused bits: it is in the way across itself and across no other.
