@@ -2,7 +2,7 @@
 //! the others are held to each other.
 
 use crate::floors::{Case, Kind, Random, KINDS, SIDES};
-use crate::lurfanzi::{pack, Floor, Job, Plan, Refusal, Verdict, UNREACHABLE};
+use crate::lurfanzi::{log_of, pack, Floor, Job, Plan, Refusal, Replay, Verdict, UNREACHABLE};
 use crate::programs::{Operation, Program, Slices, LIBRARY, PROGRAMS, TEXTBOOK};
 
 const NEIGHBOURHOODS: [u32; 3] = [4, 8, 16];
@@ -55,6 +55,21 @@ fn agree_on(program: &Program, floor: Floor, job: Job, truth: &Truth, random: &m
         assert_eq!(refused, Err(Refusal::BadNeighbourhood), "check: {}", program.name);
     }
     agree_on_thinning(program, floor, truth);
+}
+
+/// The library's replay of the central route: as cheap as can be, and it leaves the costs from the start.
+fn agree_on_replay(floor: Floor, job: Job, truth: &Truth, random: &mut Random) {
+    let mut slices = Slices::new(floor.vertices(), random.below(256) as u8);
+    let points = truth.points().min(4096);
+    let told = slices.replay(floor, job, &log_of(&truth.slices.route[..points]));
+    let cost = truth.slices.d.get(usize::from(truth.slices.route[points.saturating_sub(1)])).map_or(0, |&cost| cost);
+    let wanted = match points {
+        0 => Replay::default(),
+        _ => Replay { read: points, cost, cheapest: true, ..Replay::default() },
+    };
+    assert_eq!(told, Ok(wanted), "replay");
+    assert!(slices.d == if points > 0 { truth.slices.d.clone() } else { vec![0; slices.d.len()] }, "replay: the costs");
+    assert!(slices.work.iter().all(|&number| number == 0), "replay: the working slice");
 }
 
 fn agree_on_plan(program: &Program, floor: Floor, job: Job, truth: &Truth, random: &mut Random) {
@@ -184,6 +199,7 @@ fn all_agree_on(floor: Floor, job: Job, truth: &Truth, random: &mut Random) {
         agree_on(program, floor, job, truth, random);
         agree_on_sight(program, floor, random);
     }
+    agree_on_replay(floor, job, truth, random);
 }
 
 fn is_blocked(floor: Floor, i: i32, j: i32) -> bool {

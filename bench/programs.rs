@@ -1,7 +1,7 @@
 //! The programs, and one operation of one program on one job.
 
 use crate::floors::{Case, Kind};
-use crate::lurfanzi::{self, Floor, Job, Plan, Refusal, Sheet, SheetMut, Verdict};
+use crate::lurfanzi::{self, Floor, Job, Plan, Refusal, Replay, Sheet, SheetMut, Verdict};
 use crate::{buckets, textbook, tuned, tuned_check, tuned_sight};
 use std::hint::black_box;
 
@@ -20,6 +20,9 @@ pub struct Program {
 impl Program {
     /// Whether it has an operation with a neighbourhood. It is asked on a floor of one open cell: refusal 4 says no.
     pub fn has(&self, operation: Operation, neighbourhood: u32) -> bool {
+        if operation == Operation::Replay && self.name != LIBRARY.name {
+            return false;
+        }
         let floor = Floor { width: 1, height: 1, map: &[0] };
         let job = Job { neighbourhood, a: 0, b: 0 };
         let mut slices = Slices::new(floor.vertices(), 0);
@@ -28,6 +31,7 @@ impl Program {
                 slices.costs(self, floor, job)
             }
             Operation::Check => (self.check)(floor, job, slices.sheet(0)).map(|_| ()),
+            Operation::Replay => slices.replay(floor, job, &[]).map(|_| ()),
             _ => Ok(()),
         };
         answer != Err(Refusal::BadNeighbourhood)
@@ -87,6 +91,8 @@ pub enum Operation {
     FortyJobs,
     Check,
     Thin,
+    /// The log of the central route.
+    Replay,
     ShortSight,
     LongSight,
     /// One row and a whole side of columns.
@@ -101,13 +107,14 @@ pub enum Operation {
     DiagonalSight,
 }
 
-pub const OPERATIONS: [Operation; 13] = [
+pub const OPERATIONS: [Operation; 14] = [
     Operation::Plan,
     Operation::Costs,
     Operation::Finish,
     Operation::FortyJobs,
     Operation::Check,
     Operation::Thin,
+    Operation::Replay,
     Operation::ShortSight,
     Operation::LongSight,
     Operation::FlatSight,
@@ -136,6 +143,7 @@ impl Operation {
             Operation::FortyJobs => "forty-jobs",
             Operation::Check => "check",
             Operation::Thin => "thin",
+            Operation::Replay => "replay",
             Operation::ShortSight => "short-sight",
             Operation::LongSight => "long-sight",
             Operation::FlatSight => "flat-sight",
@@ -146,10 +154,11 @@ impl Operation {
         }
     }
 
-    /// The programs to measure: those with an operation of their own.
+    /// The programs to measure: those with an operation of their own. The library alone replays.
     pub fn programs(self) -> &'static [Program] {
         match self {
             Operation::Plan | Operation::Costs | Operation::Finish | Operation::FortyJobs => &PROGRAMS,
+            Operation::Replay => &PROGRAMS[..1],
             _ => &PROGRAMS[..3],
         }
     }
@@ -212,18 +221,24 @@ impl Slices {
         (program.finish)(floor, job, d, &mut SheetMut { e, f, back, route, next }, work)
     }
 
+    /// Replays a log by the library, with d for the costs.
+    pub fn replay(&mut self, floor: Floor, job: Job, log: &[u8]) -> Result<Replay, Refusal> {
+        lurfanzi::replay(floor, job.neighbourhood, log, &mut self.d, &mut self.work)
+    }
+
     pub fn sheet(&self, points: usize) -> Sheet<'_> {
         let Slices { d, e, f, back, route, next, .. } = self;
         Sheet { d, e, f, back, route, next, points }
     }
 }
 
-/// A job, its true sheet, the other ends of forty jobs from its start, and memory for the operations. The memory is not
-/// cleared between runs; `given` has the true costs in d.
+/// A job, its true sheet, the log of its route, the other ends of forty jobs from its start, and memory for the
+/// operations. The memory is not cleared between runs; `given` has the true costs in d.
 pub struct Bench<'a> {
     pub case: &'a Case,
     pub truth: Slices,
     pub points: usize,
+    log: Vec<u8>,
     ends: Vec<u32>,
     given: Slices,
     segments: [Vec<(u32, u32)>; 7],
@@ -236,6 +251,8 @@ impl<'a> Bench<'a> {
         let vertices = case.floor().vertices();
         let mut truth = Slices::new(vertices, 0);
         let points = truth.plan(&TEXTBOOK, case.floor(), case.job).map_or(0, |plan| plan.points);
+        // A log has at most 4,096 records: of a longer route it has the first ones.
+        let log = lurfanzi::log_of(&truth.route[..points.min(4096)]);
         let given = Slices { d: truth.d.clone(), ..Slices::new(vertices, 0xFF) };
         let [short, long] = [false, true].map(|long| case.segments(long));
         let [flat, steep] = [false, true].map(|steep| case.narrow_segments(steep));
@@ -243,7 +260,7 @@ impl<'a> Bench<'a> {
         let segments = [short, long, flat, steep, row, column, case.diagonal_segments()];
         let ends = case.forty_ends();
         let (slices, out) = (Slices::new(vertices, 0xFF), vec![0xFFFF; vertices]);
-        Bench { case, truth, points, ends, given, segments, slices, out }
+        Bench { case, truth, points, log, ends, given, segments, slices, out }
     }
 
     /// How many operations a run has.
@@ -277,6 +294,10 @@ impl<'a> Bench<'a> {
             Operation::Thin => {
                 _ = black_box((program.thin)(floor, &self.truth.route, &mut self.out, self.points));
                 black_box(&self.out);
+            }
+            Operation::Replay => {
+                _ = black_box(self.slices.replay(floor, job, &self.log));
+                black_box(&self.slices.d);
             }
             _ => {
                 for &(a, b) in operation.segments().iter().flat_map(|&k| &self.segments[k]) {

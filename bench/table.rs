@@ -94,6 +94,7 @@ fn title(operation: Operation) -> &'static str {
         Operation::FortyJobs => "Forty jobs from one dock",
         Operation::Check => "Checker, on the true sheet",
         Operation::Thin => "Thinning of the central route",
+        Operation::Replay => "Replay of the central route as a log",
         Operation::ShortSight => "Sight question, at most 8 cells",
         Operation::LongSight => "Sight question, at least half the side",
         Operation::FlatSight => "Sight question, one row and the whole side",
@@ -113,7 +114,7 @@ fn ratio(time: Option<f64>, to: Option<f64>) -> Option<f64> {
     Some(time? / to?)
 }
 
-fn print_row(row: &Row, heap_search: Option<f64>) {
+fn print_row(row: &Row, search: Option<f64>) {
     let name = match row.operation.has_neighbourhood() {
         true => format!("{} {}", row.kind.name(), row.neighbourhood),
         false => row.kind.name().to_string(),
@@ -121,17 +122,22 @@ fn print_row(row: &Row, heap_search: Option<f64>) {
     let (smallest, largest) = (&row.by_side[0], &row.by_side[SIDES.len() - 1]);
     let ratios = |other: usize| cells(row.by_side.iter().map(move |times| ratio(times[0], times[other])), 2);
     let all_ratios: String = (1..largest.len()).map(ratios).collect();
-    let to_heap_search = cells(heap_search.iter().map(|&time| ratio(largest[0], Some(time))), 2);
+    let to_search = cells(search.iter().map(|&time| ratio(largest[0], Some(time))), 2);
     let times = cells(largest.iter().map(|&time| ratio(time, Some(1000.0))), 2);
     let growth = cells(largest.iter().zip(smallest).map(|(&most, &least)| ratio(most, least)), 0);
-    println!("| {name} |{all_ratios}{to_heap_search}{times}{growth}");
+    println!("| {name} |{all_ratios}{to_search}{times}{growth}");
 }
 
-/// The textbook program's time for a plan's costs from one end, at 127 cells a side, among all rows.
-fn heap_search(rows: &[Row], plan: &Row) -> Option<f64> {
-    let same_floor = |row: &&Row| (row.kind, row.neighbourhood) == (plan.kind, plan.neighbourhood);
+/// The time for the costs from one end on a row's floor, at 127 cells a side, among all rows: for a plan the textbook
+/// program's, for a replay the library's.
+fn search(rows: &[Row], of: &Row) -> Option<f64> {
+    let same_floor = |row: &&Row| (row.kind, row.neighbourhood) == (of.kind, of.neighbourhood);
     let costs = rows.iter().filter(same_floor).find(|row| row.operation == Operation::Costs)?;
-    if plan.operation == Operation::Plan { costs.by_side[SIDES.len() - 1][1] } else { None }
+    match of.operation {
+        Operation::Plan => costs.by_side[SIDES.len() - 1][1],
+        Operation::Replay => costs.by_side[SIDES.len() - 1][0],
+        _ => None,
+    }
 }
 
 fn print_heading(operation: Operation) {
@@ -141,10 +147,13 @@ fn print_heading(operation: Operation) {
     if operation == Operation::Plan {
         columns.push("to one heap search, 127".to_string());
     }
+    if operation == Operation::Replay {
+        columns.push("to the library's costs from one end, 127".to_string());
+    }
     columns.extend(names().map(|name| format!("{name} μs, 127")));
     columns.extend(names().map(|name| format!("{name} growth")));
     println!("### {}\n", title(operation));
-    if LIBRARY.has(operation, 16) && !TUNED.has(operation, 16) {
+    if operation.programs().len() > 1 && LIBRARY.has(operation, 16) && !TUNED.has(operation, 16) {
         println!("The tuned planner is for 4 and 8 alone: its canonical ordering is a law of 8.\n");
     }
     println!("| {} |\n|{}", columns.join(" | "), "---|".repeat(columns.len()));
@@ -155,7 +164,7 @@ pub fn print(rounds: usize) {
     for operation in OPERATIONS {
         print_heading(operation);
         for row in rows.iter().filter(|row| row.operation == operation) {
-            print_row(row, heap_search(&rows, row));
+            print_row(row, search(&rows, row));
         }
         println!();
     }
