@@ -9,10 +9,7 @@ use mathlib.Core.Bool.{Bool, true, not, or-true}
 use mathlib.Core.Logic.{_⊎_, inl, inr, ⊎-elim}
 use mathlib.Core.Option.{Option, none, some}
 use native.Mathlib.Omega.{arith}
-use borrow.Author.Tests.{eqb-true}
-use lib.Dec.{eqb}
 use lib.IntN.{ℤ, pos, negsuc, natAbs}
-use Rattle.basics.proofs.Bools.{or-cases}
 use Rattle.basics.proofs.Order.{le-or-lt}
 use Rattle.floor.specs.Floor.{Floor, blocked}
 use Rattle.floor.proofs.Cells.{blocked-left, blocked-right, blocked-above, blocked-below}
@@ -23,6 +20,7 @@ use Rattle.sight.proofs.Corners.{axisBlocked, narrow-unblocked}
 use Rattle.moves.specs.declared.Move.{Move}
 use Rattle.moves.specs.Steps.{up, down, shifted, endIf, isSome}
 use Rattle.moves.specs.Table.{Short, narrow}
+use Rattle.moves.proofs.Signs.{narrow-one}
 use Rattle.moves.specs.Cells.{beside, windowBlocked, centre}
 use Rattle.moves.proofs.Steps.{
   shifted-at,
@@ -158,8 +156,7 @@ module _ (f : Floor) (m : Move) (x y : ℕ) (lx : x ≤ f .wide) (ly : y ≤ f .
         y-last = shifted-is (f .high) y j (m .dy) q .inside;
       } in
       let one : (span x i ≡ 1) ⊎ (span y j ≡ 1)
-      = ⊎-elim (λ h. inl (sym c ∙ eqb-true (natAbs (m .dx)) 1 h)) (λ h. inr (sym r ∙ eqb-true (natAbs (m .dy)) 1 h))
-      (or-cases (eqb (natAbs (m .dx)) 1) (eqb (natAbs (m .dy)) 1) t) in
+      = ⊎-elim (λ h. inl (sym c ∙ h)) (λ h. inr (sym r ∙ h)) (narrow-one m t) in
       sym (end-there unblocked f m x y i j lx (record { columns = p; rows = q }))
       ∙ narrow-unblocked f x y i j ends one (rw c at (short .columns)) (rw r at (short .rows))
       ∙ ap not (sym (on-floor i j p q))

@@ -14,10 +14,9 @@ use mathlib.Core.Bool.{Bool, true, false, _&&_, _||_, not, and-assoc}
 use mathlib.Core.Logic.{_⊎_, inl, inr, ⊎-elim}
 use mathlib.Core.Option.{Option, none, some}
 use native.Mathlib.Omega.{arith}
-use borrow.Author.Tests.{eqb-true, not-true}
-use lib.Dec.{eqb}
+use borrow.Author.Tests.{not-true}
 use lib.IntN.{natAbs}
-use Rattle.basics.proofs.Bools.{or-cases, and-left, and-right, not-both}
+use Rattle.basics.proofs.Bools.{and-left, and-right, not-both}
 use Rattle.basics.proofs.Options.{none-some}
 use Rattle.floor.specs.Floor.{Floor, vertices, number, column, row}
 use Rattle.floor.proofs.Numbers.{column-le, row-le}
@@ -29,6 +28,7 @@ use Rattle.moves.specs.declared.Move.{Move}
 use Rattle.moves.specs.Steps.{openEnd}
 use Rattle.moves.specs.Leaving.{leaves, leavingEnd}
 use Rattle.moves.specs.Table.{Short, narrow, Reaches}
+use Rattle.moves.proofs.Signs.{narrow-one}
 use Rattle.moves.proofs.Steps.{whenHeld, Goes, shifted-at, shifted-span, end-if, goes-end}
 use Rattle.moves.proofs.Opposites.{goes, goes-column, goes-row}
 
@@ -99,8 +99,7 @@ module _ (f : Floor) (m : Move) (short : Short m) (thin : narrow m ≡ true) (v 
       x-last = g .columns .inside;
       y-last = g .rows .inside;
     }) (record {
-      one = ⊎-elim (λ a. inl (sym far-x ∙ eqb-true _ _ a)) (λ a. inr (sym far-y ∙ eqb-true _ _ a))
-          (or-cases (eqb (natAbs (m .dx)) 1) (eqb (natAbs (m .dy)) 1) thin);
+      one = ⊎-elim (λ a. inl (sym far-x ∙ a)) (λ a. inr (sym far-y ∙ a)) (narrow-one m thin);
       high = omega (arith, far-y, short .rows);
     })
 

@@ -4,18 +4,23 @@
 --   parts-abs        == its two parts together are how far it goes
 --   neg-up           == an offset goes as far down as its negation goes up
 --   below, Above d   == how far up an offset below 0 goes, and one that is not
+--   narrow-one       == a narrow move goes one column or one row
 use Prim.Native.Nat.{ℕ, zero, suc, _+_, _≤_}
 use mathlib.Core.Path.{_≡_, refl}
+use mathlib.Core.Logic.{_⊎_, inl, inr, ⊎-elim}
 use mathlib.Core.Bool.{true, false}
 use native.Mathlib.Omega.{arith}
-use borrow.Author.Tests.{ltb-true}
-use lib.Dec.{T}
+use borrow.Author.Tests.{ltb-true, eqb-true}
+use lib.Dec.{T, eqb}
 use lib.IntN.{ℤ, pos, negsuc, natAbs, _-ℤ_}
 use lib.Signed.{ltZ, nonNeg}
 use mir.Syntax.{w8, w64}
 use mir.Val.{SFits, Fits, toZ, ofZ}
 use mir.ValLaws.{toZ-ofZ}
+use Rattle.basics.proofs.Bools.{or-cases}
+use Rattle.moves.specs.declared.Move.{Move}
 use Rattle.moves.specs.Steps.{up, down}
+use Rattle.moves.specs.Table.{narrow}
 
 small : (d : ℤ) → natAbs d ≤ 2 → SFits w8 d
 small (pos n) h = record { sfits = omega arith }
@@ -74,3 +79,8 @@ pub down-le : (d : ℤ) → down d ≤ natAbs d
 unfolding down
 down-le (pos n) = omega arith
 down-le (negsuc n) = omega arith
+
+pub narrow-one : (m : Move) → narrow m ≡ true → (natAbs (m .dx) ≡ 1) ⊎ (natAbs (m .dy) ≡ 1)
+narrow-one m t =
+    ⊎-elim (λ h. inl (eqb-true (natAbs (m .dx)) 1 h)) (λ h. inr (eqb-true (natAbs (m .dy)) 1 h))
+    (or-cases (eqb (natAbs (m .dx)) 1) (eqb (natAbs (m .dy)) 1) t)

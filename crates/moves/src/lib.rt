@@ -8,7 +8,7 @@ ghost use Rattle.floor.specs.Floor.{Sized, floorOf};
 ghost use Rattle.sight.specs.Sight.{segmentOf, unblocked};
 ghost use Rattle.moves.specs.Moves.{moves, sixteen, noMove, moveOf, rowCount, neighbourhoodOf, rowMove, rowAt, moveAt};
 ghost use Rattle.moves.specs.Steps.{up, down, shifted, farEndAt, endIf, isSome, stepOf};
-ghost use Rattle.moves.specs.Table.{lawfulRows, Short, OnFloor, Reaches, partsOf, placeOf, spotOf};
+ghost use Rattle.moves.specs.Table.{lawfulRows, Short, narrow, OnFloor, Reaches, partsOf, placeOf, spotOf};
 use floor::Vertex;
 
 // A move: its signed offsets in columns and rows, and its cost.
@@ -416,7 +416,7 @@ fn ends_unblocked(
     dy: i8,
 ) -> bool
     requires { ⌜ Sized w h (now map) × OnFloor w h x y × Short (moveOf dx dy 0)
-        × Reaches w h (moveOf dx dy 0) x y i j ⌝ }
+        × Reaches w h (moveOf dx dy 0) x y i j × (narrow (moveOf dx dy 0) ≡ true) ⌝ }
     ensures { λ r. ⌜ r ≡ unblocked (floorOf w h (now (map .entry))) (segmentOf x y i j) ⌝ }
 {
     sight::is_unblocked(w, h, map, x, y, i, j, length_of(dx), length_of(dy))
@@ -425,7 +425,8 @@ fn ends_unblocked(
 // Whether a move from (x, y) leads to a vertex of the floor with no cell and no step in the way: the test of a move, but
 // for the pinches at its two ends.
 pub fn is_unblocked(w: usize, h: usize, map: &[u8], x: usize, y: usize, dx: i8, dy: i8) -> bool
-    requires { ⌜ Sized w h (now map) × OnFloor w h x y × Short (moveOf dx dy 0) ⌝ }
+    requires { ⌜ Sized w h (now map) × OnFloor w h x y × Short (moveOf dx dy 0)
+        × (narrow (moveOf dx dy 0) ≡ true) ⌝ }
     ensures { λ r. ⌜ r ≡ isSome (endIf unblocked (floorOf w h (now (map .entry))) (moveOf dx dy 0) x y) ⌝ }
 {
     let Step::To(_) = step_from(w, h, x, y, dx, dy) else {

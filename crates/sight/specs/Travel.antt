@@ -3,6 +3,7 @@
 --
 --   Ends w h x0 y0 x1 y1  == both ends of a segment lie on the floor
 --   Apart x0 y0 x1 y1 c r == they are c columns and r rows apart
+--   Narrow c r            == c columns and r rows are what a move leads: two of each at most, and one of either
 --   uprightTo, levelTo    == the step that ends in a vertex is not shut
 --   uprightFree, levelFree == the k-th step of a segment along a grid line is not shut
 --   touches dx dy c r     == a segment dx wide and dy high enters the cell c columns and r rows from its first end
@@ -19,6 +20,7 @@
 --   Common a b n          == n is the greatest number that divides a and b
 use Prim.Native.Nat.{ℕ, suc, _+_, _*_, _≤_, _<_}
 use mathlib.Core.Path.{_≡_}
+use mathlib.Core.Logic.{_⊎_}
 use mathlib.Core.Bool.{Bool, _&&_, not}
 use lib.Dec.{leb, ltb}
 use Rattle.basics.specs.Bounded.{pick, every}
@@ -37,6 +39,11 @@ pub record Ends (w h x0 y0 x1 y1 : ℕ) : Type 0 where
 pub record Apart (x0 y0 x1 y1 columns rows : ℕ) : Type 0 where
   pub columns-are : columns ≡ span x0 x1
   pub rows-are : rows ≡ span y0 y1
+
+pub record Narrow (columns rows : ℕ) : Type 0 where
+  pub columns-few : columns ≤ 2
+  pub rows-few : rows ≤ 2
+  pub one : (columns ≡ 1) ⊎ (rows ≡ 1)
 
 -- The cells on both sides of the step along column line x that ends on row line y are not both blocked; the same of the
 -- step along row line y that ends on column line x. So `uprightOpen f x j` is `uprightTo f x (suc j)`.

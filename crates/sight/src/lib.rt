@@ -6,7 +6,7 @@ ghost use Rattle.floor.specs.Refusals.{floorShape, endShape, andThen};
 ghost use Rattle.sight.specs.Sight.{segmentOf, segment, unblocked, pinch, sees};
 ghost use Rattle.sight.specs.Obstacle.{isClear, blockage, obstacle};
 ghost use Rattle.sight.specs.Question.{sightAnswer, sightNumber};
-ghost use Rattle.sight.specs.Travel.{Ends, Apart};
+ghost use Rattle.sight.specs.Travel.{Ends, Apart, Narrow};
 use floor::Cell;
 use floor::Refusal;
 use floor::Shape;
@@ -211,9 +211,9 @@ fn two_cells_unblocked(
     !last
 }
 
-// Whether no blocked cell and no shut step is in the way between two vertices, `columns` and `rows` apart: what a move
-// has to ask beside the pinches at its ends. Of the segments of a move it reads the cells alone, and of others makes a
-// scan. A caller with constant lengths, as for the moves of a table, spares the tests of them.
+// Whether no blocked cell and no shut step is in the way between two vertices as far apart as a move leads: at most two
+// columns and two rows, and one of either. It is what a move has to ask beside the pinches at its ends. It reads one or
+// two cells; a caller with constant lengths, as for the moves of a table, spares the tests of them.
 pub fn is_unblocked(
     w: usize,
     h: usize,
@@ -225,7 +225,8 @@ pub fn is_unblocked(
     columns: usize,
     rows: usize,
 ) -> bool
-    requires { ⌜ Sized w h (now map) × Ends w h x0 y0 x1 y1 × Apart x0 y0 x1 y1 columns rows ⌝ }
+    requires { ⌜ Sized w h (now map) × Ends w h x0 y0 x1 y1 × Apart x0 y0 x1 y1 columns rows
+        × Narrow columns rows ⌝ }
     ensures { λ r. ⌜ r ≡ unblocked (floorOf w h (now (map .entry))) (segmentOf x0 y0 x1 y1) ⌝ }
 {
     if columns <= 1 {
@@ -233,14 +234,7 @@ pub fn is_unblocked(
             return unit_unblocked(w, h, map, x0, y0, x1, y1, columns, rows);
         }
     }
-    if columns <= 2 {
-        if rows <= 2 {
-            if columns + rows == 3 {
-                return two_cells_unblocked(w, h, map, x0, y0, x1, y1, columns, rows);
-            }
-        }
-    }
-    is_clear(blockage_along(w, h, map, x0, y0, x1, y1, columns, rows))
+    two_cells_unblocked(w, h, map, x0, y0, x1, y1, columns, rows)
 }
 
 // Whether the vertex (x, y) is a pinch.

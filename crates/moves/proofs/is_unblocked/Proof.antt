@@ -95,7 +95,7 @@ ends-unblocked-requires c κs =
       back (s .args .dy) (s .pre .2 .rows),
       far-column (c .before),
       far-row c,
-    ) (s .pre .0, s .pre .1, s .pre .2, found k)
+    ) (s .pre .0, s .pre .1, s .pre .2, found k, s .pre .3)
 
 returns-2 : tie.Need-returns-2
 returns-2 c =
