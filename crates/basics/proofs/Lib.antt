@@ -6,4 +6,5 @@ pub mod Sums
 pub mod Lists
 pub mod Scan
 pub mod Fill
+pub mod Counting
 pub mod Bits

@@ -5,6 +5,7 @@
 --   every n p    == p k holds for each k < n
 --   any n p      == p k holds for some k < n
 --   sum n F      == F 0 + F 1 + .. + F (n - 1)
+--   count n p    == how many k < n have p k
 --   seek f j p   == the least k from j on, among the next f numbers, with p k; j + f where there is none
 use Prim.Native.Nat.{ℕ, zero, suc, _+_}
 use mathlib.Core.Bool.{Bool, true, false, _&&_, _||_}
@@ -24,6 +25,9 @@ any (suc n) p = any n p || p n
 unfoldable pub sum : ℕ → (ℕ → ℕ) → ℕ
 sum zero F = 0
 sum (suc n) F = sum n F + F n
+
+abbrev pub count : ℕ → (ℕ → Bool) → ℕ
+count n p = sum n (λ k. pick (p k) 1 0)
 
 unfoldable pub seek : ℕ → ℕ → (ℕ → Bool) → ℕ
 seek zero j p = j

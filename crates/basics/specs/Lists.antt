@@ -4,11 +4,13 @@
 --   padded n l     == the list l, then 0 up to n places
 --   zeros n        == n times 0
 --   same k l       == the two lists are equal
+--   chosen n p     == the k < n with p k, ascending
 use Prim.Native.Nat.{ℕ, zero, suc, _-_}
 use mathlib.Core.Bool.{Bool, true, false, _&&_}
 use mathlib.Core.List.{List, [], _∷_, _++_}
 use lib.Dec.{eqb}
 use lib.ListN.{length, replicate}
+use Rattle.basics.specs.Bounded.{pick}
 
 unfoldable pub tabulate : ℕ → (ℕ → ℕ) → List ℕ
 tabulate zero F = []
@@ -26,7 +28,11 @@ same [] (y ∷ l) = false
 same (x ∷ k) [] = false
 same (x ∷ k) (y ∷ l) = eqb x y && same k l
 
+unfoldable pub chosen : ℕ → (ℕ → Bool) → List ℕ
+chosen zero p = []
+chosen (suc n) p = chosen n p ++ pick (p n) (n ∷ []) []
+
 -- Named on an `unfolding` line, this opens all of the above, for a theorem that is computed.
 unfoldable pub lists-opened : ℕ
-unfolding tabulate padded same
+unfolding tabulate padded same chosen
 lists-opened = 0

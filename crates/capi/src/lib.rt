@@ -14,6 +14,8 @@ ghost use Rattle.capi.specs.Results.{FillsTo, FinishesTo, ThinsTo, Posts
 use sight::Obstacle;
 use sight::Sight;
 
+pub mod change_reports; // change_reports.rt: what changed between two floors
+
 // What is in the way with its place: a cell's number, a vertex's, or 0.
 #[repr(C)]
 pub struct ObstacleResult {

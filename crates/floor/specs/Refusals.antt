@@ -1,5 +1,6 @@
--- Document 01, "Answers by number", and of document 02 request 6 for 2 and 3, request 5 for 11, request 1 for 12 to 14
--- and request 9 for 16 and 17: each refusal's number, and the refusals over the shape of a floor and of an end.
+-- Document 01, "Answers by number", and of document 02 request 6 for 2 and 3, request 5 for 11, request 1 for 12 to 14,
+-- request 10 for 15 and request 9 for 16 and 17: each refusal's number, and the refusals over the shape of a floor and
+-- of an end.
 --
 --   refusalNumber r    == the number of refusal r
 --   sidesShape w h     == refusal 1: the sides
@@ -31,6 +32,7 @@ use Rattle.floor.specs.declared.Refusal.the-variants.{
   ClosureBounds,
   SlotsFull,
   SlotEmpty,
+  SizesDiffer,
   LogLength,
   BadLogRecord,
 }
@@ -52,6 +54,7 @@ refusalNumber Pinched = 11
 refusalNumber ClosureBounds = 12
 refusalNumber SlotsFull = 13
 refusalNumber SlotEmpty = 14
+refusalNumber SizesDiffer = 15
 refusalNumber LogLength = 16
 refusalNumber BadLogRecord = 17
 

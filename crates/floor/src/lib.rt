@@ -31,6 +31,7 @@ pub enum Refusal {
     ClosureBounds,
     SlotsFull,
     SlotEmpty,
+    SizesDiffer,
     LogLength,
     BadLogRecord,
 }
@@ -60,6 +61,7 @@ pub fn refusal_number(r: Refusal) -> u8
         Refusal::ClosureBounds => 12,
         Refusal::SlotsFull => 13,
         Refusal::SlotEmpty => 14,
+        Refusal::SizesDiffer => 15,
         Refusal::LogLength => 16,
         Refusal::BadLogRecord => 17,
     }
@@ -91,7 +93,7 @@ pub fn map_length(w: usize, h: usize) -> usize
 }
 
 // Whether a cell of the map is blocked.
-fn is_blocked(map: &[u8], c: Cell) -> bool
+pub fn is_blocked(map: &[u8], c: Cell) -> bool
     requires { ⌜ c .0 < 8 * length (now map) ⌝ }
     ensures { λ r. ⌜ r ≡ bitAt (now (map .entry)) (c .0) ⌝ }
 {

@@ -1,0 +1,320 @@
+-- What the two reports mean, said of their outcomes for every input that is not refused.
+--
+--   Differ f f' c      == cell c is not the same on the two floors
+--   Same f f'          == every cell of the first floor is the same on the second
+--   counts-add         == closed and opened together are as many as the cells listed
+--   Lists f f' n l     == the first n numbers of l are exactly the cells that differ, ascending; past them l is 0
+--   listed-cells       == so it is of the slice that the first report leaves, with closed and opened together for n
+--   same-cells         == the first report on floors with the same cells: both counts are 0, and so is every place
+--   same-counts        == only on such floors are both counts 0
+--   SomeWalk, NoWalk   == an open walk joins the two vertices; none does
+--   change-came        == the byte of two costs is 3 exactly where the first is M and the second is not
+--   change-went        == it is 4 exactly where the second is M and the first is not
+--   byte-came          == a byte of the second report is 3 exactly where there is no open walk on the first floor and
+--                         there is one on the second
+--   byte-went          == it is 4 exactly where there is one on the first floor and none on the second
+--   same-costs         == the second report on floors with the same cells: the costs are the same on both, and every
+--                         place of the other two slices is 0
+use Prim.Native.Nat.{ℕ, _+_, _-_, _*_, _≤_, _<_}
+use mathlib.Core.Path.{_≡_, refl, sym, ap, ap₂, _∙_}
+use mathlib.Core.Logic.{_↔_, ⊎-elim}
+use mathlib.Core.Bool.{Bool, true, false}
+use mathlib.Core.List.{List, []}
+use native.Mathlib.Omega.{arith}
+use borrow.Author.Tests.{eqb-true, eqb-false}
+use lib.Dec.{ltb, eqb}
+use lib.ListN.{length, getD}
+use Rattle.basics.specs.Bounded.{pick}
+use Rattle.basics.specs.Lists.{padded, zeros, chosen, tabulate}
+use Rattle.basics.proofs.Order.{le-or-lt}
+use Rattle.basics.proofs.Lists.{getD-padded, getD-padded-past, getD-tabulate, zeros-of, length-tabulate}
+use Rattle.basics.proofs.Counting.{
+  count-none,
+  count-zero,
+  count-or,
+  length-chosen,
+  chosen-none,
+  chosen-holds,
+  chosen-has,
+  chosen-rises,
+}
+use Rattle.floor.specs.Floor.{Floor, cellNumber, cellNumbered, vertices}
+use Rattle.floor.specs.declared.Shape.{Shape}
+use Rattle.floor.specs.declared.Shape.the-variants.{Good, Refused as BadShape}
+use Rattle.floor.proofs.Numbers.{cell-lt}
+use Rattle.floor.proofs.Maps.{numbered-cell}
+use Rattle.moves.specs.declared.Rows.{Rows}
+use Rattle.moves.specs.Table.{Listed}
+use Rattle.moves.proofs.Table.{listed-lawful}
+use Rattle.paths.specs.Graph.{Graph}
+use Rattle.paths.specs.Distance.{unreachable, distance}
+use Rattle.paths.proofs.Listing.{HasWalk}
+use Rattle.paths.proofs.Distance.{distance-le}
+use Rattle.paths.proofs.Bound.{reached-exact, unreachable-exact}
+use Rattle.grid.specs.Grid.{floorGraph}
+use Rattle.grid.specs.Known.{GoodJob}
+use Rattle.grid.specs.declared.Job.the-variants.{Fit}
+use Rattle.grid.proofs.Lawful.{floor-lawful, size-le, graph-same}
+use Rattle.changes.specs.Changes.{
+  GivenFloor,
+  floorIn,
+  closes,
+  opens,
+  differs,
+  differing,
+  tally,
+  tallyOf,
+  cellsShape,
+  listedBy,
+  cellsAnswer,
+  cellsLeft,
+  changeOf,
+  ReportSlices,
+  reportSlicesOf,
+  jobFor,
+  costsOn,
+  costsLeft,
+}
+use Rattle.changes.specs.declared.Tally.{Tally}
+use Rattle.changes.specs.declared.CellReport.the-variants.{Listed as CellsListed}
+use Rattle.changes.proofs.Cell.{apart, same-neither, neither-same, other-differs, differs-other}
+use Rattle.changes.proofs.Shaped.{GoodFloors}
+use Rattle.changes.proofs.Changing.{change-equal, change-from, change-to}
+use Rattle.changes.proofs.Jobs.{fit-floors, job-reportable}
+
+-- ---- cells
+
+abbrev pub Differ : Floor → Floor → ℕ → Type 0
+Differ f f' c = cellNumbered f c ≡ cellNumbered f' c → ⊥
+
+abbrev pub Same : Floor → Floor → Type 0
+Same f f' = (c : ℕ) → c < f .wide * f .high → cellNumbered f c ≡ cellNumbered f' c
+
+abbrev cells : Floor → ℕ
+cells f = f .wide * f .high
+
+module _ (f f' : Floor) where
+  pub counts-add : tallyOf f f' .closed + tallyOf f f' .opened ≡ length (differing f f')
+  unfolding tallyOf differing
+  counts-add =
+      sym (length-chosen (cells f) (differs f f')
+      ∙ count-or (cells f) (closes f f') (opens f f') (λ c i. apart (cellNumbered f c) (cellNumbered f' c)))
+
+  -- Where no cell differs, nothing is listed and nothing is counted.
+  same-none : Same f f' → differing f f' ≡ []
+  unfolding differing
+  same-none s =
+      chosen-none (cells f) (differs f f') (λ c i.
+      let n = same-neither (cellNumbered f c) (cellNumbered f' c) (s c i) in rw (n .0, n .1))
+
+  same-tally : Same f f' → tallyOf f f' ≡ tally 0 0
+  unfolding tallyOf
+  same-tally s =
+      ap₂ tally
+      (count-none (cells f) (closes f f') (λ c i. same-neither (cellNumbered f c) (cellNumbered f' c) (s c i) .0))
+      (count-none (cells f) (opens f f') (λ c i. same-neither (cellNumbered f c) (cellNumbered f' c) (s c i) .1))
+
+  tally-same : tallyOf f f' ≡ tally 0 0 → Same f f'
+  unfolding tallyOf
+  tally-same e c i =
+      neither-same (cellNumbered f c) (cellNumbered f' c)
+      (count-zero (cells f) (closes f f') (ap (λ t. t .closed) e) c i)
+      (count-zero (cells f) (opens f f') (ap (λ t. t .opened) e) c i)
+
+pub record Lists (f f' : Floor) (n : ℕ) (l : List ℕ) : Type 0 where
+  pub differ : (i : ℕ) → i < n → (getD l i 0 < f .wide * f .high) × Differ f f' (getD l i 0)
+  pub all : (c : ℕ) → c < f .wide * f .high → Differ f f' c → (i : ℕ) × (i < n) × (getD l i 0 ≡ c)
+  pub rise : (i j : ℕ) → i < j → j < n → getD l i 0 < getD l j 0
+  pub rest : (i : ℕ) → n ≤ i → getD l i 0 ≡ 0
+
+-- The list of the differing cells, padded.
+padded-lists : (f f' : Floor) (k : ℕ) → Lists f f' (length (differing f f')) (padded k (differing f f'))
+unfolding differing
+padded-lists f f' k =
+    let d = chosen (cells f) (differs f f') in
+    record {
+      differ = λ i h.
+          let r = chosen-holds (cells f) i (differs f f') h in
+          let c = getD d i 0 in
+          rw (getD-padded k i d h) (r .0, differs-other (cellNumbered f c) (cellNumbered f' c) (r .1));
+      all = λ c i o.
+          let r = chosen-has (cells f) c (differs f f') i (other-differs (cellNumbered f c) (cellNumbered f' c) o) in
+          (r .0, r .1, getD-padded k (r .0) d (r .1) ∙ r .2);
+      rise = λ i j o h.
+          rw (getD-padded k i d (omega arith), getD-padded k j d h) (chosen-rises (cells f) i j (differs f f') o h);
+      rest = λ i h. getD-padded-past k i d h;
+    }
+
+-- ---- the first report
+
+padded-none : (n : ℕ) → padded n [] ≡ zeros n
+unfolding padded
+padded-none n = let e : n - 0 ≡ n = omega arith in ap zeros e
+
+listed-good : (s : Shape) (x t : Tally) → listedBy s x ≡ CellsListed t → (s ≡ Good) × (x ≡ t)
+listed-good Good x t e = (refl, cc)
+listed-good (BadShape r) x t e = let z : _≡_ {A = ℕ} 0 1 = cc in absurd (omega arith)
+
+module _ (p q : GivenFloor) (l : List ℕ) where
+  module _ {t : Tally} (answer : cellsAnswer p q l ≡ CellsListed t) where
+    good : (cellsShape p q (length l) ≡ Good) × (tallyOf (floorIn p) (floorIn q) ≡ t)
+    unfolding cellsAnswer
+    good = listed-good (cellsShape p q (length l)) (tallyOf (floorIn p) (floorIn q)) t answer
+
+    pub listed-cells : Lists (floorIn p) (floorIn q) (t .closed + t .opened) (cellsLeft p q l)
+    unfolding cellsLeft
+    listed-cells =
+        let n : t .closed + t .opened ≡ length (differing (floorIn p) (floorIn q)) =
+        ap (λ x. x .closed + x .opened) (sym (good .1)) ∙ counts-add (floorIn p) (floorIn q) in
+        rw (n, good .0) (padded-lists (floorIn p) (floorIn q) (length l))
+
+    pub same-counts : t ≡ tally 0 0 → Same (floorIn p) (floorIn q)
+    same-counts e = tally-same (floorIn p) (floorIn q) (good .1 ∙ e)
+
+  pub same-cells : cellsShape p q (length l) ≡ Good → Same (floorIn p) (floorIn q)
+      → (cellsAnswer p q l ≡ CellsListed (tally 0 0)) × (cellsLeft p q l ≡ zeros (length l))
+  unfolding cellsAnswer cellsLeft
+  same-cells g s = (
+    rw (g, same-tally (floorIn p) (floorIn q) s),
+    rw (g, same-none (floorIn p) (floorIn q) s) (padded-none (length l)),
+  )
+
+-- ---- one cost
+
+-- The byte by the tests in order: equal, from M, to M, fell.
+abbrev byteBy : Bool → Bool → Bool → Bool → ℕ
+byteBy e f t l = pick e 0 (pick f 3 (pick t 4 (pick l 1 2)))
+
+by-three : (e f t l : Bool) → byteBy e f t l ≡ 3 → (e ≡ false) × (f ≡ true)
+by-three true f t l z = absurd (omega arith)
+by-three false true t l z = (refl, refl)
+by-three false false true l z = absurd (omega arith)
+by-three false false false true z = absurd (omega arith)
+by-three false false false false z = absurd (omega arith)
+
+by-four : (e f t l : Bool) → byteBy e f t l ≡ 4 → (e ≡ false) × (t ≡ true)
+by-four true f t l z = absurd (omega arith)
+by-four false true t l z = absurd (omega arith)
+by-four false false true l z = (refl, refl)
+by-four false false false true z = absurd (omega arith)
+by-four false false false false z = absurd (omega arith)
+
+below : (x : ℕ) → x ≤ unreachable → (x ≡ unreachable → ⊥) → x < unreachable
+below x l ne = ⊎-elim (λ (k : unreachable ≤ x). absurd (ne (omega arith))) (λ k. k) (le-or-lt unreachable x)
+
+module _ (x y : ℕ) (first-le : x ≤ unreachable) (second-le : y ≤ unreachable) where
+  pub change-came : (changeOf x y ≡ 3) ↔ ((x ≡ unreachable) × (y < unreachable))
+  unfolding changeOf
+  change-came = (
+    λ z.
+        let r = by-three (eqb x y) (eqb x unreachable) (eqb y unreachable) (ltb y x) z in
+        let from = eqb-true x unreachable (r .1) in
+        (from, below y second-le (λ e. eqb-false x y (r .0) (from ∙ sym e))),
+    λ w. sym (change-from x y (λ e. absurd (omega arith)) (w .0)),
+  )
+
+  pub change-went : (changeOf x y ≡ 4) ↔ ((x < unreachable) × (y ≡ unreachable))
+  unfolding changeOf
+  change-went = (
+    λ z.
+        let r = by-four (eqb x y) (eqb x unreachable) (eqb y unreachable) (ltb y x) z in
+        let to = eqb-true y unreachable (r .1) in
+        (below x first-le (λ e. eqb-false x y (r .0) (e ∙ sym to)), to),
+    λ w. sym (change-to x y (λ e. absurd (omega arith)) (λ e. absurd (omega arith)) (w .1)),
+  )
+
+-- ---- the second report
+
+abbrev pub SomeWalk : Graph → ℕ → ℕ → Type 0
+SomeWalk g u t = (k : ℕ) × HasWalk g k u t
+
+abbrev pub NoWalk : Graph → ℕ → ℕ → Type 0
+NoWalk g u t = (k : ℕ) → HasWalk g k u t → ⊥
+
+-- Where the cost is M, and where it is not.
+record Reach (g : Graph) (a v : ℕ) : Type 0 where
+  there : (distance g a v < unreachable) ↔ SomeWalk g a v
+  none : (distance g a v ≡ unreachable) ↔ NoWalk g a v
+
+reach : (f : Floor) {rows : Rows} (a v : ℕ) → f .wide ≤ 127 → f .high ≤ 127 → Listed rows
+    → a < vertices (f .wide) (f .high) → Reach (floorGraph f rows) a v
+reach f {rows} a v w h r i =
+    let g = floorGraph f rows in
+    let L = floor-lawful f rows (listed-lawful r) in
+    let small = size-le f w h rows in
+    record { there = reached-exact g L a i small v; none = unreachable-exact g L a i small v }
+
+-- Floors of one size with the same cells have the same graph.
+same-graph : (f f' : Floor) (rows : Rows) → f .wide ≡ f' .wide → f .high ≡ f' .high → Same f f'
+    → floorGraph f rows ≡ floorGraph f' rows
+same-graph f f' rows w h s =
+    graph-same f f' rows w h (λ i j k l.
+    let c = cellNumber (f .wide) i j in
+    sym (numbered-cell f i j k)
+    ∙ s c (cell-lt (f .wide) (f .high) i j k l)
+    ∙ ap (λ n. cellNumbered f' (cellNumber n i j)) w ∙ numbered-cell f' i j (omega (arith, w)))
+
+module _ (p q : GivenFloor) (nb a : ℕ) (s : ReportSlices) {rows : Rows} (fit : jobFor p q nb a s ≡ Fit rows) where
+  abbrev g : Graph
+  g = floorGraph (floorIn p) rows
+
+  abbrev g' : Graph
+  g' = floorGraph (floorIn q) rows
+
+  left-is : costsLeft p q nb a s ≡ costsOn g g' a
+  unfolding costsLeft
+  left-is = rw fit
+
+  floors : GoodFloors p q
+  floors = fit-floors p q nb a s fit
+
+  job : GoodJob (p .wide) (p .high) (p .map) rows a a
+  job = job-reportable p q nb a s fit .first
+
+  first-reach : (v : ℕ) → Reach g a v
+  first-reach v = reach (floorIn p) a v (job .sized .wide) (job .sized .high) (job .listed) (job .start-in)
+
+  second-reach : (v : ℕ) → Reach g' a v
+  second-reach v =
+      let second = floors .second .sized in
+      reach (floorIn q) a v (second .wide) (second .high) (job .listed)
+      (rw (← floors .wide, ← floors .high) (job .start-in))
+
+  module _ (v : ℕ) (inside : v < vertices (p .wide) (p .high)) where
+    abbrev byte : ℕ
+    byte = getD (costsLeft p q nb a s .change) v 0
+
+    byte-is : byte ≡ changeOf (distance g a v) (distance g' a v)
+    unfolding costsOn
+    byte-is =
+        ap (λ t. getD (t .change) v 0) left-is
+        ∙ getD-tabulate (vertices (p .wide) (p .high)) v (λ u. changeOf (distance g a u) (distance g' a u)) inside
+
+    pub byte-came : (byte ≡ 3) ↔ (NoWalk g a v × SomeWalk g' a v)
+    byte-came =
+        let x = change-came (distance g a v) (distance g' a v) (distance-le g a v) (distance-le g' a v) in (
+          λ e.
+              let r = x .0 (sym byte-is ∙ e) in (first-reach v .none .0 (r .0), second-reach v .there .0 (r .1)),
+          λ w. byte-is ∙ x .1 (first-reach v .none .1 (w .0), second-reach v .there .1 (w .1)),
+        )
+
+    pub byte-went : (byte ≡ 4) ↔ (SomeWalk g a v × NoWalk g' a v)
+    byte-went =
+        let x = change-went (distance g a v) (distance g' a v) (distance-le g a v) (distance-le g' a v) in (
+          λ e.
+              let r = x .0 (sym byte-is ∙ e) in (first-reach v .there .0 (r .0), second-reach v .none .0 (r .1)),
+          λ w. byte-is ∙ x .1 (first-reach v .there .1 (w .0), second-reach v .none .1 (w .1)),
+        )
+
+  pub same-costs : Same (floorIn p) (floorIn q)
+      → costsLeft p q nb a s ≡ reportSlicesOf (tabulate (g .size) (distance g a)) (tabulate (g .size) (distance g a))
+      (zeros (g .size)) (zeros (4 * g .size))
+  unfolding costsOn
+  same-costs e =
+      let d = distance g a in
+      let graphs : g ≡ g' = same-graph (floorIn p) (floorIn q) rows (floors .wide) (floors .high) e in
+      let none : tabulate (g .size) (λ v. changeOf (d v) (d v)) ≡ zeros (g .size) =
+      zeros-of (g .size) _ (length-tabulate (g .size) _) (λ v i.
+      getD-tabulate (g .size) v (λ u. changeOf (d u) (d u)) i ∙ sym (change-equal (d v) (d v) refl)) in
+      left-is ∙ ap (λ h. costsOn g h a) (sym graphs)
+      ∙ ap (λ l. reportSlicesOf (tabulate (g .size) d) (tabulate (g .size) d) l (zeros (4 * g .size))) none

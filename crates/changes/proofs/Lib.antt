@@ -1,0 +1,6 @@
+pub mod Cell
+pub mod Noting
+pub mod Shaped
+pub mod Changing
+pub mod Jobs
+pub mod Laws
