@@ -85,6 +85,7 @@ enum {
     LURFANZI_BAD_CLOSURE = 12,      /* the rectangle is empty or leaves the floor */
     LURFANZI_SLOTS_FULL = 13,       /* no slot is free */
     LURFANZI_SLOT_EMPTY = 14,       /* the slot is above 15 or free */
+    LURFANZI_SIZES_DIFFER = 15,     /* two floors that are compared have not the same width and height */
     LURFANZI_LONG_LOG = 16,         /* a log has more than 16,384 bytes */
     LURFANZI_BAD_LOG_RECORD = 17    /* a record of a log is cut short, has a wrong mark or is off the floor; what was
                                        read before it is answered */
@@ -278,6 +279,59 @@ typedef struct {
 lurfanzi_replay_result lurfanzi_replay(
     uint32_t width, uint32_t height, const uint8_t *map, size_t map_length, uint32_t neighbourhood,
     const uint8_t *log, size_t log_length, uint32_t *costs, size_t costs_length, uint32_t *work, size_t work_length);
+
+/* Two floors of the same sides are compared. The first, of width, height and map, is the floor before a change; the
+ * second, of new_width, new_height and new_map, the floor after it. Both maps are read, and may be the same memory.
+ * Whatever is wrong with the first floor is answered before all that is wrong with the second.
+ */
+typedef struct {
+    size_t closed;   /* how many cells are open on the first floor and blocked on the second; 0 at a refusal */
+    size_t opened;   /* how many cells are blocked on the first floor and open on the second; 0 at a refusal */
+    uint8_t answer;  /* 0, or a refusal: 1, 2, 3, 15 or 6 */
+} lurfanzi_changes_result;
+
+/* What changed between two floors: lists the cells that are blocked on one of them and open on the other.
+ *
+ * cells      width * height numbers, not the packed map's length: at answer 0 the numbers of the differing cells,
+ *            ascending, then 0; untouched at a refusal. There are closed + opened of them; 0 is a cell's number too,
+ *            so that only the answer says how many are listed. A listed cell is closed where new_map has its bit set.
+ *
+ * Refuses with 1, 2, 3 for the first floor, 1, 2, 3 for the second, 15, and 6 for cells, in this order.
+ */
+lurfanzi_changes_result lurfanzi_changes(
+    uint32_t width, uint32_t height, const uint8_t *map, size_t map_length,
+    uint32_t new_width, uint32_t new_height, const uint8_t *new_map, size_t new_map_length,
+    uint16_t *cells, size_t cells_length);
+
+/* How the cost of a vertex changed from the first floor to the second: the bytes that lurfanzi_cost_changes writes. */
+enum {
+    LURFANZI_COST_EQUAL = 0,             /* the same on both, also where no walk leads there on either */
+    LURFANZI_COST_FELL = 1,              /* less on the second floor */
+    LURFANZI_COST_ROSE = 2,              /* more on the second floor */
+    LURFANZI_COST_FROM_UNREACHABLE = 3,  /* a walk leads there on the second floor alone */
+    LURFANZI_COST_TO_UNREACHABLE = 4     /* a walk leads there on the first floor alone */
+};
+
+/* What a change of the floor does to the costs from vertex a. Lists no cells and answers no counts: lurfanzi_changes
+ * does.
+ *
+ * costs           V costs from a on the first floor, as lurfanzi_costs leaves them in d
+ * new_costs       V costs from a on the second floor
+ * changes         V bytes, one of the five numbers above for each vertex; all 0 where the floors are equal
+ * work            4 * V numbers of working memory; what it holds at entry does not matter
+ *
+ * answer          costs, new_costs  changes    work
+ * 0               true              true       0
+ * 1 to 6, 11, 15  untouched         untouched  untouched
+ *
+ * Refuses with 1, 2, 3 for the first floor, 1, 2, 3 for the second, 15, 4, 5 for a, 11 where a is a pinch of either
+ * floor, and 6 for each of the four slices, in this order. It takes about as long as two calls of lurfanzi_costs.
+ */
+uint8_t lurfanzi_cost_changes(
+    uint32_t width, uint32_t height, const uint8_t *map, size_t map_length,
+    uint32_t new_width, uint32_t new_height, const uint8_t *new_map, size_t new_map_length,
+    uint32_t neighbourhood, uint32_t a, uint32_t *costs, size_t costs_length, uint32_t *new_costs,
+    size_t new_costs_length, uint8_t *changes, size_t changes_length, uint32_t *work, size_t work_length);
 
 /* Closures are rectangles of cells that are blocked for a time, as wet floors and parked beds. They stand in a table of
  * sixteen slots, 64 numbers that the caller lends to each call: slots[4 * k] to slots[4 * k + 3] are the first column,

@@ -88,6 +88,32 @@ pub struct Replay {
     pub cheapest: bool,
 }
 
+/// How many cells are blocked on the second of two floors alone, and how many on the first alone.
+#[derive(Clone, Copy, Debug, Default, PartialEq, Eq)]
+pub struct Changes {
+    pub closed: usize,
+    pub opened: usize,
+}
+
+/// The slices that `cost_changes` fills, each with a place for every vertex: the costs on a floor, those on the floor
+/// after it, and the bytes that say how each changed.
+#[derive(Debug)]
+pub struct CostChangesMut<'a> {
+    pub costs: &'a mut [u32],
+    pub after_costs: &'a mut [u32],
+    pub changes: &'a mut [u8],
+}
+
+/// How the cost of a vertex changed from one floor to another; the numbers are the bytes that `cost_changes` writes.
+#[derive(Clone, Copy, Debug, PartialEq, Eq)]
+pub enum CostChange {
+    Equal = 0,
+    Fell = 1,
+    Rose = 2,
+    FromUnreachable = 3,
+    ToUnreachable = 4,
+}
+
 /// What is in the way between two vertices: nothing, the cell with a number, the shut step that begins in a vertex, or
 /// the pinch at a vertex.
 #[derive(Clone, Copy, Debug, PartialEq, Eq)]
@@ -133,6 +159,7 @@ pub enum Refusal {
     BadClosure,
     SlotsFull,
     SlotEmpty,
+    SizesDiffer,
     LongLog,
     /// A number that the header does not list for the call. The library gives none.
     Unlisted(u8),
@@ -155,6 +182,7 @@ impl Refusal {
             12 => Refusal::BadClosure,
             13 => Refusal::SlotsFull,
             14 => Refusal::SlotEmpty,
+            15 => Refusal::SizesDiffer,
             16 => Refusal::LongLog,
             other => Refusal::Unlisted(other),
         }
@@ -176,6 +204,7 @@ impl Refusal {
             Refusal::BadClosure => 12,
             Refusal::SlotsFull => 13,
             Refusal::SlotEmpty => 14,
+            Refusal::SizesDiffer => 15,
             Refusal::LongLog => 16,
             Refusal::Unlisted(number) => number,
         }
@@ -199,6 +228,7 @@ impl std::fmt::Display for Refusal {
             Refusal::BadClosure => "the rectangle is empty or leaves the floor",
             Refusal::SlotsFull => "no slot is free",
             Refusal::SlotEmpty => "the slot is above 15 or free",
+            Refusal::SizesDiffer => "the two floors have not the same sides",
             Refusal::LongLog => "the log has more than 16,384 bytes",
             Refusal::Unlisted(_) => "an answer that the header does not list",
         };
@@ -226,6 +256,21 @@ impl Replay {
     /// The answer's number of the header.
     pub fn number(&self) -> u8 {
         if self.bad.is_some() { 17 } else { 0 }
+    }
+}
+
+impl Changes {
+    /// The numbers of the differing cells, ascending, in the slice that `changes` has filled.
+    pub fn listed<'a>(&self, cells: &'a [u16]) -> &'a [u16] {
+        &cells[..self.closed + self.opened]
+    }
+}
+
+impl CostChange {
+    /// What a byte says; none for a number that `cost_changes` does not write.
+    pub fn from_byte(byte: u8) -> Option<CostChange> {
+        use CostChange::*;
+        [Equal, Fell, Rose, FromUnreachable, ToUnreachable].get(usize::from(byte)).copied()
     }
 }
 
@@ -344,6 +389,24 @@ pub fn replay(
     }
 }
 
+/// Lists the cells that differ between a floor and the one after it: their numbers are at the front of `cells`, which
+/// has a place for every cell.
+pub fn changes(floor: Floor, after: Floor, cells: &mut [u16]) -> Result<Changes, Refusal> {
+    let result = call::changes(floor, after, cells);
+    match result.answer {
+        0 => Ok(Changes { closed: result.closed, opened: result.opened }),
+        number => Err(Refusal::from_number(number)),
+    }
+}
+
+/// Fills the costs from the vertex `a` on a floor and on the floor after it, and a byte for each vertex that says how
+/// its cost changed, which `CostChange` reads; `work` has four places for every vertex.
+pub fn cost_changes(
+    floor: Floor, after: Floor, neighbourhood: u32, a: u32, slices: &mut CostChangesMut, work: &mut [u32],
+) -> Result<(), Refusal> {
+    done(call::cost_changes(floor, after, neighbourhood, a, slices, work))
+}
+
 /// The calls themselves: the only unsafe code.
 ///
 /// Why they are sound: the header asks that a slice's pointer be valid for its length, aligned, and that no written
@@ -351,7 +414,7 @@ pub fn replay(
 /// `*const` and exclusive for `*mut`, and the borrows last as long as the call. The library reads and writes nothing
 /// else, keeps no pointer, and every number it may write is a value of the slice's type.
 mod call {
-    use super::{Closures, Floor, Job, Rectangle, Sheet, SheetMut};
+    use super::{Closures, CostChangesMut, Floor, Job, Rectangle, Sheet, SheetMut};
 
     #[repr(C)]
     pub struct PlanResult {
@@ -386,6 +449,13 @@ mod call {
         pub bad: usize,
         pub cost: u32,
         pub cheapest: u8,
+        pub answer: u8,
+    }
+
+    #[repr(C)]
+    pub struct ChangesResult {
+        pub closed: usize,
+        pub opened: usize,
         pub answer: u8,
     }
 
@@ -436,6 +506,19 @@ mod call {
             log: *const u8, log_length: usize, costs: *mut u32, costs_length: usize,
             work: *mut u32, work_length: usize,
         ) -> ReplayResult;
+
+        fn lurfanzi_changes(
+            width: u32, height: u32, map: *const u8, map_length: usize,
+            new_width: u32, new_height: u32, new_map: *const u8, new_map_length: usize,
+            cells: *mut u16, cells_length: usize,
+        ) -> ChangesResult;
+
+        fn lurfanzi_cost_changes(
+            width: u32, height: u32, map: *const u8, map_length: usize,
+            new_width: u32, new_height: u32, new_map: *const u8, new_map_length: usize, neighbourhood: u32, a: u32,
+            costs: *mut u32, costs_length: usize, new_costs: *mut u32, new_costs_length: usize,
+            changes: *mut u8, changes_length: usize, work: *mut u32, work_length: usize,
+        ) -> u8;
     }
 
     pub fn sight(floor: Floor, a: u32, b: u32) -> u8 {
@@ -522,6 +605,30 @@ mod call {
             lurfanzi_replay(
                 floor.width, floor.height, floor.map.as_ptr(), floor.map.len(), neighbourhood,
                 log.as_ptr(), log.len(), costs.as_mut_ptr(), costs.len(), work.as_mut_ptr(), work.len(),
+            )
+        }
+    }
+
+    pub fn changes(floor: Floor, after: Floor, cells: &mut [u16]) -> ChangesResult {
+        // SAFETY: the maps are shared slices, the cells an exclusive one.
+        unsafe {
+            lurfanzi_changes(
+                floor.width, floor.height, floor.map.as_ptr(), floor.map.len(),
+                after.width, after.height, after.map.as_ptr(), after.map.len(), cells.as_mut_ptr(), cells.len(),
+            )
+        }
+    }
+
+    pub fn cost_changes(
+        floor: Floor, after: Floor, neighbourhood: u32, a: u32, to: &mut CostChangesMut, work: &mut [u32],
+    ) -> u8 {
+        // SAFETY: the maps are shared slices, the four others are exclusive ones.
+        unsafe {
+            lurfanzi_cost_changes(
+                floor.width, floor.height, floor.map.as_ptr(), floor.map.len(),
+                after.width, after.height, after.map.as_ptr(), after.map.len(), neighbourhood, a,
+                to.costs.as_mut_ptr(), to.costs.len(), to.after_costs.as_mut_ptr(), to.after_costs.len(),
+                to.changes.as_mut_ptr(), to.changes.len(), work.as_mut_ptr(), work.len(),
             )
         }
     }
@@ -874,6 +981,108 @@ mod tests {
         for lengths in [[5, 24], [7, 24], [0, 24], [6, 23], [6, 25], [6, 0], [24, 6]] {
             refused(OPEN, 8, &good, lengths, Refusal::BadSliceLength);
             refused(OPEN, 8, &[9], lengths, Refusal::BadSliceLength);
+        }
+    }
+
+    #[test]
+    fn changed_cells() {
+        let blocked = Floor { map: &[3], ..OPEN };
+        let mirrored = Floor { map: &[6], ..TOUCHING };
+        let told = |closed: usize, opened: usize| Changes { closed, opened };
+        let floors: [(Floor, Floor, Changes, &[u16]); 6] = [
+            (OPEN, SHUT, told(1, 0), &[1]),
+            (SHUT, OPEN, told(0, 1), &[1]),
+            (SHUT, SHUT, told(0, 0), &[]),
+            (SHUT, blocked, told(1, 0), &[0]),
+            (OPEN, blocked, told(2, 0), &[0, 1]),
+            (TOUCHING, mirrored, told(2, 2), &[0, 1, 2, 3]),
+        ];
+        for (floor, after, wanted, listed) in floors {
+            let mut cells = vec![7; (floor.width * floor.height) as usize];
+            assert_eq!(changes(floor, after, &mut cells), Ok(wanted));
+            assert_eq!(wanted.listed(&cells), listed);
+            assert!(cells[listed.len()..].iter().all(|&cell| cell == 0));
+        }
+    }
+
+    /// Floors to compare, good ones or not, and the refusal.
+    fn unlike() -> [(Floor<'static>, Floor<'static>, Refusal); 7] {
+        let [short, stray] = [&[][..], &[4]].map(|map| Floor { map, ..OPEN });
+        let narrow = Floor { width: 0, ..OPEN };
+        let upright = Floor { width: 1, height: 2, map: &[2] };
+        [
+            (narrow, stray, Refusal::BadSize),
+            (short, narrow, Refusal::BadMapLength),
+            (stray, narrow, Refusal::UnusedBit),
+            (OPEN, Floor { height: 128, ..OPEN }, Refusal::BadSize),
+            (OPEN, Floor { map: &[0, 0], ..upright }, Refusal::BadMapLength),
+            (OPEN, Floor { map: &[4], ..upright }, Refusal::UnusedBit),
+            (OPEN, upright, Refusal::SizesDiffer),
+        ]
+    }
+
+    #[test]
+    fn refused_changes() {
+        let mut cells = [7; 4];
+        for (floor, after, refusal) in unlike() {
+            assert_eq!(changes(floor, after, &mut cells), Err(refusal));
+        }
+        for length in [0, 1, 3] {
+            assert_eq!(changes(OPEN, SHUT, &mut cells[..length]), Err(Refusal::BadSliceLength));
+        }
+        assert_eq!(cells, [7; 4]);
+    }
+
+    type Compared = (Vec<u32>, Vec<u32>, Vec<u8>);
+
+    /// Compares the costs, with slices of the given lengths that hold 7 at each place: the refusal, at which all hold 7
+    /// still, or the slices. The working slice is 0 then.
+    fn compared(
+        floors: [Floor; 2], neighbourhood: u32, a: u32, lengths: [usize; 4],
+    ) -> Result<Compared, Refusal> {
+        let [mut costs, mut after_costs, mut work] = [0, 1, 3].map(|k| vec![7; lengths[k]]);
+        let mut changes = vec![7; lengths[2]];
+        let mut to = CostChangesMut { costs: &mut costs, after_costs: &mut after_costs, changes: &mut changes };
+        let answer = cost_changes(floors[0], floors[1], neighbourhood, a, &mut to, &mut work);
+        let untouched = costs.iter().chain(&after_costs).chain(&work).all(|&cost| cost == 7);
+        assert!(answer.is_ok() || untouched && changes.iter().all(|&byte| byte == 7));
+        assert!(answer.is_err() || work.iter().all(|&number| number == 0));
+        answer.map(|()| (costs, after_costs, changes))
+    }
+
+    /// From the middle of the left side the second floor is the first upside down.
+    #[test]
+    fn changed_costs() {
+        let [upper, lower] = [&[2 | 8], &[32 | 128]].map(|map| Floor { width: 4, height: 2, map });
+        let rows = [[408, 577, 1224, 1393, UNREACHABLE], [0, 408, 816, 1224, 1632], [408, 577, 985, 1393, 1801]];
+        let (costs, turned) = (rows.concat(), [rows[2], rows[1], rows[0]].concat());
+        let there = vec![0, 0, 1, 0, 3, 0, 0, 0, 0, 0, 0, 0, 2, 0, 4];
+        let back = vec![0, 0, 2, 0, 4, 0, 0, 0, 0, 0, 0, 0, 1, 0, 3];
+        let lengths = [15, 15, 15, 60];
+        assert_eq!(compared([upper, lower], 8, 5, lengths), Ok((costs.clone(), turned.clone(), there)));
+        assert_eq!(compared([lower, upper], 8, 5, lengths), Ok((turned, costs.clone(), back)));
+        assert_eq!(compared([upper, upper], 8, 5, lengths), Ok((costs.clone(), costs, vec![0; 15])));
+        let read = [0, 1, 2, 3, 4, 5].map(CostChange::from_byte);
+        use CostChange::*;
+        assert_eq!(read, [Some(Equal), Some(Fell), Some(Rose), Some(FromUnreachable), Some(ToUnreachable), None]);
+        assert!((0..5).all(|byte| CostChange::from_byte(byte).map(|change| change as u8) == Some(byte)));
+    }
+
+    #[test]
+    fn refused_cost_changes() {
+        let (good, short) = ([6, 6, 6, 24], [5, 6, 6, 24]);
+        for (floor, after, refusal) in unlike() {
+            assert_eq!(compared([floor, after], 5, 6, short), Err(refusal));
+        }
+        assert_eq!(compared([OPEN, SHUT], 5, 6, short), Err(Refusal::BadNeighbourhood));
+        assert_eq!(compared([OPEN, SHUT], 8, 6, short), Err(Refusal::BadEnd));
+        assert_eq!(compared([OPEN, SHUT], 8, u32::MAX, good), Err(Refusal::BadEnd));
+        let open = Floor { map: &[0], ..TOUCHING };
+        for floors in [[open, TOUCHING], [TOUCHING, open], [TOUCHING, TOUCHING]] {
+            assert_eq!(compared(floors, 8, 4, [8, 9, 9, 36]), Err(Refusal::PinchedEnd));
+        }
+        for lengths in [short, [6, 7, 6, 24], [6, 6, 5, 24], [6, 6, 6, 23], [6, 6, 6, 25], [0, 0, 0, 0]] {
+            assert_eq!(compared([OPEN, SHUT], 8, 0, lengths), Err(Refusal::BadSliceLength));
         }
     }
 
