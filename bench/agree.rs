@@ -2,7 +2,7 @@
 //! the others are held to each other.
 
 use crate::floors::{Case, Kind, Random, KINDS, SIDES};
-use crate::lurfanzi::{log_of, pack, Floor, Job, Plan, Refusal, Replay, Verdict, UNREACHABLE};
+use crate::lurfanzi::{log_of, pack, CostChange, Floor, Job, Plan, Refusal, Replay, Verdict, UNREACHABLE};
 use crate::programs::{Operation, Program, Slices, LIBRARY, PROGRAMS, TEXTBOOK};
 
 const NEIGHBOURHOODS: [u32; 3] = [4, 8, 16];
@@ -70,6 +70,33 @@ fn agree_on_replay(floor: Floor, job: Job, truth: &Truth, random: &mut Random) {
     assert_eq!(told, Ok(wanted), "replay");
     assert!(slices.d == if points > 0 { truth.slices.d.clone() } else { vec![0; slices.d.len()] }, "replay: the costs");
     assert!(slices.work.iter().all(|&number| number == 0), "replay: the working slice");
+}
+
+/// The library's comparison of the floor with itself and with one that has another map, beside the costs on both.
+fn agree_on_cost_changes(floor: Floor, job: Job, truth: &Truth, random: &mut Random) {
+    let map = random_map(floor.width as usize, floor.height as usize, random);
+    for after in [floor, Floor { map: &map, ..floor }] {
+        let mut slices = Slices::new(floor.vertices(), random.below(256) as u8);
+        let (before, mut changes) = (slices.clone(), vec![9; floor.vertices()]);
+        let told = slices.cost_changes(floor, after, job, &mut changes);
+        if is_pinch(after, job.a) {
+            assert_eq!(told, Err(Refusal::PinchedEnd), "cost changes: a pinched start");
+            assert!(slices == before && changes.iter().all(|&byte| byte == 9), "cost changes: a pinched start");
+            continue;
+        }
+        let mut there = Slices::new(floor.vertices(), 0);
+        assert_eq!((told, there.costs(&TEXTBOOK, after, job)), (Ok(()), Ok(())), "cost changes");
+        let change = |(&was, &is): (&u32, &u32)| match (was, is) {
+            _ if was == is => CostChange::Equal,
+            (UNREACHABLE, _) => CostChange::FromUnreachable,
+            (_, UNREACHABLE) => CostChange::ToUnreachable,
+            _ => if is < was { CostChange::Fell } else { CostChange::Rose },
+        };
+        let wanted: Vec<u8> = truth.slices.d.iter().zip(&there.d).map(|both| change(both) as u8).collect();
+        assert!(slices.d == truth.slices.d && slices.e == there.d, "cost changes: the costs");
+        assert_eq!(changes, wanted, "cost changes: the bytes");
+        assert!(slices.work.iter().all(|&number| number == 0), "cost changes: the working slice");
+    }
 }
 
 fn agree_on_plan(program: &Program, floor: Floor, job: Job, truth: &Truth, random: &mut Random) {
@@ -200,6 +227,7 @@ fn all_agree_on(floor: Floor, job: Job, truth: &Truth, random: &mut Random) {
         agree_on_sight(program, floor, random);
     }
     agree_on_replay(floor, job, truth, random);
+    agree_on_cost_changes(floor, job, truth, random);
 }
 
 fn is_blocked(floor: Floor, i: i32, j: i32) -> bool {

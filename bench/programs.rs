@@ -1,7 +1,7 @@
 //! The programs, and one operation of one program on one job.
 
 use crate::floors::{Case, Kind};
-use crate::lurfanzi::{self, Floor, Job, Plan, Refusal, Replay, Sheet, SheetMut, Verdict};
+use crate::lurfanzi::{self, CostChangesMut, Floor, Job, Plan, Refusal, Replay, Sheet, SheetMut, Verdict};
 use crate::{buckets, textbook, tuned, tuned_check, tuned_sight};
 use std::hint::black_box;
 
@@ -20,7 +20,7 @@ pub struct Program {
 impl Program {
     /// Whether it has an operation with a neighbourhood. It is asked on a floor of one open cell: refusal 4 says no.
     pub fn has(&self, operation: Operation, neighbourhood: u32) -> bool {
-        if operation == Operation::Replay && self.name != LIBRARY.name {
+        if operation.is_of_library_alone() && self.name != LIBRARY.name {
             return false;
         }
         let floor = Floor { width: 1, height: 1, map: &[0] };
@@ -32,6 +32,7 @@ impl Program {
             }
             Operation::Check => (self.check)(floor, job, slices.sheet(0)).map(|_| ()),
             Operation::Replay => slices.replay(floor, job, &[]).map(|_| ()),
+            Operation::CostChanges => slices.cost_changes(floor, floor, job, &mut [0; 4]),
             _ => Ok(()),
         };
         answer != Err(Refusal::BadNeighbourhood)
@@ -93,6 +94,8 @@ pub enum Operation {
     Thin,
     /// The log of the central route.
     Replay,
+    /// The costs on the floor and on the one after a change.
+    CostChanges,
     ShortSight,
     LongSight,
     /// One row and a whole side of columns.
@@ -107,7 +110,7 @@ pub enum Operation {
     DiagonalSight,
 }
 
-pub const OPERATIONS: [Operation; 14] = [
+pub const OPERATIONS: [Operation; 15] = [
     Operation::Plan,
     Operation::Costs,
     Operation::Finish,
@@ -115,6 +118,7 @@ pub const OPERATIONS: [Operation; 14] = [
     Operation::Check,
     Operation::Thin,
     Operation::Replay,
+    Operation::CostChanges,
     Operation::ShortSight,
     Operation::LongSight,
     Operation::FlatSight,
@@ -144,6 +148,7 @@ impl Operation {
             Operation::Check => "check",
             Operation::Thin => "thin",
             Operation::Replay => "replay",
+            Operation::CostChanges => "cost-changes",
             Operation::ShortSight => "short-sight",
             Operation::LongSight => "long-sight",
             Operation::FlatSight => "flat-sight",
@@ -154,11 +159,16 @@ impl Operation {
         }
     }
 
-    /// The programs to measure: those with an operation of their own. The library alone replays.
+    /// Whether the library alone has it. It is measured beside the library's costs from one end.
+    pub fn is_of_library_alone(self) -> bool {
+        matches!(self, Operation::Replay | Operation::CostChanges)
+    }
+
+    /// The programs to measure: those with an operation of their own.
     pub fn programs(self) -> &'static [Program] {
         match self {
             Operation::Plan | Operation::Costs | Operation::Finish | Operation::FortyJobs => &PROGRAMS,
-            Operation::Replay => &PROGRAMS[..1],
+            _ if self.is_of_library_alone() => &PROGRAMS[..1],
             _ => &PROGRAMS[..3],
         }
     }
@@ -226,16 +236,23 @@ impl Slices {
         lurfanzi::replay(floor, job.neighbourhood, log, &mut self.d, &mut self.work)
     }
 
+    /// Compares the costs on two floors by the library, with d and e for the costs.
+    pub fn cost_changes(&mut self, floor: Floor, after: Floor, job: Job, changes: &mut [u8]) -> Result<(), Refusal> {
+        let mut to = CostChangesMut { costs: &mut self.d, after_costs: &mut self.e, changes };
+        lurfanzi::cost_changes(floor, after, job.neighbourhood, job.a, &mut to, &mut self.work)
+    }
+
     pub fn sheet(&self, points: usize) -> Sheet<'_> {
         let Slices { d, e, f, back, route, next, .. } = self;
         Sheet { d, e, f, back, route, next, points }
     }
 }
 
-/// A job, its true sheet, the log of its route, the other ends of forty jobs from its start, and memory for the
-/// operations. The memory is not cleared between runs; `given` has the true costs in d.
+/// A job, the floor after a change, the job's true sheet, the log of its route, the other ends of forty jobs from its
+/// start, and memory for the operations. The memory is not cleared between runs; `given` has the true costs in d.
 pub struct Bench<'a> {
     pub case: &'a Case,
+    after: Case,
     pub truth: Slices,
     pub points: usize,
     log: Vec<u8>,
@@ -244,6 +261,7 @@ pub struct Bench<'a> {
     segments: [Vec<(u32, u32)>; 7],
     slices: Slices,
     out: Vec<u16>,
+    changes: Vec<u8>,
 }
 
 impl<'a> Bench<'a> {
@@ -259,8 +277,9 @@ impl<'a> Bench<'a> {
         let [row, column] = [false, true].map(|upright| case.line_segments(upright));
         let segments = [short, long, flat, steep, row, column, case.diagonal_segments()];
         let ends = case.forty_ends();
-        let (slices, out) = (Slices::new(vertices, 0xFF), vec![0xFFFF; vertices]);
-        Bench { case, truth, points, log, ends, given, segments, slices, out }
+        let (slices, out, changes) = (Slices::new(vertices, 0xFF), vec![0xFFFF; vertices], vec![0xFF; vertices]);
+        let after = case.without_route();
+        Bench { case, after, truth, points, log, ends, given, segments, slices, out, changes }
     }
 
     /// How many operations a run has.
@@ -298,6 +317,10 @@ impl<'a> Bench<'a> {
             Operation::Replay => {
                 _ = black_box(self.slices.replay(floor, job, &self.log));
                 black_box(&self.slices.d);
+            }
+            Operation::CostChanges => {
+                _ = black_box(self.slices.cost_changes(floor, self.after.floor(), job, &mut self.changes));
+                black_box(&self.changes);
             }
             _ => {
                 for &(a, b) in operation.segments().iter().flat_map(|&k| &self.segments[k]) {

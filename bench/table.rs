@@ -95,6 +95,7 @@ fn title(operation: Operation) -> &'static str {
         Operation::Check => "Checker, on the true sheet",
         Operation::Thin => "Thinning of the central route",
         Operation::Replay => "Replay of the central route as a log",
+        Operation::CostChanges => "Change of the costs between two floors",
         Operation::ShortSight => "Sight question, at most 8 cells",
         Operation::LongSight => "Sight question, at least half the side",
         Operation::FlatSight => "Sight question, one row and the whole side",
@@ -129,13 +130,13 @@ fn print_row(row: &Row, search: Option<f64>) {
 }
 
 /// The time for the costs from one end on a row's floor, at 127 cells a side, among all rows: for a plan the textbook
-/// program's, for a replay the library's.
+/// program's, for what the library alone has the library's.
 fn search(rows: &[Row], of: &Row) -> Option<f64> {
     let same_floor = |row: &&Row| (row.kind, row.neighbourhood) == (of.kind, of.neighbourhood);
     let costs = rows.iter().filter(same_floor).find(|row| row.operation == Operation::Costs)?;
     match of.operation {
         Operation::Plan => costs.by_side[SIDES.len() - 1][1],
-        Operation::Replay => costs.by_side[SIDES.len() - 1][0],
+        operation if operation.is_of_library_alone() => costs.by_side[SIDES.len() - 1][0],
         _ => None,
     }
 }
@@ -147,7 +148,7 @@ fn print_heading(operation: Operation) {
     if operation == Operation::Plan {
         columns.push("to one heap search, 127".to_string());
     }
-    if operation == Operation::Replay {
+    if operation.is_of_library_alone() {
         columns.push("to the library's costs from one end, 127".to_string());
     }
     columns.extend(names().map(|name| format!("{name} μs, 127")));
