@@ -1,11 +1,13 @@
-//! Runs a job stream (tests/reference/FORMAT.md) through the static library, by the wrapper of examples/rust, and
-//! writes the line that each record asks for. It works nothing out: an answer is that of a call, a digest that of a
-//! lent slice.
+//! Runs a job stream (tests/reference/FORMAT.md) through the static library, by the wrapper of examples/rust and by
+//! calls of its own, and writes the line that each record asks for. It works nothing out: an answer is that of a call,
+//! a digest that of a lent slice.
 
+mod calls;
 #[allow(dead_code)]
 #[path = "../../examples/rust/lurfanzi.rs"]
 mod lurfanzi;
 
+use calls::TwoCosts;
 use lurfanzi::{Closures, Floor, Job, Obstacle, Rectangle, Refusal, Replay, Sheet, SheetMut, Verdict};
 use std::io::{self, Error, ErrorKind, Read, Write};
 
@@ -89,6 +91,12 @@ impl Record {
         Job { neighbourhood: self.word(0), a: self.word(1), b: self.word(2) }
     }
 
+    /// The floor and the payload's, in front the one that the record calls the first.
+    fn two_floors<'a>(&'a self, ground: &'a Ground) -> [Floor<'a>; 2] {
+        let other = Floor { width: self.word(0), height: self.word(1), map: &self.payload };
+        if self.word(2) == 1 { [other, ground.floor()] } else { [ground.floor(), other] }
+    }
+
     /// The two vertices of each pair.
     fn pairs(&self) -> impl Iterator<Item = (u32, u32)> + '_ {
         self.payload.chunks_exact(8).map(|pair| (number(&pair[..4]) as u32, number(&pair[4..]) as u32))
@@ -145,6 +153,7 @@ struct Driver {
     out: Vec<u16>,
     slots: [u32; 64],
     working: Vec<u8>,
+    changes: Vec<u8>,
 }
 
 /// A result's number of the header, 0 for a good one.
@@ -160,7 +169,8 @@ impl Driver {
         let slices = Slices { d, e: costs, f, back: counts, route, next: points };
         let ground = Ground { width: 0, height: 0, map: Vec::new() };
         let (work, list, out) = (vec![0; 4 * v], vec![0; longest], vec![0; longest]);
-        Driver { ground, slices, points: 0, work, list, out, slots: [0; 64], working: vec![0; longest_map] }
+        let (working, changes) = (vec![0; longest_map], vec![0; longest]);
+        Driver { ground, slices, points: 0, work, list, out, slots: [0; 64], working, changes }
     }
 
     fn line(&mut self, record: &Record) -> io::Result<String> {
@@ -179,6 +189,8 @@ impl Driver {
             11 => self.obstacle(record),
             12 => self.finish(record),
             13 => self.replay(record),
+            14 => self.changes(record),
+            15 => self.report(record),
             _ => return Err(Error::new(ErrorKind::InvalidData, "a record of no known operation")),
         })
     }
@@ -210,6 +222,29 @@ impl Driver {
         let [unfollowed, bad] = [unfollowed, bad].map(|record| record.map_or(0, usize::from));
         let records = format!("{read} {cost} {unfollowed} {bad} {}", u8::from(cheapest));
         format!("replay {answer} {records} {} {}", digest(costs), digest(work))
+    }
+
+    fn changes(&mut self, record: &Record) -> String {
+        let [first, second] = record.two_floors(&self.ground);
+        let cells = patterned(&mut self.out, record.length(3), record.word(4));
+        let told = calls::changes(first, second, cells);
+        let digests = format!("{} {} {}", digest(&self.ground.map), digest(&record.payload), digest(cells));
+        format!("changes {} {} {} {digests}", told.answer, told.closed, told.opened)
+    }
+
+    fn report(&mut self, record: &Record) -> String {
+        let [first, second] = record.two_floors(&self.ground);
+        let seed = record.word(9);
+        let mut lent = TwoCosts {
+            costs: patterned(&mut self.slices.d, record.length(5), seed),
+            new_costs: patterned(&mut self.slices.e, record.length(6), seed),
+            changes: patterned(&mut self.changes, record.length(7), seed),
+            work: patterned(&mut self.work, record.length(8), seed),
+        };
+        let answer = calls::cost_changes(first, second, record.word(3), record.word(4), &mut lent);
+        let maps = format!("{} {}", digest(&self.ground.map), digest(&record.payload));
+        let (d, e) = (digest(lent.costs), digest(lent.new_costs));
+        format!("report {answer} {maps} {d} {e} {} {}", digest(lent.changes), digest(lent.work))
     }
 
     /// The costs handed in are a copy with the changes made, so that nothing has to be put back.

@@ -1,5 +1,6 @@
 //! Runs a job stream and writes the expected text.
 
+use crate::changes;
 use crate::closures::{Rectangle, Table};
 use crate::format::{self, Damage, Digest, Record};
 use crate::packed::{self, PackedFloor};
@@ -22,6 +23,7 @@ struct Buffers {
     output: Vec<u16>,
     table: Table,
     working: Vec<u8>,
+    changes: Vec<u8>,
 }
 
 impl Buffers {
@@ -40,6 +42,7 @@ impl Buffers {
             output: vec![0; format::LIST_ROOM],
             table: Table::empty(),
             working: vec![0; format::WORKING_ROOM],
+            changes: vec![0; format::CHANGES_ROOM],
         }
     }
 
@@ -92,6 +95,16 @@ fn digest16(slice: &[u16]) -> u64 {
     Digest::of(slice.iter().map(|&x| u32::from(x)))
 }
 
+/// The numbers in decimal, with a space between two of them.
+fn joined(numbers: &[u64]) -> String {
+    numbers.iter().map(u64::to_string).collect::<Vec<String>>().join(" ")
+}
+
+/// The floor and the other one, in front the one that the record calls the first.
+fn in_order<'a>(record: &Record, own: &'a mut Solver, other: &'a mut Solver) -> [&'a mut Solver; 2] {
+    if record.words[2] == 1 { [other, own] } else { [own, other] }
+}
+
 fn request_of(record: &Record) -> Request {
     let word = |k: usize| u64::from(record.words[k]);
     Request { neighbourhood: word(0), start: word(1), goal: word(2) }
@@ -107,6 +120,9 @@ struct Runner {
     /// The floor as it is handed in, and what the solver works on.
     packed: PackedFloor,
     solver: Solver,
+    /// The same of the other floor that the last record about two floors had.
+    other_packed: PackedFloor,
+    other_solver: Solver,
     buffers: Buffers,
 }
 
@@ -126,6 +142,8 @@ impl Runner {
             format::WORKING => self.working(record),
             format::OBSTACLE => self.obstacle(record),
             format::REPLAY => self.replay(record),
+            format::CHANGES => self.changes(record),
+            format::REPORT => self.report(record),
             other => panic!("no operation {other}"),
         }
     }
@@ -164,6 +182,49 @@ impl Runner {
         format!("replay {} {} {records} {} {digests}", told.answer, told.read, u8::from(told.cheapest))
     }
 
+    /// Takes the payload's floor as the other one.
+    fn take_other(&mut self, record: &Record) {
+        let other = PackedFloor::new(record.words[0].into(), record.words[1].into(), record.payload.clone());
+        if other != self.other_packed {
+            self.other_solver = Solver::new(other.floor());
+            self.other_packed = other;
+        }
+    }
+
+    fn changes(&mut self, record: &Record) -> String {
+        self.take_other(record);
+        let cells = &mut self.buffers.output[..record.word(3)];
+        fill16(cells, record.words[4]);
+        let [first, second] = in_order(record, &mut self.solver, &mut self.other_solver);
+        let told = changes::changes(&first.floor, &second.floor, cells);
+        let digests = [digest8(&self.packed.map), digest8(&self.other_packed.map), digest16(cells)];
+        format!("changes {} {} {} {}", told.answer, told.closed, told.opened, joined(&digests))
+    }
+
+    fn report(&mut self, record: &Record) -> String {
+        self.take_other(record);
+        let (at, seed) = (&mut self.buffers, record.words[9]);
+        let (before, after) = (&mut at.d[..record.word(5)], &mut at.e[..record.word(6)]);
+        let (changes, work) = (&mut at.changes[..record.word(7)], &mut at.work[..record.word(8)]);
+        fill32(before, seed);
+        fill32(after, seed);
+        fill8(changes, seed);
+        fill32(work, seed);
+        let [first, second] = in_order(record, &mut self.solver, &mut self.other_solver);
+        let (neighbourhood, start) = (record.words[3].into(), record.words[4].into());
+        let lent = changes::Lent { before, after, changes, work };
+        let answer = changes::report(first, second, neighbourhood, start, lent);
+        let digests = [
+            digest8(&self.packed.map),
+            digest8(&self.other_packed.map),
+            digest32(&at.d[..record.word(5)]),
+            digest32(&at.e[..record.word(6)]),
+            digest8(&at.changes[..record.word(7)]),
+            digest32(&at.work[..record.word(8)]),
+        ];
+        format!("report {answer} {}", joined(&digests))
+    }
+
     fn finish(&mut self, record: &Record) -> String {
         let seed = record.words[10];
         let at = &mut self.buffers;
@@ -194,9 +255,8 @@ impl Runner {
         undo.iter().rev().for_each(|&old| {
             at.put(old);
         });
-        let digests: Vec<String> = digests.iter().map(u64::to_string).collect();
         let (number, cost, total, n) = (answer.answer, answer.cost, answer.total, answer.n);
-        format!("finish {number} {cost} {total} {n} {}", digests.join(" "))
+        format!("finish {number} {cost} {total} {n} {}", joined(&digests))
     }
 
     fn load(&mut self, record: &Record) -> String {
@@ -320,7 +380,8 @@ impl Runner {
 /// The text for a whole stream, or None where a record is cut short.
 pub fn run(mut input: &[u8]) -> Option<String> {
     let packed = PackedFloor::new(0, 0, Vec::new());
-    let mut runner = Runner { solver: Solver::new(packed.floor()), packed, buffers: Buffers::new() };
+    let [solver, other_solver] = [(); 2].map(|()| Solver::new(packed.floor()));
+    let mut runner = Runner { other_packed: packed.clone(), packed, solver, other_solver, buffers: Buffers::new() };
     let mut text = String::new();
     loop {
         let record = Record::read(&mut input)?;

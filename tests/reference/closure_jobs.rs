@@ -51,7 +51,7 @@ impl Maker {
     }
 
     /// A rectangle on a floor of these sides.
-    fn inner_rectangle(&mut self, width: u32, height: u32) -> Rectangle {
+    pub fn inner_rectangle(&mut self, width: u32, height: u32) -> Rectangle {
         let (column, row) = (self.random.below(width.into()) as u32, self.random.below(height.into()) as u32);
         let columns = self.random.within(1, (width - column).into()) as u32;
         let rows = self.random.within(1, (height - row).into()) as u32;

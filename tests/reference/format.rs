@@ -14,6 +14,8 @@ pub const WORKING: u8 = 10;
 pub const OBSTACLE: u8 = 11;
 pub const FINISH: u8 = 12;
 pub const REPLAY: u8 = 13;
+pub const CHANGES: u8 = 14;
+pub const REPORT: u8 = 15;
 
 pub const WORDS: usize = 14;
 pub const HEADER_SIZE: usize = 64;
@@ -24,6 +26,7 @@ pub const WORK_ROOM: usize = 65_536;
 pub const LIST_ROOM: usize = 16_392;
 pub const WORKING_ROOM: usize = 2_056;
 pub const LOG_ROOM: usize = 16_392;
+pub const CHANGES_ROOM: usize = 16_392;
 pub const MOST_DAMAGES: usize = 4;
 
 #[derive(Clone, Debug)]

@@ -40,6 +40,8 @@ pub struct Maker {
     steered: Random,
     /// For logs: their records change nothing of the others.
     driven: Random,
+    /// For two floors: their records change nothing of the others.
+    compared: Random,
     /// Whether numbers may pass 8 bits (sides, neighbourhood) and 16 bits (ends, n).
     wide: bool,
     /// The floor's map as the records leave it, and what the solver has of it.
@@ -54,11 +56,11 @@ pub fn make(seed: u64, count: u64, wide: bool) -> Vec<u8> {
     let [random, aside, given] = [seed, !seed, seed ^ u64::from(u32::MAX)].map(Random::new);
     let [corners, bits] = [!seed ^ u64::from(u32::MAX), seed.reverse_bits()].map(Random::new);
     let [pushed, steered] = [!seed.reverse_bits(), seed.swap_bytes() ^ 16].map(Random::new);
-    let driven = Random::new(seed.swap_bytes() ^ 9);
+    let [driven, compared] = [9, 10].map(|request| Random::new(seed.swap_bytes() ^ request));
     let (solver, table) = (Solver::new(Floor::open(1, 1)), Table::empty());
     let (out, map) = (Vec::new(), vec![0]);
     let mut maker = Maker {
-        out, random, aside, given, corners, bits, pushed, steered, driven, wide, map, solver, table,
+        out, random, aside, given, corners, bits, pushed, steered, driven, compared, wide, map, solver, table,
     };
     let fixed = fixed_floors(&mut maker.random).into_iter().take(count as usize);
     let mut floors: Vec<_> = fixed.map(|(floor, requests)| (PackedFloor::of(&floor), requests)).collect();
@@ -198,9 +200,11 @@ impl Maker {
             let requests = self.good_operations(requests);
             self.pinch_operations();
             self.replay_operations(&requests);
+            self.change_operations();
         } else {
             self.bad_operations();
             self.logs_on_bad_floor();
+            self.changes_on_bad_floor();
         }
         self.use_aside();
         if is_good {
@@ -242,6 +246,10 @@ impl Maker {
 
     pub fn use_driven(&mut self) {
         std::mem::swap(&mut self.random, &mut self.driven);
+    }
+
+    pub fn use_compared(&mut self) {
+        std::mem::swap(&mut self.random, &mut self.compared);
     }
 
     pub fn is_large(&self) -> bool {
@@ -433,6 +441,15 @@ impl Maker {
             }
         }
         request
+    }
+
+    /// A side that answers 1.
+    pub fn bad_side(&mut self) -> u64 {
+        let mut choices = vec![0, 128, 129, 255];
+        if self.wide {
+            choices.extend([256, (1 << 16) + 3, (1 << 31) + 1, u64::from(u32::MAX)]);
+        }
+        self.random.pick(&choices)
     }
 
     pub fn bad_neighbourhood(&mut self) -> u64 {

@@ -1,5 +1,6 @@
 //! An independent second program for the route planner, its checker, the
-//! thinner, the sight questions, the closures, the replay and the program. Subcommands:
+//! thinner, the sight questions, the closures, the replay, the comparison of two
+//! floors and the program. Subcommands:
 //!
 //! vectors                 runs known answers and self checks
 //! program                 record stream on standard input, lines out
@@ -10,6 +11,9 @@
 
 mod answers;
 mod boundary;
+mod change_checks;
+mod change_jobs;
+mod changes;
 mod closure_jobs;
 mod closures;
 mod cost_jobs;

@@ -97,6 +97,7 @@ impl Maker {
         let (neighbourhood, log) = (self.random.pick(&[good.neighbourhood, 5]), self.random.pick(&[4, 16_385]));
         self.replay_record(neighbourhood, log_of(&[0]), log, [count, 4 * count]);
         self.use_driven();
+        self.changes_with_map();
         let length = self.map.len();
         self.working_record(Base::Floor, length, true);
     }

@@ -17,7 +17,7 @@ fn bits(map: &[u8]) -> Vec<u8> {
 }
 
 /// A floor as an operation is handed it.
-#[derive(Clone, Debug)]
+#[derive(Clone, Debug, PartialEq, Eq)]
 pub struct PackedFloor {
     pub width: u64,
     pub height: u64,

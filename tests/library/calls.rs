@@ -1,0 +1,63 @@
+//! Calls of the C interface on Rust slices, by the signatures of include/lurfanzi.h. They hand on what they are given
+//! and hand back what is answered.
+//!
+//! Why they are sound: the header asks that a slice's pointer be valid for its length, aligned, and that no written
+//! slice overlap another slice of the call. Each pointer and length are those of one Rust slice, shared for `*const`
+//! and exclusive for `*mut`, and the borrows last as long as the call.
+
+use crate::lurfanzi::Floor;
+
+#[repr(C)]
+pub struct ChangesResult {
+    pub closed: usize,
+    pub opened: usize,
+    pub answer: u8,
+}
+
+extern "C" {
+    fn lurfanzi_changes(
+        width: u32, height: u32, map: *const u8, map_length: usize,
+        new_width: u32, new_height: u32, new_map: *const u8, new_map_length: usize,
+        cells: *mut u16, cells_length: usize,
+    ) -> ChangesResult;
+
+    fn lurfanzi_cost_changes(
+        width: u32, height: u32, map: *const u8, map_length: usize,
+        new_width: u32, new_height: u32, new_map: *const u8, new_map_length: usize, neighbourhood: u32, a: u32,
+        costs: *mut u32, costs_length: usize, new_costs: *mut u32, new_costs_length: usize,
+        changes: *mut u8, changes_length: usize, work: *mut u32, work_length: usize,
+    ) -> u8;
+}
+
+/// What changed from the first floor to the second.
+pub fn changes(first: Floor, second: Floor, cells: &mut [u16]) -> ChangesResult {
+    // SAFETY: the maps are shared slices, the cells an exclusive one.
+    unsafe {
+        lurfanzi_changes(
+            first.width, first.height, first.map.as_ptr(), first.map.len(),
+            second.width, second.height, second.map.as_ptr(), second.map.len(),
+            cells.as_mut_ptr(), cells.len(),
+        )
+    }
+}
+
+/// The slices lent for the costs on two floors.
+pub struct TwoCosts<'a> {
+    pub costs: &'a mut [u32],
+    pub new_costs: &'a mut [u32],
+    pub changes: &'a mut [u8],
+    pub work: &'a mut [u32],
+}
+
+/// The costs from a vertex on both floors, and how each changed.
+pub fn cost_changes(first: Floor, second: Floor, neighbourhood: u32, a: u32, lent: &mut TwoCosts) -> u8 {
+    // SAFETY: the maps are shared slices, the four others are exclusive ones.
+    unsafe {
+        lurfanzi_cost_changes(
+            first.width, first.height, first.map.as_ptr(), first.map.len(),
+            second.width, second.height, second.map.as_ptr(), second.map.len(), neighbourhood, a,
+            lent.costs.as_mut_ptr(), lent.costs.len(), lent.new_costs.as_mut_ptr(), lent.new_costs.len(),
+            lent.changes.as_mut_ptr(), lent.changes.len(), lent.work.as_mut_ptr(), lent.work.len(),
+        )
+    }
+}
