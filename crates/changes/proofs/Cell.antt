@@ -2,6 +2,7 @@
 -- `not x && y` holds, and opens where `x && not y` does.
 --
 --   apart                  == no cell does both
+--   beq-same               == truth values that the code finds equal are the same
 --   same-neither, neither-same == a cell that is the same on both floors does neither, and the other way round
 --   other-differs, differs-other == a cell that is not the same does one of the two, and the other way round
 --   other-closes, other-opens == which of the two it does, by the second floor

@@ -3,4 +3,5 @@ pub mod Noting
 pub mod Shaped
 pub mod Changing
 pub mod Jobs
-pub mod Laws
+pub mod CellLaws
+pub mod CostLaws

@@ -4,6 +4,7 @@
 --   GoodFloors, good-floors             == what two floors of good shape have
 --   cells-floors, -length, -good        == the first report's refusals by the tests in order
 --   GoodCells, good-cells               == what its input of good shape has
+--   cells-maps                          == so both maps have as many cells as the slice has places
 --   reports-refused, reports-listed     == its answer and slice by the shape
 use Prim.Native.Nat.{ℕ, _*_}
 use mathlib.Core.Path.{_≡_, sym, ap, ap₂, _∙_}
