@@ -1,3 +1,4 @@
 pub mod Given
 pub mod Places
 pub mod Changes
+pub mod WriterAnswers

@@ -1,6 +1,6 @@
 -- Document 01, "Answers by number", and of document 02 request 6 for 2 and 3, request 5 for 11, request 1 for 12 to 14,
--- request 10 for 15 and request 9 for 16 and 17: each refusal's number, and the refusals over the shape of a floor and
--- of an end.
+-- request 10 for 15, request 9 for 16 and 17 and request 11 for 18 and 20: each refusal's number, and the refusals over
+-- the shape of a floor and of an end.
 --
 --   refusalNumber r    == the number of refusal r
 --   sidesShape w h     == refusal 1: the sides
@@ -35,6 +35,8 @@ use Rattle.floor.specs.declared.Refusal.the-variants.{
   SizesDiffer,
   LogLength,
   BadLogRecord,
+  NoRoom,
+  OutOfTurn,
 }
 use Rattle.floor.specs.declared.Shape.{Shape}
 use Rattle.floor.specs.declared.Shape.the-variants.{Good, Refused}
@@ -57,6 +59,8 @@ refusalNumber SlotEmpty = 14
 refusalNumber SizesDiffer = 15
 refusalNumber LogLength = 16
 refusalNumber BadLogRecord = 17
+refusalNumber NoRoom = 18
+refusalNumber OutOfTurn = 20
 
 abbrev pub andThen : Shape → Shape → Shape
 andThen Good t = t

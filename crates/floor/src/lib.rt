@@ -34,6 +34,8 @@ pub enum Refusal {
     SizesDiffer,
     LogLength,
     BadLogRecord,
+    NoRoom,
+    OutOfTurn,
 }
 
 // What a test of an input's shape finds.
@@ -64,6 +66,8 @@ pub fn refusal_number(r: Refusal) -> u8
         Refusal::SizesDiffer => 15,
         Refusal::LogLength => 16,
         Refusal::BadLogRecord => 17,
+        Refusal::NoRoom => 18,
+        Refusal::OutOfTurn => 20,
     }
 }
 

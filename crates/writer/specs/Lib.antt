@@ -1,0 +1,4 @@
+pub mod Records
+pub mod Writing
+pub mod Calls
+pub mod Known
