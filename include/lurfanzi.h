@@ -39,7 +39,7 @@
  * not used. A slice that a call writes may overlap no other slice of the call: a list must not be thinned onto itself,
  * nor a working map be written onto its base map. A table of closures is a pointer to 64 numbers, valid for all of them
  * and aligned; it may overlap no slice of its call. Numbers are 32 bits wide or a size_t, so that none is cut down on
- * its way in.
+ * its way in; those of lurfanzi_write_job alone are as wide as its record has them.
  *
  * The library is built for x86-64. It uses the C library's memcpy and memset, no heap, no static memory and less than
  * 4 KiB of stack; calls at the same time are safe on different memory, and on the same memory where none of them
@@ -68,7 +68,7 @@ extern "C" {
 /* The answers. A call gives the first refusal that applies, in the order in which its function lists them below. */
 enum {
     LURFANZI_OK = 0,
-    LURFANZI_BAD_SIZE = 1,          /* a side is not 1 to 127 */
+    LURFANZI_BAD_SIZE = 1,          /* a side is not 1 to 127; for lurfanzi_write_map, not 1 to 31 */
     LURFANZI_BAD_MAP_LENGTH = 2,    /* the map has not width * height / 8 bytes, rounded up: at most 2,017 */
     LURFANZI_UNUSED_BIT = 3,        /* an unused bit of the map's last byte is set; there is none where 8 divides
                                        width * height */
@@ -87,8 +87,10 @@ enum {
     LURFANZI_SLOT_EMPTY = 14,       /* the slot is above 15 or free */
     LURFANZI_SIZES_DIFFER = 15,     /* two floors that are compared have not the same width and height */
     LURFANZI_LONG_LOG = 16,         /* a log has more than 16,384 bytes */
-    LURFANZI_BAD_LOG_RECORD = 17    /* a record of a log is cut short, has a wrong mark or is off the floor; what was
+    LURFANZI_BAD_LOG_RECORD = 17,   /* a record of a log is cut short, has a wrong mark or is off the floor; what was
                                        read before it is answered */
+    LURFANZI_NO_ROOM = 18,          /* a record does not fit whole in the room left in the buffer */
+    LURFANZI_OUT_OF_TURN = 20       /* a job record before the map record, a second map record, or the 1,001st job */
 };
 
 /* The sight question's own answers. Only LURFANZI_SIGHT_YES says that the way is clear. */
@@ -383,6 +385,58 @@ uint8_t lurfanzi_strike(uint32_t width, uint32_t height, uint32_t slots[LURFANZI
 uint8_t lurfanzi_working_map(
     uint32_t width, uint32_t height, const uint32_t slots[LURFANZI_TABLE],
     const uint8_t *base, size_t base_length, uint8_t *map, size_t map_length);
+
+/* The program reads a record stream: one map record, then up to 1,000 job records, for a floor of at most 31 by 31
+ * cells.
+ *
+ * map record     4D 50 hex, width, height, and A BYTE TO A CELL, 0 open and 1 blocked: 4 + width * height bytes
+ * job record     4A 42 hex, neighbourhood, and a and b in 16 bits each, the low byte first: 7 bytes
+ *
+ * A stream is made in a buffer that the caller lends, a record with each call, and a writer says how far it is; the
+ * longest has 7,965 bytes. {0, 0} is a fresh writer. Each call takes the writer as the last call left it, and all of
+ * them take one buffer, of one length, that nobody else writes in between. Then
+ *
+ *     once the map is in, reading the first `at` bytes of the buffer gives the same floor and the same jobs;
+ *     with room enough, writing what was read of a stream before any bad record gives the same bytes.
+ *
+ * A writer is plain data: any numbers may stand in it, and a call does with them what is said below.
+ */
+typedef struct {
+    size_t at;   /* where the next record begins: how many bytes are written */
+    size_t due;  /* the number of the next record: 0 the map, 1 to 1,000 a job */
+} lurfanzi_writer;
+
+typedef struct {
+    lurfanzi_writer writer;  /* at answer 0 moved on past the record; at a refusal the writer handed in */
+    uint8_t answer;          /* 0, or a refusal: 1, 2, 3, 20 or 18 */
+} lurfanzi_write_result;
+
+/* Writes the map record of a floor. The map is packed, a bit to a cell, as everywhere; the record has a byte to a cell.
+ *
+ * answer           writer                            buffer
+ * 0                at + 4 + width * height, due + 1  the record from writer.at on; all before and past it untouched
+ * 1, 2, 3, 20, 18  as handed in                      untouched
+ *
+ * Refuses with 1 where a side is not 1 to 31, 2, 3, 20 where writer.due is not 0, and 18 where fewer than
+ * 4 + width * height bytes are left from writer.at on, in this order.
+ */
+lurfanzi_write_result lurfanzi_write_map(
+    lurfanzi_writer writer, uint32_t width, uint32_t height, const uint8_t *map, size_t map_length,
+    uint8_t *buffer, size_t buffer_length);
+
+/* Writes a job record. Any numbers are taken: whether there is such a neighbourhood and whether the floor has such
+ * vertices the program says, job by job. A wider number than the record has is cut down by the C compiler before the
+ * call, without a word.
+ *
+ * answer           writer                            buffer
+ * 0                at + 7, due + 1                   the record from writer.at on; all before and past it untouched
+ * 20, 18           as handed in                      untouched
+ *
+ * Refuses with 20 where writer.due is not 1 to 1,000, and 18 where fewer than 7 bytes are left from writer.at on, in
+ * this order.
+ */
+lurfanzi_write_result lurfanzi_write_job(
+    lurfanzi_writer writer, uint8_t neighbourhood, uint16_t a, uint16_t b, uint8_t *buffer, size_t buffer_length);
 
 #ifdef __cplusplus
 }

@@ -11,6 +11,9 @@ pub const INTERFACE: u32 = 3;
 /// The cost where no open walk joins two vertices.
 pub const UNREACHABLE: u32 = u32::MAX;
 
+/// The bytes of the longest record stream: a map of 31 by 31 cells and 1,000 jobs.
+pub const LONGEST_STREAM: usize = 7965;
+
 /// The map of some cells, given row by row with a byte each, 0 open and any other number blocked: cell c is bit c % 8,
 /// from the low end, of byte c / 8, and the unused high bits of the last byte are 0.
 pub fn pack(cells: &[u8]) -> Vec<u8> {
@@ -114,6 +117,23 @@ pub enum CostChange {
     ToUnreachable = 4,
 }
 
+/// How far a record stream is: how many bytes are written, and the number of the next record, 0 for the map and 1 to
+/// 1,000 for a job. The default is a fresh writer; any numbers may stand in it.
+#[repr(C)]
+#[derive(Clone, Copy, Debug, Default, PartialEq, Eq)]
+pub struct Writer {
+    pub at: usize,
+    pub due: usize,
+}
+
+/// A record stream that is made in a buffer, for the program. It borrows the buffer, so that nobody else writes that in
+/// between: what `bytes` gives once a map is in reads as the floor and the jobs that were taken.
+#[derive(Debug)]
+pub struct Stream<'a> {
+    writer: Writer,
+    buffer: &'a mut [u8],
+}
+
 /// What is in the way between two vertices: nothing, the cell with a number, the shut step that begins in a vertex, or
 /// the pinch at a vertex.
 #[derive(Clone, Copy, Debug, PartialEq, Eq)]
@@ -161,6 +181,8 @@ pub enum Refusal {
     SlotEmpty,
     SizesDiffer,
     LongLog,
+    NoRoom,
+    OutOfTurn,
     /// A number that the header does not list for the call. The library gives none.
     Unlisted(u8),
 }
@@ -184,6 +206,8 @@ impl Refusal {
             14 => Refusal::SlotEmpty,
             15 => Refusal::SizesDiffer,
             16 => Refusal::LongLog,
+            18 => Refusal::NoRoom,
+            20 => Refusal::OutOfTurn,
             other => Refusal::Unlisted(other),
         }
     }
@@ -206,6 +230,8 @@ impl Refusal {
             Refusal::SlotEmpty => 14,
             Refusal::SizesDiffer => 15,
             Refusal::LongLog => 16,
+            Refusal::NoRoom => 18,
+            Refusal::OutOfTurn => 20,
             Refusal::Unlisted(number) => number,
         }
     }
@@ -214,7 +240,7 @@ impl Refusal {
 impl std::fmt::Display for Refusal {
     fn fmt(&self, to: &mut std::fmt::Formatter<'_>) -> std::fmt::Result {
         let meaning = match self {
-            Refusal::BadSize => "a side is not 1 to 127",
+            Refusal::BadSize => "a side is not 1 to 127, or in a record stream not 1 to 31",
             Refusal::BadMapLength => "the map has not width * height / 8 bytes, rounded up",
             Refusal::UnusedBit => "an unused bit of the map is set",
             Refusal::BadNeighbourhood => "the neighbourhood is not 4, 8 or 16",
@@ -230,6 +256,8 @@ impl std::fmt::Display for Refusal {
             Refusal::SlotEmpty => "the slot is above 15 or free",
             Refusal::SizesDiffer => "the two floors have not the same sides",
             Refusal::LongLog => "the log has more than 16,384 bytes",
+            Refusal::NoRoom => "the record does not fit in the room left",
+            Refusal::OutOfTurn => "a job before the map, a second map or the 1,001st job",
             Refusal::Unlisted(_) => "an answer that the header does not list",
         };
         write!(to, "{meaning} ({})", self.number())
@@ -271,6 +299,30 @@ impl CostChange {
     pub fn from_byte(byte: u8) -> Option<CostChange> {
         use CostChange::*;
         [Equal, Fell, Rose, FromUnreachable, ToUnreachable].get(usize::from(byte)).copied()
+    }
+}
+
+impl<'a> Stream<'a> {
+    /// No record yet.
+    pub fn new(buffer: &'a mut [u8]) -> Stream<'a> {
+        Stream { writer: Writer::default(), buffer }
+    }
+
+    /// Writes the map record of a floor of at most 31 by 31 cells: the first record.
+    pub fn map(&mut self, floor: Floor) -> Result<(), Refusal> {
+        self.writer = write_map(self.writer, floor, self.buffer)?;
+        Ok(())
+    }
+
+    /// Writes a job record. Any numbers are taken.
+    pub fn job(&mut self, neighbourhood: u8, a: u16, b: u16) -> Result<(), Refusal> {
+        self.writer = write_job(self.writer, neighbourhood, a, b, self.buffer)?;
+        Ok(())
+    }
+
+    /// The records that are written.
+    pub fn bytes(&self) -> &[u8] {
+        &self.buffer[..self.writer.at]
     }
 }
 
@@ -407,6 +459,24 @@ pub fn cost_changes(
     done(call::cost_changes(floor, after, neighbourhood, a, slices, work))
 }
 
+/// Writes the map record of a floor of at most 31 by 31 cells into the buffer, from `writer.at` on: the writer past it.
+/// A refusal writes nothing. `Stream` keeps writer and buffer together.
+pub fn write_map(writer: Writer, floor: Floor, buffer: &mut [u8]) -> Result<Writer, Refusal> {
+    written(call::write_map(writer, floor, buffer))
+}
+
+/// Writes a job record into the buffer, from `writer.at` on: the writer past it. A refusal writes nothing.
+pub fn write_job(writer: Writer, neighbourhood: u8, a: u16, b: u16, buffer: &mut [u8]) -> Result<Writer, Refusal> {
+    written(call::write_job(writer, neighbourhood, a, b, buffer))
+}
+
+fn written(result: call::WriteResult) -> Result<Writer, Refusal> {
+    match result.answer {
+        0 => Ok(result.writer),
+        number => Err(Refusal::from_number(number)),
+    }
+}
+
 /// The calls themselves: the only unsafe code.
 ///
 /// Why they are sound: the header asks that a slice's pointer be valid for its length, aligned, and that no written
@@ -414,7 +484,7 @@ pub fn cost_changes(
 /// `*const` and exclusive for `*mut`, and the borrows last as long as the call. The library reads and writes nothing
 /// else, keeps no pointer, and every number it may write is a value of the slice's type.
 mod call {
-    use super::{Closures, CostChangesMut, Floor, Job, Rectangle, Sheet, SheetMut};
+    use super::{Closures, CostChangesMut, Floor, Job, Rectangle, Sheet, SheetMut, Writer};
 
     #[repr(C)]
     pub struct PlanResult {
@@ -456,6 +526,12 @@ mod call {
     pub struct ChangesResult {
         pub closed: usize,
         pub opened: usize,
+        pub answer: u8,
+    }
+
+    #[repr(C)]
+    pub struct WriteResult {
+        pub writer: Writer,
         pub answer: u8,
     }
 
@@ -519,6 +595,15 @@ mod call {
             costs: *mut u32, costs_length: usize, new_costs: *mut u32, new_costs_length: usize,
             changes: *mut u8, changes_length: usize, work: *mut u32, work_length: usize,
         ) -> u8;
+
+        fn lurfanzi_write_map(
+            writer: Writer, width: u32, height: u32, map: *const u8, map_length: usize,
+            buffer: *mut u8, buffer_length: usize,
+        ) -> WriteResult;
+
+        fn lurfanzi_write_job(
+            writer: Writer, neighbourhood: u8, a: u16, b: u16, buffer: *mut u8, buffer_length: usize,
+        ) -> WriteResult;
     }
 
     pub fn sight(floor: Floor, a: u32, b: u32) -> u8 {
@@ -631,6 +716,21 @@ mod call {
                 to.changes.as_mut_ptr(), to.changes.len(), work.as_mut_ptr(), work.len(),
             )
         }
+    }
+
+    pub fn write_map(writer: Writer, floor: Floor, buffer: &mut [u8]) -> WriteResult {
+        // SAFETY: the map is a shared slice, the buffer an exclusive one.
+        unsafe {
+            lurfanzi_write_map(
+                writer, floor.width, floor.height, floor.map.as_ptr(), floor.map.len(),
+                buffer.as_mut_ptr(), buffer.len(),
+            )
+        }
+    }
+
+    pub fn write_job(writer: Writer, neighbourhood: u8, a: u16, b: u16, buffer: &mut [u8]) -> WriteResult {
+        // SAFETY: the buffer is an exclusive slice.
+        unsafe { lurfanzi_write_job(writer, neighbourhood, a, b, buffer.as_mut_ptr(), buffer.len()) }
     }
 }
 
@@ -1084,6 +1184,69 @@ mod tests {
         for lengths in [short, [6, 7, 6, 24], [6, 6, 5, 24], [6, 6, 6, 23], [6, 6, 6, 25], [0, 0, 0, 0]] {
             assert_eq!(compared([OPEN, SHUT], 8, 0, lengths), Err(Refusal::BadSliceLength));
         }
+    }
+
+    #[test]
+    fn streams() {
+        let mut buffer = [7; 32];
+        let mut stream = Stream::new(&mut buffer);
+        assert_eq!(stream.bytes(), []);
+        assert_eq!(stream.job(8, 0, 5), Err(Refusal::OutOfTurn));
+        assert_eq!(stream.map(Floor { width: 32, ..SHUT }), Err(Refusal::BadSize));
+        assert_eq!(stream.map(Floor { map: &[2, 0], ..SHUT }), Err(Refusal::BadMapLength));
+        assert_eq!(stream.map(Floor { map: &[6], ..SHUT }), Err(Refusal::UnusedBit));
+        assert_eq!(stream.map(SHUT), Ok(()));
+        assert_eq!(stream.map(SHUT), Err(Refusal::OutOfTurn));
+        assert_eq!(stream.job(8, 0, 5), Ok(()));
+        assert_eq!(stream.job(255, 0x1234, u16::MAX), Ok(()));
+        let wanted =
+            [0x4D, 0x50, 2, 1, 0, 1, 0x4A, 0x42, 8, 0, 0, 5, 0, 0x4A, 0x42, 255, 0x34, 0x12, 0xFF, 0xFF];
+        assert_eq!(stream.bytes(), wanted);
+        assert_eq!(buffer[..20], wanted);
+        assert_eq!(buffer[20..], [7; 12]);
+    }
+
+    /// The longest stream, in a buffer with no room past it and in one with room for a job more.
+    #[test]
+    fn longest_streams() {
+        let map = pack(&[1; 961]);
+        let floor = Floor { width: 31, height: 31, map: &map };
+        for more in [0, 7] {
+            let mut buffer = vec![7; LONGEST_STREAM + more];
+            let mut stream = Stream::new(&mut buffer);
+            assert_eq!(stream.map(floor), Ok(()));
+            assert!((0..1000).all(|k| stream.job(8, k, 1023 - k).is_ok()));
+            assert_eq!(stream.job(8, 0, 1023), Err(Refusal::OutOfTurn));
+            assert_eq!(stream.bytes().len(), LONGEST_STREAM);
+            assert_eq!(stream.bytes()[4..965], [1; 961]);
+            assert_eq!(buffer[LONGEST_STREAM..], [7; 7][..more]);
+        }
+    }
+
+    /// Writers with any numbers in them, and every room.
+    #[test]
+    fn writers() {
+        for length in 0..16 {
+            let mut buffer = vec![7; length];
+            let taken = write_map(Writer::default(), OPEN, &mut buffer);
+            assert_eq!(taken, if length < 6 { Err(Refusal::NoRoom) } else { Ok(Writer { at: 6, due: 1 }) });
+            assert!(length >= 6 || buffer.iter().all(|&byte| byte == 7));
+            let late = Writer { at: 3, due: 1000 };
+            let taken = write_job(late, 8, 0, 5, &mut buffer);
+            assert_eq!(taken, if length < 10 { Err(Refusal::NoRoom) } else { Ok(Writer { at: 10, due: 1001 }) });
+        }
+        let mut buffer = [7; 16];
+        for at in [10, 16, 17, usize::MAX - 6, usize::MAX - 3, usize::MAX] {
+            assert_eq!(write_job(Writer { at, due: 1 }, 8, 0, 5, &mut buffer), Err(Refusal::NoRoom));
+            assert_eq!(write_map(Writer { at: at.max(11), due: 0 }, OPEN, &mut buffer), Err(Refusal::NoRoom));
+        }
+        for due in [1, 1000, 1001, usize::MAX] {
+            assert_eq!(write_map(Writer { at: usize::MAX, due }, OPEN, &mut buffer), Err(Refusal::OutOfTurn));
+        }
+        for due in [0, 1001, usize::MAX] {
+            assert_eq!(write_job(Writer { at: 0, due }, 8, 0, 5, &mut buffer), Err(Refusal::OutOfTurn));
+        }
+        assert_eq!(buffer, [7; 16]);
     }
 
     /// Each cell alone, on floors with every number of unused bits: it is in the way across itself and across no other.
