@@ -14,6 +14,19 @@ pub struct ChangesResult {
     pub answer: u8,
 }
 
+#[derive(Clone, Copy)]
+#[repr(C)]
+pub struct Writer {
+    pub at: usize,
+    pub due: usize,
+}
+
+#[repr(C)]
+pub struct WriteResult {
+    pub writer: Writer,
+    pub answer: u8,
+}
+
 extern "C" {
     fn lurfanzi_changes(
         width: u32, height: u32, map: *const u8, map_length: usize,
@@ -27,6 +40,15 @@ extern "C" {
         costs: *mut u32, costs_length: usize, new_costs: *mut u32, new_costs_length: usize,
         changes: *mut u8, changes_length: usize, work: *mut u32, work_length: usize,
     ) -> u8;
+
+    fn lurfanzi_write_map(
+        writer: Writer, width: u32, height: u32, map: *const u8, map_length: usize,
+        buffer: *mut u8, buffer_length: usize,
+    ) -> WriteResult;
+
+    fn lurfanzi_write_job(
+        writer: Writer, neighbourhood: u8, a: u16, b: u16, buffer: *mut u8, buffer_length: usize,
+    ) -> WriteResult;
 }
 
 /// What changed from the first floor to the second.
@@ -60,4 +82,20 @@ pub fn cost_changes(first: Floor, second: Floor, neighbourhood: u32, a: u32, len
             lent.changes.as_mut_ptr(), lent.changes.len(), lent.work.as_mut_ptr(), lent.work.len(),
         )
     }
+}
+
+/// Writes a map's record.
+pub fn write_map(writer: Writer, floor: Floor, buffer: &mut [u8]) -> WriteResult {
+    // SAFETY: the map is a shared slice, the buffer an exclusive one.
+    unsafe {
+        lurfanzi_write_map(
+            writer, floor.width, floor.height, floor.map.as_ptr(), floor.map.len(), buffer.as_mut_ptr(), buffer.len(),
+        )
+    }
+}
+
+/// Writes a job's record.
+pub fn write_job(writer: Writer, neighbourhood: u8, a: u16, b: u16, buffer: &mut [u8]) -> WriteResult {
+    // SAFETY: the buffer is an exclusive slice.
+    unsafe { lurfanzi_write_job(writer, neighbourhood, a, b, buffer.as_mut_ptr(), buffer.len()) }
 }

@@ -7,7 +7,7 @@ mod calls;
 #[path = "../../examples/rust/lurfanzi.rs"]
 mod lurfanzi;
 
-use calls::TwoCosts;
+use calls::{TwoCosts, WriteResult, Writer};
 use lurfanzi::{Closures, Floor, Job, Obstacle, Rectangle, Refusal, Replay, Sheet, SheetMut, Verdict};
 use std::io::{self, Error, ErrorKind, Read, Write};
 
@@ -144,6 +144,9 @@ impl Ground {
     }
 }
 
+/// How many places past the part that the writer is lent a digest has.
+const PAST: usize = 8;
+
 struct Driver {
     ground: Ground,
     slices: Slices,
@@ -154,6 +157,8 @@ struct Driver {
     slots: [u32; 64],
     working: Vec<u8>,
     changes: Vec<u8>,
+    writer: Writer,
+    written: Vec<u8>,
 }
 
 /// A result's number of the header, 0 for a good one.
@@ -169,8 +174,9 @@ impl Driver {
         let slices = Slices { d, e: costs, f, back: counts, route, next: points };
         let ground = Ground { width: 0, height: 0, map: Vec::new() };
         let (work, list, out) = (vec![0; 4 * v], vec![0; longest], vec![0; longest]);
-        let (working, changes) = (vec![0; longest_map], vec![0; longest]);
-        Driver { ground, slices, points: 0, work, list, out, slots: [0; 64], working, changes }
+        let (working, changes, slots) = (vec![0; longest_map], vec![0; longest], [0; 64]);
+        let (writer, written) = (Writer { at: 0, due: 0 }, vec![0; 8_192 + PAST]);
+        Driver { ground, slices, points: 0, work, list, out, slots, working, changes, writer, written }
     }
 
     fn line(&mut self, record: &Record) -> io::Result<String> {
@@ -191,6 +197,9 @@ impl Driver {
             13 => self.replay(record),
             14 => self.changes(record),
             15 => self.report(record),
+            16 => self.take_writer(record),
+            17 => self.write_map(record),
+            18 => self.write_job(record),
             _ => return Err(Error::new(ErrorKind::InvalidData, "a record of no known operation")),
         })
     }
@@ -245,6 +254,37 @@ impl Driver {
         let maps = format!("{} {}", digest(&self.ground.map), digest(&record.payload));
         let (d, e) = (digest(lent.costs), digest(lent.new_costs));
         format!("report {answer} {maps} {d} {e} {} {}", digest(lent.changes), digest(lent.work))
+    }
+
+    fn take_writer(&mut self, record: &Record) -> String {
+        let [at, due] = [8, 16].map(|place| number(&record.header[place..][..8]) as usize);
+        self.writer = Writer { at, due };
+        let room = self.written.len();
+        patterned(&mut self.written, room, record.word(4));
+        format!("writer {at} {due}")
+    }
+
+    /// Takes the writer handed back: the answer, the writer, and the digest of the lent part and of what is past it.
+    fn wrote(&mut self, result: WriteResult, room: usize) -> (u8, String) {
+        self.writer = result.writer;
+        let Writer { at, due } = result.writer;
+        (result.answer, format!("{at} {due} {}", digest(&self.written[..room + PAST])))
+    }
+
+    fn write_map(&mut self, record: &Record) -> String {
+        let floor = Floor { width: record.word(0), height: record.word(1), map: &record.payload };
+        let room = record.length(2);
+        let result = calls::write_map(self.writer, floor, &mut self.written[..room]);
+        let (answer, left) = self.wrote(result, room);
+        format!("write-map {answer} {} {left}", digest(&record.payload))
+    }
+
+    fn write_job(&mut self, record: &Record) -> String {
+        let (neighbourhood, a, b) = (record.word(0) as u8, record.word(1) as u16, record.word(2) as u16);
+        let room = record.length(3);
+        let result = calls::write_job(self.writer, neighbourhood, a, b, &mut self.written[..room]);
+        let (answer, left) = self.wrote(result, room);
+        format!("write-job {answer} {left}")
     }
 
     /// The costs handed in are a copy with the changes made, so that nothing has to be put back.

@@ -8,6 +8,7 @@ use crate::replay;
 use crate::sheet::{self, Handed, Lent, Request, Solver};
 use crate::sight::{self, Obstacle};
 use crate::thin;
+use crate::writer::{Job, Writer};
 
 /// The buffers that a harness has, all 0 at the start.
 struct Buffers {
@@ -24,6 +25,8 @@ struct Buffers {
     table: Table,
     working: Vec<u8>,
     changes: Vec<u8>,
+    writer: Writer,
+    written: Vec<u8>,
 }
 
 impl Buffers {
@@ -43,6 +46,8 @@ impl Buffers {
             table: Table::empty(),
             working: vec![0; format::WORKING_ROOM],
             changes: vec![0; format::CHANGES_ROOM],
+            writer: Writer::FRESH,
+            written: vec![0; format::WRITTEN_ROOM + format::WRITTEN_PAST],
         }
     }
 
@@ -59,6 +64,12 @@ impl Buffers {
             _ => panic!("no slice {slice}"),
         };
         Damage { slice, place, value: old }
+    }
+
+    /// The writer, and the digest of the lent part of what it writes to and of a few places past it.
+    fn written_digest(&self, room: usize) -> String {
+        let digest = digest8(&self.written[..room + format::WRITTEN_PAST]);
+        format!("{} {} {digest}", self.writer.at, self.writer.due)
     }
 
     /// n as given, or the n of the sheet where `given` is 0.
@@ -144,6 +155,9 @@ impl Runner {
             format::REPLAY => self.replay(record),
             format::CHANGES => self.changes(record),
             format::REPORT => self.report(record),
+            format::WRITER => self.writer(record),
+            format::WRITE_MAP => self.write_map(record),
+            format::WRITE_JOB => self.write_job(record),
             other => panic!("no operation {other}"),
         }
     }
@@ -223,6 +237,28 @@ impl Runner {
             digest32(&at.work[..record.word(8)]),
         ];
         format!("report {answer} {}", joined(&digests))
+    }
+
+    fn writer(&mut self, record: &Record) -> String {
+        let number = |low: usize| u64::from(record.words[low]) + (u64::from(record.words[low + 1]) << 32);
+        let at = &mut self.buffers;
+        at.writer = Writer { at: number(0), due: number(2) };
+        fill8(&mut at.written, record.words[4]);
+        format!("writer {} {}", at.writer.at, at.writer.due)
+    }
+
+    fn write_map(&mut self, record: &Record) -> String {
+        let floor = PackedFloor::new(record.words[0].into(), record.words[1].into(), record.payload.clone());
+        let at = &mut self.buffers;
+        let answer = at.writer.write_map(&floor, &mut at.written[..record.word(2)]);
+        format!("write-map {answer} {} {}", digest8(&floor.map), at.written_digest(record.word(2)))
+    }
+
+    fn write_job(&mut self, record: &Record) -> String {
+        let (neighbourhood, start, goal) = (record.words[0] as u8, record.words[1] as u16, record.words[2] as u16);
+        let at = &mut self.buffers;
+        let answer = at.writer.write_job(Job { neighbourhood, start, goal }, &mut at.written[..record.word(3)]);
+        format!("write-job {answer} {}", at.written_digest(record.word(3)))
     }
 
     fn finish(&mut self, record: &Record) -> String {

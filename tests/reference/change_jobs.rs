@@ -40,13 +40,13 @@ type Lengths = [usize; 4];
 
 /// A floor with one of refusals 1 to 3.
 #[derive(Clone, Copy)]
-enum Fault {
+pub enum Fault {
     Side,
     MapLength,
     UnusedBit,
 }
 
-const FAULTS: [Fault; 3] = [Fault::Side, Fault::MapLength, Fault::UnusedBit];
+pub const FAULTS: [Fault; 3] = [Fault::Side, Fault::MapLength, Fault::UnusedBit];
 
 impl Maker {
     /// The floor and others of the same size, each way round, and what is refused.
@@ -234,7 +234,7 @@ impl Maker {
     }
 
     /// A floor that is refused; where 3 alone is to apply and the floor has no unused bit, one of another size.
-    fn faulty_floor(&mut self, fault: Fault) -> PackedFloor {
+    pub fn faulty_floor(&mut self, fault: Fault) -> PackedFloor {
         let mut other = PackedFloor::new(self.solver.floor.width, self.solver.floor.height, self.map.clone());
         match fault {
             Fault::Side => {

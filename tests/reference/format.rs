@@ -16,6 +16,9 @@ pub const FINISH: u8 = 12;
 pub const REPLAY: u8 = 13;
 pub const CHANGES: u8 = 14;
 pub const REPORT: u8 = 15;
+pub const WRITER: u8 = 16;
+pub const WRITE_MAP: u8 = 17;
+pub const WRITE_JOB: u8 = 18;
 
 pub const WORDS: usize = 14;
 pub const HEADER_SIZE: usize = 64;
@@ -27,6 +30,8 @@ pub const LIST_ROOM: usize = 16_392;
 pub const WORKING_ROOM: usize = 2_056;
 pub const LOG_ROOM: usize = 16_392;
 pub const CHANGES_ROOM: usize = 16_392;
+pub const WRITTEN_ROOM: usize = 8_192;
+pub const WRITTEN_PAST: usize = 8;
 pub const MOST_DAMAGES: usize = 4;
 
 #[derive(Clone, Debug)]

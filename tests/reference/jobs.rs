@@ -11,6 +11,7 @@ use crate::neighbourhood_jobs::{floors_of_sixteen, other_neighbourhoods};
 use crate::packed::PackedFloor;
 use crate::random::Random;
 use crate::sheet::{Request, Sheet, Solver, NO_WALK};
+use crate::writer::Writer;
 use crate::{sight, stream};
 
 /// Lengths of d, e, f, b, route, next and the working slice.
@@ -42,6 +43,8 @@ pub struct Maker {
     driven: Random,
     /// For two floors: their records change nothing of the others.
     compared: Random,
+    /// For the writer: its records change nothing of the others.
+    written: Random,
     /// Whether numbers may pass 8 bits (sides, neighbourhood) and 16 bits (ends, n).
     wide: bool,
     /// The floor's map as the records leave it, and what the solver has of it.
@@ -49,6 +52,8 @@ pub struct Maker {
     pub solver: Solver,
     /// The table as the records leave it.
     pub table: Table,
+    /// The writer as the records leave it.
+    pub writer: Writer,
 }
 
 /// The stream for a number of floors, and some more for each W·H modulo 8 and for neighbourhood 16.
@@ -56,11 +61,12 @@ pub fn make(seed: u64, count: u64, wide: bool) -> Vec<u8> {
     let [random, aside, given] = [seed, !seed, seed ^ u64::from(u32::MAX)].map(Random::new);
     let [corners, bits] = [!seed ^ u64::from(u32::MAX), seed.reverse_bits()].map(Random::new);
     let [pushed, steered] = [!seed.reverse_bits(), seed.swap_bytes() ^ 16].map(Random::new);
-    let [driven, compared] = [9, 10].map(|request| Random::new(seed.swap_bytes() ^ request));
+    let [driven, compared, written] = [9, 10, 11].map(|request| Random::new(seed.swap_bytes() ^ request));
     let (solver, table) = (Solver::new(Floor::open(1, 1)), Table::empty());
     let (out, map) = (Vec::new(), vec![0]);
     let mut maker = Maker {
-        out, random, aside, given, corners, bits, pushed, steered, driven, compared, wide, map, solver, table,
+        out, random, aside, given, corners, bits, pushed, steered, driven, compared, written, wide, map, solver, table,
+        writer: Writer::FRESH,
     };
     let fixed = fixed_floors(&mut maker.random).into_iter().take(count as usize);
     let mut floors: Vec<_> = fixed.map(|(floor, requests)| (PackedFloor::of(&floor), requests)).collect();
@@ -74,6 +80,7 @@ pub fn make(seed: u64, count: u64, wide: bool) -> Vec<u8> {
     for (floor, requests) in floors {
         maker.floor(floor, &requests);
     }
+    maker.longest_run();
     maker.record(format::END, &[], Vec::new());
     maker.out
 }
@@ -201,10 +208,12 @@ impl Maker {
             self.pinch_operations();
             self.replay_operations(&requests);
             self.change_operations();
+            self.writer_operations();
         } else {
             self.bad_operations();
             self.logs_on_bad_floor();
             self.changes_on_bad_floor();
+            self.writer_on_bad_floor();
         }
         self.use_aside();
         if is_good {
@@ -250,6 +259,10 @@ impl Maker {
 
     pub fn use_compared(&mut self) {
         std::mem::swap(&mut self.random, &mut self.compared);
+    }
+
+    pub fn use_written(&mut self) {
+        std::mem::swap(&mut self.random, &mut self.written);
     }
 
     pub fn is_large(&self) -> bool {

@@ -1,6 +1,6 @@
 //! An independent second program for the route planner, its checker, the
 //! thinner, the sight questions, the closures, the replay, the comparison of two
-//! floors and the program. Subcommands:
+//! floors, the program and the writer of its input. Subcommands:
 //!
 //! vectors                 runs known answers and self checks
 //! program                 record stream on standard input, lines out
@@ -41,6 +41,9 @@ mod sixteen;
 mod stream;
 mod thin;
 mod vectors;
+mod writer;
+mod writer_checks;
+mod writer_jobs;
 
 use std::io::{Read, Write};
 use std::process::ExitCode;

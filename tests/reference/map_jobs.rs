@@ -98,6 +98,7 @@ impl Maker {
         self.replay_record(neighbourhood, log_of(&[0]), log, [count, 4 * count]);
         self.use_driven();
         self.changes_with_map();
+        self.writer_with_map();
         let length = self.map.len();
         self.working_record(Base::Floor, length, true);
     }

@@ -51,21 +51,37 @@ fn job_lines(solver: &mut Solver, number: usize, request: Request) -> String {
     format!("{first}\nat {}\n", names.join(" "))
 }
 
-/// Everything the program writes for an input.
-pub fn run(input: &[u8]) -> String {
-    let Some((floor, map_size)) = read_map(input) else { return "bad record at 0\n".to_string() };
-    let mut solver = Solver::new(floor);
-    let mut text = String::new();
+/// What stands in an input: the map's floor, the jobs, and the place of the bad record that ends it.
+pub struct Input {
+    pub floor: Option<Floor>,
+    pub jobs: Vec<Request>,
+    pub bad: Option<usize>,
+}
+
+/// Reads an input up to its end or to a bad record.
+pub fn read(input: &[u8]) -> Input {
+    let Some((floor, map_size)) = read_map(input) else { return Input { floor: None, jobs: Vec::new(), bad: Some(0) } };
+    let mut read = Input { floor: Some(floor), jobs: Vec::new(), bad: None };
     let mut at = map_size;
-    let mut jobs = 0;
     while at < input.len() {
-        let Some(request) = read_job(&input[at..]).filter(|_| jobs < MOST_JOBS) else {
-            text += &format!("bad record at {at}\n");
+        let Some(request) = read_job(&input[at..]).filter(|_| read.jobs.len() < MOST_JOBS) else {
+            read.bad = Some(at);
             break;
         };
-        jobs += 1;
-        text += &job_lines(&mut solver, jobs, request);
+        read.jobs.push(request);
         at += JOB_SIZE;
     }
+    read
+}
+
+/// Everything the program writes for an input.
+pub fn run(input: &[u8]) -> String {
+    let Input { floor, jobs, bad } = read(input);
+    let mut text = String::new();
+    if let Some(floor) = floor {
+        let mut solver = Solver::new(floor);
+        text.extend((1..).zip(jobs).map(|(number, request)| job_lines(&mut solver, number, request)));
+    }
+    text.extend(bad.map(|at| format!("bad record at {at}\n")));
     text
 }

@@ -12,7 +12,7 @@ use crate::sheet::{self, Handed, Request, Sheet, Solver, Truth, NO_WALK};
 use crate::sight::{self, Obstacle, Point};
 use crate::sixteen::REFUSED;
 use crate::vectors::{self, Tally};
-use crate::{answers, change_checks, count, format, jobs, thin};
+use crate::{answers, change_checks, count, format, jobs, thin, writer_checks};
 use std::collections::{BTreeMap, BTreeSet};
 
 pub fn run(tally: &mut Tally) {
@@ -32,6 +32,7 @@ pub fn run(tally: &mut Tally) {
     streams_of_next(tally, &stream);
     replays(tally);
     change_checks::run(tally);
+    writer_checks::run(tally);
 }
 
 fn naturals(tally: &mut Tally) {
@@ -650,6 +651,7 @@ fn streams(tally: &mut Tally) {
     streams_of_neighbourhoods(tally, &stream, &text);
     streams_of_logs(tally, &stream, &text);
     change_checks::streams(tally, &stream, &text);
+    writer_checks::streams(tally, &stream, &text);
     let has = |start: &str| text.lines().any(|line| format!("{line} ").starts_with(start));
     for answer in [0, 1, 2, 3, 4, 5, 6, 11] {
         tally.holds(&format!("costs answers {answer}"), has(&format!("costs {answer} ")));
