@@ -2,3 +2,4 @@ pub mod Given
 pub mod Places
 pub mod Changes
 pub mod WriterAnswers
+pub mod Legs

@@ -1,3 +1,4 @@
 pub mod Results
 pub mod Changes
 pub mod Writing
+pub mod Legs

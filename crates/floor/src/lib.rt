@@ -35,6 +35,7 @@ pub enum Refusal {
     LogLength,
     BadLogRecord,
     NoRoom,
+    FalseChoice,
     OutOfTurn,
 }
 
@@ -67,6 +68,7 @@ pub fn refusal_number(r: Refusal) -> u8
         Refusal::LogLength => 16,
         Refusal::BadLogRecord => 17,
         Refusal::NoRoom => 18,
+        Refusal::FalseChoice => 19,
         Refusal::OutOfTurn => 20,
     }
 }

@@ -62,7 +62,7 @@ fn vertex_in(w: usize, h: usize, list: &[u16], n: usize, k: usize) -> Vertex
 }
 
 // The vertices at positions i and k see each other.
-fn seen_at(w: usize, h: usize, map: &[u8], list: &[u16], n: usize, i: usize, k: usize) -> bool
+pub fn seen_at(w: usize, h: usize, map: &[u8], list: &[u16], n: usize, i: usize, k: usize) -> bool
     requires { ⌜ Sized w h (now map) × VertexList w h (now list) n × (i < n) × (k < n) ⌝ }
     ensures { λ r. ⌜ r ≡ seen (floorOf w h (now (map .entry))) (now (list .entry)) i k ⌝ }
 {
@@ -104,7 +104,7 @@ fn joined(w: usize, h: usize, map: &[u8], list: &[u16], n: usize) -> bool
 }
 
 // The refusals, for an output slice of `places` places.
-fn list_shape(w: usize, h: usize, map: &[u8], list: &[u16], places: usize, n: usize) -> Shape
+pub fn list_shape(w: usize, h: usize, map: &[u8], list: &[u16], places: usize, n: usize) -> Shape
     ensures { λ r. ⌜ r ≡ listShape w h (now (map .entry)) (now (list .entry)) places n ⌝ }
 {
     let map_shape = floor::floor_shape(w, h, map);

@@ -1,0 +1,11 @@
+pub mod Fewest
+pub mod Least
+pub mod Tests
+pub mod Farthest
+pub mod Shapes
+pub mod Filling
+pub mod Recording
+pub mod Answered
+pub mod Accepted
+pub mod Proposal
+pub mod Small
