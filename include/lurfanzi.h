@@ -90,6 +90,8 @@ enum {
     LURFANZI_BAD_LOG_RECORD = 17,   /* a record of a log is cut short, has a wrong mark or is off the floor; what was
                                        read before it is answered */
     LURFANZI_NO_ROOM = 18,          /* a record does not fit whole in the room left in the buffer */
+    LURFANZI_FALSE_CHOICE = 19,     /* the positions and the numbers of legs that lurfanzi_check_legs is asked about are
+                                       not right */
     LURFANZI_OUT_OF_TURN = 20       /* a job record before the map record, a second map record, or the 1,001st job */
 };
 
@@ -223,7 +225,7 @@ uint8_t lurfanzi_check(
 typedef struct {
     size_t kept;     /* how many positions are kept; 0 at a refusal */
     uint8_t answer;  /* 0, or a refusal: 1, 2, 3, 6 or 10 */
-} lurfanzi_thin_result;
+} lurfanzi_thin_result;  /* of lurfanzi_thin and of lurfanzi_fewest_legs */
 
 /* Thins the first n vertices of list to the positions that a cart needs. Position 0 is kept; after a kept position the
  * next is the last one before the first position that it does not see, or n - 1 where it sees all; so n - 1 is kept,
@@ -238,6 +240,45 @@ typedef struct {
 lurfanzi_thin_result lurfanzi_thin(
     uint32_t width, uint32_t height, const uint8_t *map, size_t map_length,
     const uint16_t *list, size_t list_length, uint16_t *out, size_t out_length, size_t n);
+
+/* A list may be thinned to fewer positions than lurfanzi_thin keeps. A choice from a position is a list of rising
+ * positions that starts there and ends with n - 1, and of which each sees the next; its legs are one fewer than its
+ * positions. A proposal has a choice from position 0 with the fewest legs, and for every position of the list the
+ * fewest legs of any choice from there:
+ *
+ * kept       as long as list: the chosen positions, kept_count of them, then 0
+ * legs       as long as list: the fewest legs from each of the first n positions, 0 at the last of them, then 0
+ *
+ * THE COST IS QUADRATIC AT WORST: both functions below go through all pairs of the n positions, and ask for sight
+ * between many of them where the list winds through many halls. 16,384 positions have 134 million pairs.
+ *
+ * Checks a proposal from any optimiser. Writes nothing.
+ *
+ * answer
+ * 0          exactly when the first kept_count numbers of kept start with 0, end with n - 1 and rise, and each sees the
+ *            next; kept_count is legs[0] + 1; each of the first n numbers of legs is the fewest from its position; and
+ *            every number of kept past the first kept_count, and of legs past the first n, is 0. Several kept lists may
+ *            be right: each of them is accepted.
+ * 19         every other proposal, also one whose kept_count is 0 or above kept_length
+ * 1, 2, 3,   refused before these, in this order: 6 where list has more than 16,384 places, or kept or legs has another
+ * 6, 10      length than list; 10 as for lurfanzi_thin. Places of list past n are not read.
+ */
+uint8_t lurfanzi_check_legs(
+    uint32_t width, uint32_t height, const uint8_t *map, size_t map_length,
+    const uint16_t *list, size_t list_length, size_t n,
+    const uint16_t *kept, size_t kept_length, size_t kept_count, const uint16_t *legs, size_t legs_length);
+
+/* Makes a proposal, which lurfanzi_check_legs always accepts with the number of kept positions answered: from each kept
+ * position the next one is, of the positions that it sees and that have the fewest legs left, the farthest.
+ *
+ * kept, legs  as long as list: at answer 0 the proposal; untouched at a refusal
+ *
+ * Answers as lurfanzi_thin, and refuses with 1, 2, 3, 6 where list has more than 16,384 places or kept or legs has
+ * another length, and 10, in this order.
+ */
+lurfanzi_thin_result lurfanzi_fewest_legs(
+    uint32_t width, uint32_t height, const uint8_t *map, size_t map_length, const uint16_t *list, size_t list_length,
+    uint16_t *kept, size_t kept_length, uint16_t *legs, size_t legs_length, size_t n);
 
 /* A cart's log holds a record of four bytes for each stop, one after the other and nothing else: 56 hex, 54 hex, and
  * the number of a vertex in 16 bits, the low byte first. Records are numbered from 1.

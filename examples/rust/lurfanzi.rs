@@ -79,6 +79,15 @@ pub enum Verdict {
     FalseSheet,
 }
 
+/// A proposal for a list, with slices as long as the list: the kept positions, `count` of them, then 0; and the fewest
+/// legs from each position to the last, then 0.
+#[derive(Clone, Copy, Debug)]
+pub struct Proposal<'a> {
+    pub kept: &'a [u16],
+    pub count: usize,
+    pub legs: &'a [u16],
+}
+
 /// What a log tells: how many of its records were read, the cost driven, the first record that cannot follow the one
 /// before it and the bad record that ended the reading, each by its number from 1, and whether the log is faultless and
 /// as cheap as can be between its ends.
@@ -417,6 +426,28 @@ pub fn thin(floor: Floor, list: &[u16], out: &mut [u16], n: usize) -> Result<usi
     }
 }
 
+/// Checks a proposal for the first `n` vertices of `list`, from any optimiser: whether its positions have the fewest
+/// legs and its numbers are the fewest from each position. Quadratic in `n` at worst.
+pub fn check_legs(floor: Floor, list: &[u16], n: usize, proposal: Proposal) -> Result<bool, Refusal> {
+    match call::check_legs(floor, list, n, proposal) {
+        0 => Ok(true),
+        19 => Ok(false),
+        number => Err(Refusal::from_number(number)),
+    }
+}
+
+/// Makes a proposal for the first `n` vertices of `list`: the number of kept positions. Both slices are as long as the
+/// list, and `check_legs` accepts what they hold. Quadratic in `n` at worst.
+pub fn fewest_legs(
+    floor: Floor, list: &[u16], kept: &mut [u16], legs: &mut [u16], n: usize,
+) -> Result<usize, Refusal> {
+    let result = call::fewest_legs(floor, list, kept, legs, n);
+    match result.answer {
+        0 => Ok(result.kept),
+        number => Err(Refusal::from_number(number)),
+    }
+}
+
 /// The log of a cart that stopped at these vertices: for each the bytes 56 and 54 hex and its number, low byte first.
 pub fn log_of(stops: &[u16]) -> Vec<u8> {
     stops.iter().flat_map(|stop| [[0x56, 0x54], stop.to_le_bytes()].concat()).collect()
@@ -484,7 +515,7 @@ fn written(result: call::WriteResult) -> Result<Writer, Refusal> {
 /// `*const` and exclusive for `*mut`, and the borrows last as long as the call. The library reads and writes nothing
 /// else, keeps no pointer, and every number it may write is a value of the slice's type.
 mod call {
-    use super::{Closures, CostChangesMut, Floor, Job, Rectangle, Sheet, SheetMut, Writer};
+    use super::{Closures, CostChangesMut, Floor, Job, Proposal, Rectangle, Sheet, SheetMut, Writer};
 
     #[repr(C)]
     pub struct PlanResult {
@@ -575,6 +606,17 @@ mod call {
         fn lurfanzi_thin(
             width: u32, height: u32, map: *const u8, map_length: usize,
             list: *const u16, list_length: usize, out: *mut u16, out_length: usize, n: usize,
+        ) -> ThinResult;
+
+        fn lurfanzi_check_legs(
+            width: u32, height: u32, map: *const u8, map_length: usize,
+            list: *const u16, list_length: usize, n: usize,
+            kept: *const u16, kept_length: usize, kept_count: usize, legs: *const u16, legs_length: usize,
+        ) -> u8;
+
+        fn lurfanzi_fewest_legs(
+            width: u32, height: u32, map: *const u8, map_length: usize, list: *const u16, list_length: usize,
+            kept: *mut u16, kept_length: usize, legs: *mut u16, legs_length: usize, n: usize,
         ) -> ThinResult;
 
         fn lurfanzi_replay(
@@ -678,6 +720,27 @@ mod call {
             lurfanzi_thin(
                 floor.width, floor.height, floor.map.as_ptr(), floor.map.len(),
                 list.as_ptr(), list.len(), out.as_mut_ptr(), out.len(), n,
+            )
+        }
+    }
+
+    pub fn check_legs(floor: Floor, list: &[u16], n: usize, proposal: Proposal) -> u8 {
+        let Proposal { kept, count, legs } = proposal;
+        // SAFETY: all are shared slices; nothing is written.
+        unsafe {
+            lurfanzi_check_legs(
+                floor.width, floor.height, floor.map.as_ptr(), floor.map.len(), list.as_ptr(), list.len(), n,
+                kept.as_ptr(), kept.len(), count, legs.as_ptr(), legs.len(),
+            )
+        }
+    }
+
+    pub fn fewest_legs(floor: Floor, list: &[u16], kept: &mut [u16], legs: &mut [u16], n: usize) -> ThinResult {
+        // SAFETY: the map and the list are shared slices, the two others are exclusive ones.
+        unsafe {
+            lurfanzi_fewest_legs(
+                floor.width, floor.height, floor.map.as_ptr(), floor.map.len(), list.as_ptr(), list.len(),
+                kept.as_mut_ptr(), kept.len(), legs.as_mut_ptr(), legs.len(), n,
             )
         }
     }
@@ -996,6 +1059,79 @@ mod tests {
         assert_eq!(out, [0, 2, 0, 0]);
         assert_eq!(thin(TOUCHING, &[4, 4, 4, 5], &mut out, 4), Err(Refusal::NotJoined));
         assert_eq!(thin(TOUCHING, &[2, 6], &mut out[..2], 2), Err(Refusal::NotJoined));
+    }
+
+    /// Cell 0 is blocked: vertex 3 does not see 1, and 4, 5, 8 and 7 each see both.
+    const CORNER: Floor = Floor { width: 2, height: 2, map: &[1] };
+    const ROUND: [u16; 6] = [3, 4, 5, 8, 7, 1];
+
+    #[test]
+    fn proposed() {
+        let lists: [(Floor, &[u16], usize, &[u16], &[u16]); 5] = [
+            (CORNER, &ROUND, 6, &[0, 4, 5], &[2, 1, 1, 1, 1, 0]),
+            (CORNER, &[2, 1, 4, 3, 4, 1], 6, &[0, 5], &[1, 1, 1, 2, 1, 0]),
+            (OPEN, &[0, 1, 5, 6], 3, &[0, 2], &[1, 1, 0]),
+            (SHUT, &[3, 6], 1, &[0], &[0]),
+            (TOUCHING, &[4, 4, 4, 5], 3, &[0, 2], &[1, 1, 0]),
+        ];
+        for (floor, list, n, wanted_kept, wanted_legs) in lists {
+            let (mut kept, mut legs) = (vec![7; list.len()], vec![7; list.len()]);
+            let count = fewest_legs(floor, list, &mut kept, &mut legs, n).expect("a joined list");
+            assert_eq!((count, &kept[..count]), (wanted_kept.len(), wanted_kept));
+            assert_eq!(&legs[..n], wanted_legs);
+            assert!(kept[count..].iter().chain(&legs[n..]).all(|&number| number == 0));
+            assert_eq!(check_legs(floor, list, n, Proposal { kept: &kept, count, legs: &legs }), Ok(true));
+        }
+    }
+
+    #[test]
+    fn checked_proposals() {
+        let legs = [2, 1, 1, 1, 1, 0];
+        let verdict = |kept: [u16; 6], count: usize, legs: &[u16]| {
+            check_legs(CORNER, &ROUND, 6, Proposal { kept: &kept, count, legs })
+        };
+        for middle in 0..7 {
+            assert_eq!(verdict([0, middle, 5, 0, 0, 0], 3, &legs), Ok((1..5).contains(&middle)));
+        }
+        let others: [([u16; 6], usize); 8] = [
+            ([0; 6], 0),
+            ([0, 5, 0, 0, 0, 0], 2),
+            ([0, 1, 2, 5, 0, 0], 4),
+            ([0, 4, 5, 0, 0, 0], 4),
+            ([0, 4, 5, 0, 0, 1], 3),
+            ([1, 4, 5, 0, 0, 0], 3),
+            ([0, 4, u16::MAX, 0, 0, 0], 3),
+            ([0, 4, 5, 0, 0, 0], usize::MAX),
+        ];
+        for (kept, count) in others {
+            assert_eq!(verdict(kept, count, &legs), Ok(false));
+        }
+        for (place, number) in (0..6).flat_map(|place| (0..4).map(move |number| (place, number))) {
+            let mut other = legs;
+            other[place] = number;
+            assert_eq!(verdict([0, 4, 5, 0, 0, 0], 3, &other), Ok(other == legs));
+        }
+    }
+
+    #[test]
+    fn refused_proposals() {
+        let refused = |floor: Floor, list: &[u16], n: usize, lengths: [usize; 2], refusal: Refusal| {
+            let [mut kept, mut legs] = lengths.map(|length| vec![7; length]);
+            assert_eq!(check_legs(floor, list, n, Proposal { kept: &kept, count: 9, legs: &legs }), Err(refusal));
+            assert_eq!(fewest_legs(floor, list, &mut kept, &mut legs, n), Err(refusal));
+            assert!(kept.iter().chain(&legs).all(|&number| number == 7));
+        };
+        refused(Floor { width: 0, ..CORNER }, &ROUND, 7, [5, 6], Refusal::BadSize);
+        refused(Floor { map: &[], ..CORNER }, &ROUND, 7, [5, 6], Refusal::BadMapLength);
+        refused(Floor { map: &[17], ..CORNER }, &ROUND, 7, [5, 6], Refusal::UnusedBit);
+        for lengths in [[5, 6], [6, 5], [7, 6], [6, 7], [0, 0]] {
+            refused(CORNER, &ROUND, 7, lengths, Refusal::BadSliceLength);
+        }
+        refused(CORNER, &[3; 16_385], 1, [16_385, 16_385], Refusal::BadSliceLength);
+        for (list, n) in [(ROUND, 0), (ROUND, 7), (ROUND, usize::MAX), ([3, 1, 1, 1, 1, 1], 2), ([9; 6], 1)] {
+            refused(CORNER, &list, n, [6, 6], Refusal::NotJoined);
+        }
+        refused(CORNER, &[], 0, [0, 0], Refusal::NotJoined);
     }
 
     /// Replays a log with slices that hold 7 at each place: the answer, and the costs. The working slice is 0.
