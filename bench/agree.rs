@@ -1,8 +1,11 @@
 //! Holds the programs to each other: same answers, same slices. A program that has not a neighbourhood refuses it, and
 //! the others are held to each other.
 
+use crate::copied_sight::Sight;
 use crate::floors::{Case, Kind, Random, KINDS, SIDES};
-use crate::lurfanzi::{log_of, pack, CostChange, Floor, Job, Plan, Refusal, Replay, Verdict, UNREACHABLE};
+use crate::legs;
+use crate::lurfanzi::{check_legs, fewest_legs, log_of, pack, Floor, Job, UNREACHABLE};
+use crate::lurfanzi::{CostChange, Plan, Proposal, Refusal, Replay, Verdict};
 use crate::programs::{Operation, Program, Slices, LIBRARY, PROGRAMS, TEXTBOOK};
 
 const NEIGHBOURHOODS: [u32; 3] = [4, 8, 16];
@@ -96,6 +99,40 @@ fn agree_on_cost_changes(floor: Floor, job: Job, truth: &Truth, random: &mut Ran
         assert!(slices.d == truth.slices.d && slices.e == there.d, "cost changes: the costs");
         assert_eq!(changes, wanted, "cost changes: the bytes");
         assert!(slices.work.iter().all(|&number| number == 0), "cost changes: the working slice");
+    }
+}
+
+/// The fewest legs from each position of a joined list, by a look at all pairs.
+fn legs_by_definition(floor: Floor, list: &[u16]) -> Vec<u16> {
+    let mut legs = vec![0; list.len()];
+    for i in (0..list.len() - 1).rev() {
+        let is_leg = |&j: &usize| sees_by_definition(floor, list[i].into(), list[j].into());
+        legs[i] = (i + 1..list.len()).filter(is_leg).map(|j| legs[j] + 1).min().expect("the next is seen");
+    }
+    legs
+}
+
+/// A random joined list: the library's proposal, the copy's, and the verdict of both on it and with a number altered.
+fn agree_on_legs(floor: Floor, random: &mut Random) {
+    let mut list = vec![random.below(floor.vertices()) as u16];
+    for _ in 0..40 {
+        let (last, v) = (list[list.len() - 1], random.below(floor.vertices()) as u16);
+        if (TEXTBOOK.sight)(floor, last.into(), v.into()) == Ok(true) {
+            list.push(v);
+        }
+    }
+    let n = list.len();
+    let sees = |i: usize, j: usize| Sight::new(floor).sees(list[i], list[j]);
+    let (mut kept, mut legs, mut own) = (vec![9; n], vec![9; n], (vec![9; n], vec![9; n]));
+    let count = fewest_legs(floor, &list, &mut kept, &mut legs, n).expect("a joined list");
+    assert_eq!(legs::propose(sees, &list, &mut own.0, &mut own.1, n), count, "legs: how many are kept");
+    assert_eq!((&kept, &legs), (&own.0, &own.1), "legs: the copy's proposal");
+    assert_eq!(legs, legs_by_definition(floor, &list), "legs: by definition");
+    for by in 0..4 {
+        legs[random.below(n)] += by;
+        let proposal = Proposal { kept: &kept, count, legs: &legs };
+        assert_eq!(check_legs(floor, &list, n, proposal), Ok(by == 0), "legs: checked");
+        assert_eq!(legs::check(sees, &list, n, proposal), by == 0, "legs: checked by the copy");
     }
 }
 
@@ -219,6 +256,14 @@ fn agree_on_sight(program: &Program, floor: Floor, random: &mut Random) {
     let count = (TEXTBOOK.thin)(floor, &list, &mut wanted, 8);
     assert_eq!((program.thin)(floor, &list, &mut kept, 8), count, "thin: {}", program.name);
     assert_eq!(kept, wanted, "thin: {}", program.name);
+}
+
+fn agree_on_copied_sight(floor: Floor, random: &mut Random) {
+    for _ in 0..200 {
+        let [a, b] = [(); 2].map(|()| random.below(floor.vertices()) as u16);
+        let seen = (TEXTBOOK.sight)(floor, a.into(), b.into());
+        assert_eq!(Ok(Sight::new(floor).sees(a, b)), seen, "sight: the copy from {a} to {b}");
+    }
 }
 
 fn all_agree_on(floor: Floor, job: Job, truth: &Truth, random: &mut Random) {
@@ -443,6 +488,8 @@ fn agree_on_random_floor(random: &mut Random) {
     }
     agree_on_bad_maps(floor, job);
     assert_eq!((TEXTBOOK.sight)(floor, a, b), Ok(sees_by_definition(floor, a, b)), "sight: textbook");
+    agree_on_copied_sight(floor, random);
+    agree_on_legs(floor, random);
     let truth = truth_of(floor, job);
     if floor.vertices() <= 81 {
         agree_by_definition(floor, job, &truth);

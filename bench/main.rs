@@ -6,10 +6,14 @@
 //!     bench measure OPERATION FLOOR SIDE NEIGHBOURHOOD ROUNDS
 //!     bench repeat PROGRAM OPERATION FLOOR SIDE NEIGHBOURHOOD TIMES
 //!     bench segment PROGRAM COLUMNS ROWS TIMES
+//!     bench legs ROUNDS
+//!     bench legs-list
+//!     bench legs-repeat PROGRAM OPERATION LIST POSITIONS TIMES
 //!
 //! A measurement's name is the four words OPERATION FLOOR SIDE NEIGHBOURHOOD. `list` prints every name, a line each,
 //! with the neighbourhoods that the library has; `measure` prints the name and the library's nanoseconds. bench/beside
-//! relies on both, and on `repeat`, which fails where the program has not the neighbourhood.
+//! relies on both, and on `repeat`, which fails where the program has not the neighbourhood. The last three measure
+//! fewest legs over long lists; their PROGRAM is library or copy, their OPERATION check or propose.
 
 #[allow(dead_code)]
 #[path = "../examples/rust/lurfanzi.rs"]
@@ -17,7 +21,9 @@ mod lurfanzi;
 
 mod agree;
 mod buckets;
+mod copied_sight;
 mod floors;
+mod legs;
 mod moves;
 mod programs;
 mod shape;
@@ -94,11 +100,17 @@ fn main() -> ExitCode {
         ["measure", rest @ ..] => measure(rest),
         ["repeat", rest @ ..] => repeat(rest),
         ["segment", rest @ ..] => segment(rest),
+        ["legs", rounds] => number(rounds).map(legs::print),
+        ["legs-list"] => Some(legs::list()),
+        ["legs-repeat", program, operation, list, n, times] => number(n)
+            .zip(number(times))
+            .and_then(|(n, times)| legs::repeat(program, operation, list, n, times)),
         _ => None,
     };
     if done.is_none() {
         eprintln!("bench agree FLOORS | table ROUNDS | list | measure OPERATION FLOOR SIDE NEIGHBOURHOOD ROUNDS");
         eprintln!("    | repeat PROGRAM OPERATION FLOOR SIDE NEIGHBOURHOOD TIMES | segment PROGRAM COLUMNS ROWS TIMES");
+        eprintln!("    | legs ROUNDS | legs-list | legs-repeat PROGRAM OPERATION LIST POSITIONS TIMES");
         return ExitCode::FAILURE;
     }
     ExitCode::SUCCESS
