@@ -14,6 +14,12 @@ pub struct ChangesResult {
     pub answer: u8,
 }
 
+#[repr(C)]
+pub struct ThinResult {
+    pub kept: usize,
+    pub answer: u8,
+}
+
 #[derive(Clone, Copy)]
 #[repr(C)]
 pub struct Writer {
@@ -49,6 +55,16 @@ extern "C" {
     fn lurfanzi_write_job(
         writer: Writer, neighbourhood: u8, a: u16, b: u16, buffer: *mut u8, buffer_length: usize,
     ) -> WriteResult;
+
+    fn lurfanzi_check_legs(
+        width: u32, height: u32, map: *const u8, map_length: usize, list: *const u16, list_length: usize, n: usize,
+        kept: *const u16, kept_length: usize, kept_count: usize, legs: *const u16, legs_length: usize,
+    ) -> u8;
+
+    fn lurfanzi_fewest_legs(
+        width: u32, height: u32, map: *const u8, map_length: usize, list: *const u16, list_length: usize,
+        kept: *mut u16, kept_length: usize, legs: *mut u16, legs_length: usize, n: usize,
+    ) -> ThinResult;
 }
 
 /// What changed from the first floor to the second.
@@ -98,4 +114,26 @@ pub fn write_map(writer: Writer, floor: Floor, buffer: &mut [u8]) -> WriteResult
 pub fn write_job(writer: Writer, neighbourhood: u8, a: u16, b: u16, buffer: &mut [u8]) -> WriteResult {
     // SAFETY: the buffer is an exclusive slice.
     unsafe { lurfanzi_write_job(writer, neighbourhood, a, b, buffer.as_mut_ptr(), buffer.len()) }
+}
+
+/// Judges kept positions of a list's first n places, and the fewest legs from each of these.
+pub fn check_legs(floor: Floor, list: &[u16], n: usize, kept: &[u16], kept_count: usize, legs: &[u16]) -> u8 {
+    // SAFETY: all four are shared slices; nothing is written.
+    unsafe {
+        lurfanzi_check_legs(
+            floor.width, floor.height, floor.map.as_ptr(), floor.map.len(), list.as_ptr(), list.len(), n,
+            kept.as_ptr(), kept.len(), kept_count, legs.as_ptr(), legs.len(),
+        )
+    }
+}
+
+/// Proposes kept positions of a list's first n places, and the fewest legs from each of these.
+pub fn fewest_legs(floor: Floor, list: &[u16], kept: &mut [u16], legs: &mut [u16], n: usize) -> ThinResult {
+    // SAFETY: the map and the list are shared slices, the two others are exclusive ones.
+    unsafe {
+        lurfanzi_fewest_legs(
+            floor.width, floor.height, floor.map.as_ptr(), floor.map.len(), list.as_ptr(), list.len(),
+            kept.as_mut_ptr(), kept.len(), legs.as_mut_ptr(), legs.len(), n,
+        )
+    }
 }

@@ -157,6 +157,7 @@ struct Driver {
     slots: [u32; 64],
     working: Vec<u8>,
     changes: Vec<u8>,
+    legs: Vec<u16>,
     writer: Writer,
     written: Vec<u8>,
 }
@@ -173,10 +174,10 @@ impl Driver {
         let (d, f, route) = (costs.clone(), counts.clone(), points.clone());
         let slices = Slices { d, e: costs, f, back: counts, route, next: points };
         let ground = Ground { width: 0, height: 0, map: Vec::new() };
-        let (work, list, out) = (vec![0; 4 * v], vec![0; longest], vec![0; longest]);
+        let (work, list, out, legs) = (vec![0; 4 * v], vec![0; longest], vec![0; longest], vec![0; longest]);
         let (working, changes, slots) = (vec![0; longest_map], vec![0; longest], [0; 64]);
         let (writer, written) = (Writer { at: 0, due: 0 }, vec![0; 8_192 + PAST]);
-        Driver { ground, slices, points: 0, work, list, out, slots, working, changes, writer, written }
+        Driver { ground, slices, points: 0, work, list, out, slots, working, changes, legs, writer, written }
     }
 
     fn line(&mut self, record: &Record) -> io::Result<String> {
@@ -200,6 +201,8 @@ impl Driver {
             16 => self.take_writer(record),
             17 => self.write_map(record),
             18 => self.write_job(record),
+            19 => self.propose(record),
+            20 => format!("legs {}", self.legs(record)),
             _ => return Err(Error::new(ErrorKind::InvalidData, "a record of no known operation")),
         })
     }
@@ -285,6 +288,27 @@ impl Driver {
         let result = calls::write_job(self.writer, neighbourhood, a, b, &mut self.written[..room]);
         let (answer, left) = self.wrote(result, room);
         format!("write-job {answer} {left}")
+    }
+
+    /// The list begins with the payload's numbers again and again.
+    fn propose(&mut self, record: &Record) -> String {
+        let (floor, seed) = (self.ground.floor(), record.word(4));
+        let list = patterned(&mut self.list, record.length(0), seed);
+        let kept = patterned(&mut self.out, record.length(1), seed);
+        let legs = patterned(&mut self.legs, record.length(2), seed);
+        let given = record.payload.chunks_exact(2).map(|pair| Element::cut(number(pair))).cycle();
+        list[..record.length(5)].iter_mut().zip(given).for_each(|(place, vertex)| *place = vertex);
+        let told = calls::fewest_legs(floor, list, kept, legs, record.length(3));
+        format!("propose {} {} {} {} {}", told.answer, told.kept, digest(list), digest(kept), digest(legs))
+    }
+
+    /// The slices are copies with the changes made, so that nothing has to be put back.
+    fn legs(&self, record: &Record) -> u8 {
+        let whole = [&self.list, &self.out, &self.legs];
+        let mut parts = [0, 1, 2].map(|k| whole[k][..record.length(k)].to_vec());
+        record.changes().for_each(|(slice, place, value)| parts[slice as usize][place] = Element::cut(value));
+        let [list, kept, legs] = parts;
+        calls::check_legs(self.ground.floor(), &list, record.length(3), &kept, record.length(4), &legs)
     }
 
     /// The costs handed in are a copy with the changes made, so that nothing has to be put back.

@@ -3,6 +3,7 @@
 use crate::changes;
 use crate::closures::{Rectangle, Table};
 use crate::format::{self, Damage, Digest, Record};
+use crate::legs;
 use crate::packed::{self, PackedFloor};
 use crate::replay;
 use crate::sheet::{self, Handed, Lent, Request, Solver};
@@ -25,6 +26,7 @@ struct Buffers {
     table: Table,
     working: Vec<u8>,
     changes: Vec<u8>,
+    legs: Vec<u16>,
     writer: Writer,
     written: Vec<u8>,
 }
@@ -46,6 +48,7 @@ impl Buffers {
             table: Table::empty(),
             working: vec![0; format::WORKING_ROOM],
             changes: vec![0; format::CHANGES_ROOM],
+            legs: vec![0; format::LIST_ROOM],
             writer: Writer::FRESH,
             written: vec![0; format::WRITTEN_ROOM + format::WRITTEN_PAST],
         }
@@ -64,6 +67,18 @@ impl Buffers {
             _ => panic!("no slice {slice}"),
         };
         Damage { slice, place, value: old }
+    }
+
+    /// The same with a list, its kept positions and the numbers of their legs.
+    fn put_in_choice(&mut self, damage: Damage) -> Damage {
+        let slice = match damage.slice {
+            0 => &mut self.list,
+            1 => &mut self.output,
+            2 => &mut self.legs,
+            other => panic!("no slice {other}"),
+        };
+        let old = std::mem::replace(&mut slice[damage.place], damage.value as u16);
+        Damage { value: old.into(), ..damage }
     }
 
     /// The writer, and the digest of the lent part of what it writes to and of a few places past it.
@@ -158,6 +173,8 @@ impl Runner {
             format::WRITER => self.writer(record),
             format::WRITE_MAP => self.write_map(record),
             format::WRITE_JOB => self.write_job(record),
+            format::PROPOSE => self.propose(record),
+            format::LEGS => self.legs(record),
             other => panic!("no operation {other}"),
         }
     }
@@ -259,6 +276,33 @@ impl Runner {
         let at = &mut self.buffers;
         let answer = at.writer.write_job(Job { neighbourhood, start, goal }, &mut at.written[..record.word(3)]);
         format!("write-job {answer} {}", at.written_digest(record.word(3)))
+    }
+
+    /// The list begins with the payload's numbers again and again.
+    fn propose(&mut self, record: &Record) -> String {
+        let (at, seed) = (&mut self.buffers, record.words[4]);
+        let list = &mut at.list[..record.word(0)];
+        let (kept, legs) = (&mut at.output[..record.word(1)], &mut at.legs[..record.word(2)]);
+        fill16(list, seed);
+        fill16(kept, seed);
+        fill16(legs, seed);
+        let numbers = record.payload.chunks_exact(2).map(|bytes| u16::from_le_bytes(bytes.try_into().unwrap())).cycle();
+        list[..record.word(5)].iter_mut().zip(numbers).for_each(|(place, number)| *place = number);
+        let (answer, count) = legs::propose(&mut self.solver, list, kept, legs, record.words[3].into());
+        format!("propose {answer} {count} {} {} {}", digest16(list), digest16(kept), digest16(legs))
+    }
+
+    fn legs(&mut self, record: &Record) -> String {
+        let at = &mut self.buffers;
+        let damages = format::damages_from_bytes(&record.payload);
+        let undo: Vec<Damage> = damages.iter().map(|&damage| at.put_in_choice(damage)).collect();
+        let (list, kept) = (&at.list[..record.word(0)], &at.output[..record.word(1)]);
+        let (n, count) = (record.words[3].into(), record.words[4].into());
+        let answer = legs::check(&mut self.solver, list, n, kept, count, &at.legs[..record.word(2)]);
+        undo.iter().rev().for_each(|&old| {
+            at.put_in_choice(old);
+        });
+        format!("legs {answer}")
     }
 
     fn finish(&mut self, record: &Record) -> String {

@@ -19,6 +19,8 @@ pub const REPORT: u8 = 15;
 pub const WRITER: u8 = 16;
 pub const WRITE_MAP: u8 = 17;
 pub const WRITE_JOB: u8 = 18;
+pub const PROPOSE: u8 = 19;
+pub const LEGS: u8 = 20;
 
 pub const WORDS: usize = 14;
 pub const HEADER_SIZE: usize = 64;
@@ -88,6 +90,11 @@ pub struct Damage {
 
 pub fn damages_to_bytes(damages: &[Damage]) -> Vec<u8> {
     assert!(damages.len() <= MOST_DAMAGES);
+    places_to_bytes(damages)
+}
+
+/// The same of any number of places.
+pub fn places_to_bytes(damages: &[Damage]) -> Vec<u8> {
     let mut bytes = Vec::new();
     for damage in damages {
         bytes.extend((damage.slice as u32).to_le_bytes());

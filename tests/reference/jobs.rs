@@ -45,6 +45,8 @@ pub struct Maker {
     compared: Random,
     /// For the writer: its records change nothing of the others.
     written: Random,
+    /// For fewest stops: their records change nothing of the others.
+    chosen: Random,
     /// Whether numbers may pass 8 bits (sides, neighbourhood) and 16 bits (ends, n).
     wide: bool,
     /// The floor's map as the records leave it, and what the solver has of it.
@@ -61,12 +63,13 @@ pub fn make(seed: u64, count: u64, wide: bool) -> Vec<u8> {
     let [random, aside, given] = [seed, !seed, seed ^ u64::from(u32::MAX)].map(Random::new);
     let [corners, bits] = [!seed ^ u64::from(u32::MAX), seed.reverse_bits()].map(Random::new);
     let [pushed, steered] = [!seed.reverse_bits(), seed.swap_bytes() ^ 16].map(Random::new);
-    let [driven, compared, written] = [9, 10, 11].map(|request| Random::new(seed.swap_bytes() ^ request));
+    let by_request = |request: u64| Random::new(seed.swap_bytes() ^ request);
+    let [driven, compared, written, chosen] = [9, 10, 11, 12].map(by_request);
     let (solver, table) = (Solver::new(Floor::open(1, 1)), Table::empty());
     let (out, map) = (Vec::new(), vec![0]);
     let mut maker = Maker {
-        out, random, aside, given, corners, bits, pushed, steered, driven, compared, written, wide, map, solver, table,
-        writer: Writer::FRESH,
+        out, random, aside, given, corners, bits, pushed, steered, driven, compared, written, chosen, wide, map, solver,
+        table, writer: Writer::FRESH,
     };
     let fixed = fixed_floors(&mut maker.random).into_iter().take(count as usize);
     let mut floors: Vec<_> = fixed.map(|(floor, requests)| (PackedFloor::of(&floor), requests)).collect();
@@ -81,6 +84,7 @@ pub fn make(seed: u64, count: u64, wide: bool) -> Vec<u8> {
         maker.floor(floor, &requests);
     }
     maker.longest_run();
+    maker.longest_lists();
     maker.record(format::END, &[], Vec::new());
     maker.out
 }
@@ -209,11 +213,13 @@ impl Maker {
             self.replay_operations(&requests);
             self.change_operations();
             self.writer_operations();
+            self.legs_operations(&requests);
         } else {
             self.bad_operations();
             self.logs_on_bad_floor();
             self.changes_on_bad_floor();
             self.writer_on_bad_floor();
+            self.legs_on_bad_floor(6);
         }
         self.use_aside();
         if is_good {
@@ -263,6 +269,10 @@ impl Maker {
 
     pub fn use_written(&mut self) {
         std::mem::swap(&mut self.random, &mut self.written);
+    }
+
+    pub fn use_chosen(&mut self) {
+        std::mem::swap(&mut self.random, &mut self.chosen);
     }
 
     pub fn is_large(&self) -> bool {
@@ -818,7 +828,7 @@ impl Maker {
         self.list_record(list, format::SHEET_ROOM, format::SHEET_ROOM - 1, list.len() as u32);
     }
 
-    fn visible_list(&mut self, length: usize) -> Vec<u16> {
+    pub fn visible_list(&mut self, length: usize) -> Vec<u16> {
         let mut at = self.random.index(self.count());
         let mut list = vec![at as u16];
         while list.len() < length {

@@ -1,6 +1,6 @@
 //! An independent second program for the route planner, its checker, the
 //! thinner, the sight questions, the closures, the replay, the comparison of two
-//! floors, the program and the writer of its input. Subcommands:
+//! floors, the fewest stops, the program and the writer of its input. Subcommands:
 //!
 //! vectors                 runs known answers and self checks
 //! program                 record stream on standard input, lines out
@@ -23,6 +23,9 @@ mod format;
 mod graph;
 mod jobs;
 mod layouts;
+mod legs;
+mod legs_checks;
+mod legs_jobs;
 mod map_jobs;
 mod natural;
 mod neighbourhood_jobs;

@@ -99,6 +99,7 @@ impl Maker {
         self.use_driven();
         self.changes_with_map();
         self.writer_with_map();
+        self.legs_on_bad_floor(1);
         let length = self.map.len();
         self.working_record(Base::Floor, length, true);
     }

@@ -63,7 +63,7 @@ impl Maker {
     }
 
     /// Two vertices with a pinch between them, or at an end; or the pinch twice.
-    fn pair_through(&mut self, pinch: usize) -> (usize, usize) {
+    pub fn pair_through(&mut self, pinch: usize) -> (usize, usize) {
         let (x, y) = self.solver.floor.point(pinch);
         let [dx, dy] = [(); 2].map(|()| self.random.below(9) as i64 - 4);
         let [before, after] = [(); 2].map(|()| self.random.below(3) as i64);

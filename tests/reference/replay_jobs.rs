@@ -107,7 +107,7 @@ impl Maker {
 /// The stops of a drive.
 impl Maker {
     /// The central route; where there is none the start alone.
-    fn central_stops(&mut self, request: Request) -> Vec<u16> {
+    pub fn central_stops(&mut self, request: Request) -> Vec<u16> {
         let truth = self.solver.truth(request.neighbourhood, request.start as usize, request.goal as usize);
         match &*truth {
             Truth::Route { sheet, .. } => sheet.route[..(sheet.n as usize).min(MOST_STOPS)].to_vec(),

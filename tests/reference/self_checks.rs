@@ -12,7 +12,7 @@ use crate::sheet::{self, Handed, Request, Sheet, Solver, Truth, NO_WALK};
 use crate::sight::{self, Obstacle, Point};
 use crate::sixteen::REFUSED;
 use crate::vectors::{self, Tally};
-use crate::{answers, change_checks, count, format, jobs, thin, writer_checks};
+use crate::{answers, change_checks, count, format, jobs, legs_checks, thin, writer_checks};
 use std::collections::{BTreeMap, BTreeSet};
 
 pub fn run(tally: &mut Tally) {
@@ -33,6 +33,7 @@ pub fn run(tally: &mut Tally) {
     replays(tally);
     change_checks::run(tally);
     writer_checks::run(tally);
+    legs_checks::run(tally);
 }
 
 fn naturals(tally: &mut Tally) {
@@ -652,6 +653,7 @@ fn streams(tally: &mut Tally) {
     streams_of_logs(tally, &stream, &text);
     change_checks::streams(tally, &stream, &text);
     writer_checks::streams(tally, &stream, &text);
+    legs_checks::streams(tally, &stream, &text);
     let has = |start: &str| text.lines().any(|line| format!("{line} ").starts_with(start));
     for answer in [0, 1, 2, 3, 4, 5, 6, 11] {
         tally.holds(&format!("costs answers {answer}"), has(&format!("costs {answer} ")));

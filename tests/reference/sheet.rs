@@ -3,6 +3,7 @@
 use crate::count;
 use crate::floor::Floor;
 use crate::graph::{self, Distances, Edge, Graph, NEIGHBOURHOODS};
+use crate::legs::Choices;
 use crate::natural::Natural;
 use crate::sight;
 use std::cmp::Reverse;
@@ -54,11 +55,13 @@ pub struct Solver {
     graphs: BTreeMap<u64, Rc<(Graph, Graph)>>,
     costs: BTreeMap<(u64, usize), Rc<Vec<u32>>>,
     truths: BTreeMap<(u64, usize, usize), Rc<Truth>>,
+    choices: BTreeMap<Vec<u16>, Rc<Choices>>,
 }
 
 impl Solver {
     pub fn new(floor: Floor) -> Solver {
-        Solver { floor, graphs: BTreeMap::new(), costs: BTreeMap::new(), truths: BTreeMap::new() }
+        let (graphs, costs, truths) = (BTreeMap::new(), BTreeMap::new(), BTreeMap::new());
+        Solver { floor, graphs, costs, truths, choices: BTreeMap::new() }
     }
 
     /// The graph of open moves, and the same with its edges turned round.
@@ -90,6 +93,14 @@ impl Solver {
             self.truths.insert(key, Rc::new(solve(&graphs.0, &graphs.1, start, goal)));
         }
         Rc::clone(&self.truths[&key])
+    }
+
+    /// The choices of positions of a joined list.
+    pub fn choices(&mut self, list: &[u16]) -> Rc<Choices> {
+        if !self.choices.contains_key(list) {
+            self.choices.insert(list.to_vec(), Rc::new(Choices::of(&self.floor, list)));
+        }
+        Rc::clone(&self.choices[list])
     }
 }
 

@@ -4,7 +4,7 @@ use crate::floor::Floor;
 use crate::sight;
 
 /// Whether the first n places are vertices, each seeing the next.
-fn is_joined(floor: &Floor, list: &[u16], n: u64) -> bool {
+pub fn is_joined(floor: &Floor, list: &[u16], n: u64) -> bool {
     if n == 0 || n > list.len() as u64 {
         return false;
     }
@@ -13,7 +13,7 @@ fn is_joined(floor: &Floor, list: &[u16], n: u64) -> bool {
     on_floor && used.windows(2).all(|pair| sees(floor, pair[0], pair[1]))
 }
 
-fn sees(floor: &Floor, from: u16, to: u16) -> bool {
+pub fn sees(floor: &Floor, from: u16, to: u16) -> bool {
     sight::vertices_see(floor, usize::from(from), usize::from(to))
 }
 

@@ -7,7 +7,7 @@ use crate::natural::{binomial, Natural};
 use crate::packed::{self, PackedFloor};
 use crate::sheet::{self, Handed, Lent, PlanAnswer, Request, Sheet, Solver, NO_WALK};
 use crate::sight::{self, Obstacle};
-use crate::{boundary, changes, program, replay, self_checks, sixteen, stream, thin, writer};
+use crate::{boundary, changes, legs, program, replay, self_checks, sixteen, stream, thin, writer};
 
 /// Counts what holds and prints what does not.
 pub struct Tally {
@@ -57,6 +57,7 @@ pub fn run() -> bool {
     replay::run(&mut tally);
     changes::run(&mut tally);
     writer::run(&mut tally);
+    legs::run(&mut tally);
     self_checks::run(&mut tally);
     println!("reference: {} answers hold, {} do not", tally.passed, tally.failed);
     tally.failed == 0
