@@ -1,15 +1,16 @@
 -- The test of the next vertices, by what the code finds in turn.
 --
---   next-off, -goal, next-stuck-at, next-to-at == what a vertex is found to be, said of `rightNext`
+--   next-off, -goal, -to          == what a vertex is found to be, said of `rightNext`
 --   next-row-blank                == the test of a row of which no vertex is on the way
 --   nexts-rows                    == the test of every vertex is that of every row
---   next-choosing                 == the next vertex of the vertex in column x can be chosen
+--   next-choosing, next-leads     == the next vertex of the vertex in column x can be chosen: a move leads on from it
 --   next-stops, -keeps            == a flag that the vertices of a row before column x pass, after the test of one more
 use Prim.Native.Nat.{ℕ, suc, _+_, _-_, _*_, _≤_, _<_}
 use mathlib.Core.Path.{_≡_, sym, _∙_}
 use mathlib.Core.Bool.{Bool, true, false, not}
 use mathlib.Core.Logic.{_↔_}
 use mathlib.Core.List.{List}
+use mathlib.Core.Option.{some}
 use native.Mathlib.Omega.{arith}
 use borrow.Author.Tests.{eq-eqb, ne-eqb, eqb-true, not-true, not-false}
 use lib.Dec.{eqb}
@@ -17,7 +18,7 @@ use lib.ListN.{length}
 use Rattle.basics.specs.Bounded.{every}
 use Rattle.basics.proofs.Bools.{iff-eq}
 use Rattle.basics.proofs.Bounded.{every-all, every-at, every-rows}
-use Rattle.floor.specs.Floor.{floorOf, number}
+use Rattle.floor.specs.Floor.{floorOf, vertices, number}
 use Rattle.floor.proofs.Numbers.{number-lt}
 use Rattle.moves.specs.declared.Rows.{Rows}
 use Rattle.moves.specs.Table.{OnFloor}
@@ -29,16 +30,15 @@ use Rattle.paths.specs.Route.{onShortest}
 use Rattle.paths.specs.Sheet.{Sheet}
 use Rattle.paths.specs.Local.{is-there, entry, localOn, localNext, rightNext}
 use Rattle.grid.specs.Grid.{floorGraph}
-use Rattle.neighbours.specs.declared.Next.{Next}
-use Rattle.neighbours.specs.declared.Next.the-variants.{To, Stuck}
+use Rattle.grid.specs.Leaving.{leavingGraph}
 use Rattle.neighbours.specs.Reading.{maskGraph}
-use Rattle.neighbours.specs.Choice.{Choosing, OffWay, nextOf, nextFrom}
-use Rattle.neighbours.proofs.Steps.{next-stuck, next-to}
+use Rattle.neighbours.specs.Choice.{Choosing, OffWay, nextOf, LeadsBy}
+use Rattle.neighbours.proofs.Agree.{Agrees}
 use Rattle.neighbours.proofs.Columns.{flag-stops, flag-keeps}
 use Rattle.checker.specs.Tests.{chosenOf, nextsTest, nextColumnTest, nextRowTest, Zeros, Choosable}
 use Rattle.checker.proofs.Posed.{posed-agrees}
 use Rattle.checker.proofs.Passes.{column-readable, column-mask}
-use Rattle.checker.proofs.Leaving.{right-leaving}
+use Rattle.checker.proofs.Leaving.{leads-leaving, right-leaving}
 
 -- ---- one vertex
 
@@ -62,16 +62,10 @@ module _ (rows : Rows) (shifts : List ℕ) (mask b : ℕ) (d e f back next : Lis
       unfolding rightNext localOn
       next-goal q = rw (way, eq-eqb v b q, is)
 
-      module _ (ne : v ≡ b → ⊥) {s : Next} (chosen : s ≡ nextFrom (nextOf rows shifts mask d e f back b v)) where
-        pub next-stuck-at : s ≡ Stuck → false ≡ rightNext graph b sheet v
-        unfolding rightNext localOn localNext is-there
-        next-stuck-at q =
-            rw (way, ne-eqb v b ne, next-stuck (nextOf rows shifts mask d e f back b v) (sym chosen ∙ q))
-
-        pub next-to-at : (w : ℕ) → s ≡ To (record { 0 = w }) → eqb x w ≡ rightNext graph b sheet v
-        unfolding rightNext localOn localNext is-there
-        next-to-at w q =
-            rw (way, ne-eqb v b ne, next-to (nextOf rows shifts mask d e f back b v) w (sym chosen ∙ q), is)
+      pub next-to : (v ≡ b → ⊥) → (w : ℕ) → nextOf rows shifts mask d e f back b v ≡ some w
+          → eqb x w ≡ rightNext graph b sheet v
+      unfolding rightNext localOn localNext is-there
+      next-to ne w there = rw (way, ne-eqb v b ne, there, is)
 
 -- ---- row by row
 
@@ -117,17 +111,27 @@ module _ {w h : ℕ} {l : List ℕ} {r : Rows} {b : ℕ} {s : Sheet} (p : Choosa
     e-len = p .posed .shape .e ∙ sym (p .posed .shape .d);
   }
 
-  module _ (small : entry (s .d) v ≤ unreachable) {old new : Bool} (before : old ≡ every x (nextColumnTest g b s w y))
-      (is : new ≡ rightNext (maskGraph (length (s .d)) r m mask) b s v) where
-    on-floor : new ≡ nextColumnTest g b s w y x
-    on-floor =
-        rw numbered at is
-        ∙ right-leaving (p .posed .job) s (p .pinches) (p .near) (number-lt w h x y (o .column) (o .row))
-        (rw numbered at small)
-        (posed-agrees (p .posed) S (number-lt w h x y (o .column) (o .row)) (column-mask (p .posed) S o k numbered))
+  module _ (small : entry (s .d) v ≤ unreachable) where
+    inside : number w x y < vertices w h
+    inside = number-lt w h x y (o .column) (o .row)
 
-    pub next-stops : not new ≡ true → false ≡ every (x + 1) (nextColumnTest g b s w y)
-    next-stops = flag-stops (nextColumnTest g b s w y) x on-floor
+    agrees : Agrees (maskGraph (length (s .d)) r m mask) (leavingGraph (floorOf w h l) r) (number w x y)
+    agrees = posed-agrees (p .posed) S inside (column-mask (p .posed) S o k numbered)
 
-    pub next-keeps : not new ≡ false → old ≡ every (x + 1) (nextColumnTest g b s w y)
-    next-keeps = flag-keeps (nextColumnTest g b s w y) x on-floor before
+    pub next-leads : LeadsBy r m mask (s .d) (s .e) (s .f) (s .b) b v
+    next-leads =
+        rw numbered (leads-leaving (p .posed .job) s (p .pinches) (p .near) inside (rw numbered at small) agrees
+        (p .leads (number w x y) inside))
+
+    module _ {old new : Bool} (before : old ≡ every x (nextColumnTest g b s w y))
+        (is : new ≡ rightNext (maskGraph (length (s .d)) r m mask) b s v) where
+      on-floor : new ≡ nextColumnTest g b s w y x
+      on-floor =
+          rw numbered at is
+          ∙ right-leaving (p .posed .job) s (p .pinches) (p .near) inside (rw numbered at small) agrees
+
+      pub next-stops : not new ≡ true → false ≡ every (x + 1) (nextColumnTest g b s w y)
+      next-stops = flag-stops (nextColumnTest g b s w y) x on-floor
+
+      pub next-keeps : not new ≡ false → old ≡ every (x + 1) (nextColumnTest g b s w y)
+      next-keeps = flag-keeps (nextColumnTest g b s w y) x on-floor before

@@ -3,7 +3,8 @@
 --   costs-all, -at               == the test of a cost at every vertex is that of paths
 --   tests-numbers, numbers-tests == the tests of the costs and counts are `localNumbers`
 --   routeTest-local, noRouteTest-local == the tests of a whole sheet are `localRoute` and `localNoRoute`
---   counts-fit                   == where they pass, the traversal counts fit 64 bits
+--   counts-fit, counts-lead      == where they pass, the traversal counts fit 64 bits, and a move leads on from each
+--                                   vertex on the way before b
 --   route-.., noRoute-..         == what the code finds in turn, said of `routeTest` and `noRouteTest`
 --   vertices-uncounted, nexts-alone, points-alone == what the tests do not look at
 use Prim.Native.Nat.{ℕ, _^_, _<_}
@@ -19,12 +20,15 @@ use Rattle.basics.proofs.Bools.{iff-eq, and-intro, and-left, and-right}
 use Rattle.basics.proofs.Bounded.{every-all, every-at}
 use Rattle.paths.specs.Graph.{Graph, Lawful}
 use Rattle.paths.specs.Distance.{unreachable}
+use Rattle.paths.specs.Route.{onShortest}
 use Rattle.paths.specs.Sheet.{Sheet, sheetOf}
 use Rattle.paths.specs.Local.{rightCost, rightCosts, countAt, rightCounts, entry, localOn, localNext, localNumbers}
 use Rattle.paths.specs.Local.{Shaped, rightNext, localRoute, blankAt, localNoRoute}
-use Rattle.paths.proofs.SheetTest.{numbers-true, numbers-fit}
+use Rattle.paths.specs.Onward.{Leads}
+use Rattle.paths.proofs.Sheets.{TrueNumbers}
+use Rattle.paths.proofs.SheetTest.{numbers-true, numbers-fit, sheet-leads}
 use Rattle.neighbours.specs.Least.{rightCostIn}
-use Rattle.neighbours.specs.Choice.{Counted}
+use Rattle.neighbours.specs.Choice.{traversalOf, Counted}
 use Rattle.neighbours.proofs.Incoming.{costs-in}
 use Rattle.checker.specs.Tests.{chosenOf, walkOf, countsTest, vertexTest, verticesTest, nextsTest, pointsTest}
 use Rattle.checker.specs.Tests.{routeTest, noRouteTest}
@@ -202,17 +206,23 @@ module _ (g : Graph) (a b : ℕ) (s : Sheet) where
                 fact-holds (lt-ltb _ _ near) (fact-holds (eq-eqb _ _ start)
                 (fact-holds (eq-eqb _ _ end) (holds all f (holds nexts t q))))
 
-          pub counts-fit : Lawful g → a < g .size → b < g .size → Shaped (g .size) s → entry (s .f) b < 2 ^ 64
-              → Counted (length (s .d)) (s .f) (s .b)
-          counts-fit L in-a in-b shape total =
-              let v = sym all ∙ not-false k f in
-              let t = tests-numbers L (lt-ltb _ _ near) (eq-eqb _ _ start) (eq-eqb _ _ end) v in
-              let N = numbers-true g L a b in-a in-b s t in
-              record {
-                f-len = shape .f ∙ sym (shape .d);
-                b-len = shape .b ∙ sym (shape .d);
-                fit = λ v i. omega (arith, numbers-fit g L a b in-a in-b s N v (omega (arith, shape .d)));
-              }
+          module _ (L : Lawful g) (in-a : a < g .size) (in-b : b < g .size) where
+            numbers : TrueNumbers g a b s
+            numbers =
+                numbers-true g L a b in-a in-b s
+                (tests-numbers L (lt-ltb _ _ near) (eq-eqb _ _ start) (eq-eqb _ _ end) (sym all ∙ not-false k f))
+
+            pub counts-fit : Shaped (g .size) s → entry (s .f) b < 2 ^ 64 → Counted (length (s .d)) (s .f) (s .b)
+            counts-fit shape total = record {
+              f-len = shape .f ∙ sym (shape .d);
+              b-len = shape .b ∙ sym (shape .d);
+              fit = λ v i. omega (arith, numbers-fit g L a b in-a in-b s numbers v (omega (arith, shape .d)));
+            }
+
+            pub counts-lead : (v : ℕ) → v < g .size
+                → Leads g (onShortest (entry (s .d)) (entry (s .e)) b) (entry (s .d)) (traversalOf (s .f) (s .b)) b v
+            unfolding localOn
+            counts-lead v i = sheet-leads g L a b in-a in-b s numbers v i
 
   pub noRoute-reached : (entry (s .d) b ≡ unreachable → ⊥) → false ≡ noRouteTest g a b s
   unfolding noRouteTest

@@ -2,7 +2,8 @@
 --
 --   vertices-leaving   == the test of every vertex
 --   pinches-far        == where it holds, every pinch is unreached
---   right-leaving      == the test of a next vertex, where every pinch is unreached
+--   leads-leaving      == where every pinch is unreached, a move leads on from a vertex over both
+--   right-leaving      == and the test of a next vertex is the same
 use Prim.Native.Nat.{ℕ, _+_, _<_, _≤_}
 use mathlib.Core.Path.{_≡_, sym, ap, _∙_}
 use mathlib.Core.Bool.{Bool, true, false, _&&_, and-false}
@@ -19,14 +20,16 @@ use Rattle.paths.specs.Graph.{Graph}
 use Rattle.paths.specs.Distance.{unreachable}
 use Rattle.paths.specs.Route.{onShortest}
 use Rattle.paths.specs.Sheet.{Sheet}
+use Rattle.paths.specs.Onward.{Leads}
 use Rattle.paths.specs.Local.{entry, localOn, localNext, rightNext, blankAt}
 use Rattle.grid.specs.Grid.{floorGraph}
 use Rattle.grid.specs.Leaving.{leavingGraph}
 use Rattle.grid.specs.Known.{GoodJob}
 use Rattle.neighbours.specs.Choice.{traversalOf}
 use Rattle.neighbours.specs.Least.{rightCostIn}
-use Rattle.neighbours.proofs.Agree.{Agrees, nextVertex-agrees}
+use Rattle.neighbours.proofs.Agree.{Agrees, nextVertex-agrees, leads-agrees}
 use Rattle.neighbours.proofs.Half.{HalfOf, right-small, Far, far-of, half-far, at-half, counts-half, next-half}
+use Rattle.neighbours.proofs.Half.{leads-half}
 use Rattle.neighbours.proofs.Leaving.{pinched, leaving-half}
 use Rattle.checker.specs.Tests.{PinchesFar, vertexTest, verticesTest}
 use Rattle.checker.proofs.Exact.{RightAt, right-at, at-right}
@@ -116,13 +119,22 @@ module _ {w h : ℕ} {l : List ℕ} {r : Rows} {a b : ℕ} (J : GoodJob w h l r 
 
   module _ (far : PinchesFar f (s .d)) (near : D b < unreachable) {q : Graph} {v : ℕ} (i : v < vertices w h)
       (small : D v ≤ unreachable) (same : Agrees q k v) where
+    -- No unreached vertex is on the way.
+    unreached-off : (u : ℕ) → D u ≡ unreachable → onShortest D E b u ≡ false
+    unfolding onShortest
+    unreached-off u e =
+        ap (λ c. ltb (D b) unreachable && c) (ne-eqb (D u + E u) (D b) (λ t. omega arith))
+        ∙ and-false (ltb (D b) unreachable)
+
     next-leaving : localNext q b s v ≡ localNext g b s v
-    unfolding localNext localOn onShortest
+    unfolding localNext localOn
     next-leaving =
         nextVertex-agrees same D (localOn b s) (traversalOf (s .f) (s .b))
-        ∙ sym (next-half from-goal D (far .at) v i small (localOn b s) (traversalOf (s .f) (s .b)) (λ u e.
-        ap (λ c. ltb (D b) unreachable && c) (ne-eqb (D u + E u) (D b) (λ t. omega arith))
-        ∙ and-false (ltb (D b) unreachable)))
+        ∙ sym (next-half from-goal D (far .at) v i small (localOn b s) unreached-off (traversalOf (s .f) (s .b)))
+
+    pub leads-leaving : {T : ℕ → ℕ} → Leads g (onShortest D E b) D T b v → Leads q (onShortest D E b) D T b v
+    leads-leaving k =
+        leads-agrees same D (leads-half from-goal D (far .at) v i small (onShortest D E b) unreached-off k)
 
     pub right-leaving : rightNext q b s v ≡ rightNext g b s v
     unfolding rightNext

@@ -21,7 +21,8 @@
 --   Zeros l i j              == the list l has 0 from place i to place j
 --   PinchesFar f d           == the costs d have every pinch unreached
 --   Posed w h l r a b s      == a good job, with a sheet whose slices have a place for each vertex
---   Choosable w h l r b s    == a sheet posed with a job to b, by whose costs and counts next vertices can be chosen
+--   Choosable w h l r b s    == a sheet posed with a job to b, by whose costs and counts next vertices can be chosen: a
+--                               move leads on from each vertex on the way before b
 use Prim.Native.Nat.{ℕ, suc, _≤_, _<_}
 use mathlib.Core.Path.{_≡_}
 use mathlib.Core.Bool.{Bool, true, false, _&&_}
@@ -34,11 +35,14 @@ use Rattle.sight.specs.Sight.{pinch}
 use Rattle.moves.specs.declared.Rows.{Rows}
 use Rattle.paths.specs.Graph.{Graph}
 use Rattle.paths.specs.Distance.{unreachable}
+use Rattle.paths.specs.Route.{onShortest}
 use Rattle.paths.specs.Sheet.{Sheet, sheetOf}
+use Rattle.paths.specs.Onward.{Leads}
 use Rattle.paths.specs.Local.{countAt, rightPoint, rightRoute, entry, Shaped, localOn, rightNext, byNext, blankAt}
+use Rattle.grid.specs.Grid.{floorGraph}
 use Rattle.grid.specs.Known.{GoodJob}
 use Rattle.neighbours.specs.Least.{rightCostIn}
-use Rattle.neighbours.specs.Choice.{Counted}
+use Rattle.neighbours.specs.Choice.{traversalOf, Counted}
 
 abbrev pub numbersOf : List ℕ → List ℕ → List ℕ → List ℕ → Sheet
 numbersOf d e f b = sheetOf d e f b [] [] 0
@@ -115,3 +119,6 @@ pub record Choosable (w h : ℕ) (l : List ℕ) (r : Rows) (b : ℕ) (s : Sheet)
   pub counted : Counted (length (s .d)) (s .f) (s .b)
   pub pinches : PinchesFar (floorOf w h l) (s .d)
   pub near : entry (s .d) b < unreachable
+  pub leads : (v : ℕ) → v < vertices w h
+      → Leads (floorGraph (floorOf w h l) r) (onShortest (entry (s .d)) (entry (s .e)) b) (entry (s .d))
+      (traversalOf (s .f) (s .b)) b v

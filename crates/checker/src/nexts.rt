@@ -9,11 +9,10 @@ ghost use Rattle.offsets.specs.Offsets.{Shifts};
 ghost use Rattle.paths.specs.Local.{rightNext};
 ghost use Rattle.grid.specs.Grid.{floorGraph};
 ghost use Rattle.neighbours.specs.Reading.{maskGraph};
-ghost use Rattle.neighbours.specs.Choice.{Choosing, Counted};
+ghost use Rattle.neighbours.specs.Choice.{Choosing, Counted, LeadsBy};
 ghost use Rattle.checker.specs.Tests.{chosenOf, nextRowTest, nextsTest, Choosable};
 use floor::Vertex;
 use moves::Rows;
-use neighbours::Next;
 
 // A vertex number of 16 bits as an index.
 fn index(x: u16) -> usize
@@ -22,7 +21,8 @@ fn index(x: u16) -> usize
     x as usize
 }
 
-// The next vertex of v is right: by the central rule on the way before b, b at b, and 0 off the way.
+// The next vertex of v is right: by the central rule on the way before b, where a move leads on, b at b, and 0 off the
+// way.
 fn next_right(
     rows: Rows,
     shifts: &[usize],
@@ -36,6 +36,7 @@ fn next_right(
     v: usize,
 ) -> bool
     requires { ⌜ Choosing rows (now shifts) mask (now d) (now e) b v × Counted (length (now d)) (now f) (now back)
+        × LeadsBy rows (now shifts) mask (now d) (now e) (now f) (now back) b v
         × (length (now next) ≡ length (now d)) ⌝ }
     ensures { λ r. ⌜ r ≡ rightNext (maskGraph (length (now (d .entry))) rows (now (shifts .entry)) mask) b
         (chosenOf (now (d .entry)) (now (e .entry)) (now (f .entry)) (now (back .entry)) (now (next .entry))) v ⌝ }
@@ -47,10 +48,7 @@ fn next_right(
     if v == b {
         return x == b;
     }
-    let Next::To(w) = neighbours::next_at(rows, shifts, mask, d, e, f, back, b, v) else {
-        return false;
-    };
-    x == w.0
+    x == neighbours::next_at(rows, shifts, mask, d, e, f, back, b, v).0
 }
 
 // The next vertices of row y are right, by the moves that leave each; where none is on the way, no move is asked for.

@@ -1,8 +1,9 @@
 -- What is said of a vertex v by its moves alone is the same on two graphs that agree at v.
 --
 --   Agrees g h v   == the graphs have the same moves at the same costs, and each leads from v to the same vertex
+--   leads-cong     == where two graphs have the same candidates of v, a move leads on from v on both or on neither
 use Prim.Native.Nat.{ℕ, zero, suc, _+_, _<_}
-use mathlib.Core.Path.{_≡_, refl, ap, ap₂, _∙_}
+use mathlib.Core.Path.{_≡_, refl, sym, ap, ap₂, _∙_}
 use mathlib.Core.Bool.{Bool, true, false, _&&_, _||_}
 use mathlib.Core.Option.{Option, none, some}
 use native.Mathlib.Omega.{arith}
@@ -12,6 +13,7 @@ use Rattle.basics.proofs.Bounded.{every-cong}
 use Rattle.basics.proofs.Sums.{sum-cong}
 use Rattle.paths.specs.Graph.{Graph}
 use Rattle.paths.specs.Route.{candidate, better, best, nextVertex}
+use Rattle.paths.specs.Onward.{Leads}
 use Rattle.paths.specs.Local.{tight, inflow, countAt}
 use Rattle.neighbours.specs.Reading.{tightBy, inflowBy}
 use Rattle.neighbours.specs.Least.{relaxedBy, relaxedIn, rightCostIn}
@@ -30,6 +32,20 @@ pub best-cong : (T : ℕ → ℕ) (n : ℕ) (c e : ℕ → Option ℕ) → ((k :
 unfolding best
 best-cong T zero c e h = refl
 best-cong T (suc n) c e h = ap₂ (better T) (best-cong T n c e (λ k l. h k (omega arith))) (h n (omega arith))
+
+pub leads-cong : {g h : Graph} {on : ℕ → Bool} {D T : ℕ → ℕ} {b v : ℕ} → g .moves ≡ h .moves
+    → ((m : ℕ) → m < g .moves → candidate g on D v m ≡ candidate h on D v m) → Leads g on D T b v → Leads h on D T b v
+leads-cong moves same k = record {
+  onward = λ o ne.
+      let r = k .onward o ne in
+      record {
+        move = r .move;
+        to = r .to;
+        below = omega (arith, r .below);
+        leads = sym (same (r .move) (r .below)) ∙ r .leads;
+        counted = r .counted;
+      };
+}
 
 -- What `candidate` makes of a far end and a cost.
 abbrev chosen : (ℕ → Bool) → (ℕ → ℕ) → ℕ → Option ℕ → ℕ → Option ℕ
@@ -66,9 +82,15 @@ module _ {g h : Graph} {v : ℕ} (s : Agrees g h v) (D : ℕ → ℕ) where
   unfolding countAt
   countAt-agrees a on F = rw (inflow-agrees F)
 
+  candidate-agrees : (on : ℕ → Bool) (m : ℕ) → m < g .moves → candidate g on D v m ≡ candidate h on D v m
+  unfolding candidate
+  candidate-agrees on m l = ap₂ (chosen on D v) (s .step m l) (s .cost m l)
+
   pub nextVertex-agrees : (on : ℕ → Bool) (T : ℕ → ℕ) → nextVertex g on D T v ≡ nextVertex h on D T v
-  unfolding nextVertex candidate
+  unfolding nextVertex
   nextVertex-agrees on T =
-      best-cong T (g .moves) (candidate g on D v) (candidate h on D v)
-      (λ m l. ap₂ (chosen on D v) (s .step m l) (s .cost m l))
+      best-cong T (g .moves) (candidate g on D v) (candidate h on D v) (candidate-agrees on)
       ∙ ap (best T (candidate h on D v)) (s .moves)
+
+  pub leads-agrees : {on : ℕ → Bool} {T : ℕ → ℕ} {b : ℕ} → Leads h on D T b v → Leads g on D T b v
+  leads-agrees {on} = leads-cong (sym (s .moves)) (λ m l. sym (candidate-agrees on m (omega (arith, s .moves))))

@@ -1,10 +1,14 @@
 -- A loop over the candidates for the next vertex that keeps the best, and what a move's far end has to meet to be one.
 --
---   BestScan T c n k r x   == r is the best of the first k candidates of n, as the code answers it, and x its count
+--   BestScan T c n k r x   == x is the highest count of the first k candidates of n, 0 where there is none, and r the
+--                             best of them where x is positive
+--   best-start, -off, -lower, -higher == so it is at the start, and after a move without a candidate, with one of no
+--                             higher count, and with one of a higher count
+--   best-end               == the best of all, where one has a positive count
 --   OffScan d e goal i v n == n is 0 only where the vertices from i to v are not on the way
 --   off-start, -more, -end == so it is at the start and after the test of one more was added; what it says at the end
 use Prim.Native.Nat.{ℕ, suc, _+_, _≤_, _<_}
-use mathlib.Core.Path.{_≡_, refl, sym, ap, _∙_, subst}
+use mathlib.Core.Path.{_≡_, refl, sym, _∙_, subst}
 use mathlib.Core.Bool.{Bool, true, false, _&&_, not, and-false}
 use mathlib.Core.Logic.{⊎-elim}
 use mathlib.Core.List.{List}
@@ -20,22 +24,19 @@ use Rattle.paths.specs.Graph.{Graph}
 use Rattle.paths.specs.Distance.{unreachable}
 use Rattle.paths.specs.Route.{onShortest, candidate, better, best}
 use Rattle.paths.specs.Local.{entry}
-use Rattle.neighbours.specs.declared.Next.{Next}
-use Rattle.neighbours.specs.declared.Next.the-variants.{To, Stuck}
-use Rattle.neighbours.specs.Choice.{OffWay, followsBy, nextFrom}
-use Rattle.neighbours.proofs.Steps.{next-stuck, next-to}
+use Rattle.paths.proofs.Choice.{Best, best-is, better-first, better-later}
+use Rattle.neighbours.specs.Choice.{OffWay, followsBy}
 
-abbrev pub toVertex : ℕ → Next
-toVertex w = To (record { 0 = w })
+-- ---- the best of the candidates
 
-pub record BestScan (T : ℕ → ℕ) (c : ℕ → Option ℕ) (n k : ℕ) (r : Next) (x : ℕ) : Type 0 where
+pub record BestScan (T : ℕ → ℕ) (c : ℕ → Option ℕ) (n k r x : ℕ) : Type 0 where
   pub within : k ≤ n
-  pub is : r ≡ nextFrom (best T c k)
-  pub count : (w : ℕ) → best T c k ≡ some w → x ≡ T w
+  pub highest : (i w : ℕ) → i < k → c i ≡ some w → T w ≤ x
+  pub is : 0 < x → (best T c k ≡ some r) × (x ≡ T r)
 
-best-next : (T : ℕ → ℕ) (c : ℕ → Option ℕ) (k : ℕ) → best T c (k + 1) ≡ better T (best T c k) (c k)
+best-more : (T : ℕ → ℕ) (c : ℕ → Option ℕ) (k : ℕ) → best T c (k + 1) ≡ better T (best T c k) (c k)
 unfolding best
-best-next T c k = rw add-one
+best-more T c k = rw add-one
 
 better-none : (T : ℕ → ℕ) (o : Option ℕ) → better T o none ≡ o
 unfolding better
@@ -43,54 +44,57 @@ better-none T none = refl
 better-none T (some u) = refl
 
 module _ {T : ℕ → ℕ} {c : ℕ → Option ℕ} {n : ℕ} where
-  pub best-start : BestScan T c n 0 Stuck 0
-  unfolding best nextFrom
-  best-start = record { within = omega arith; is = refl; count = λ w e. none-some e }
-
-  keep : {k x : ℕ} {r : Next} → BestScan T c n k r x → k < n → best T c (k + 1) ≡ best T c k → BestScan T c n
-      (k + 1) r x
-  keep {k} {x} {r} h l e = record {
+  pub best-start : {r : ℕ} → BestScan T c n 0 r 0
+  best-start = record {
     within = omega arith;
-    is = rw e (h .is);
-    count = λ w q. h .count w (sym e ∙ q);
+    highest = λ i w l e. absurd (omega arith);
+    is = λ h. absurd (omega arith);
   }
 
-  take : {k : ℕ} (w x : ℕ) → k < n → x ≡ T w → best T c (k + 1) ≡ some w → BestScan T c n (k + 1) (toVertex w) x
-  unfolding nextFrom
-  take {k} w x l xe e = record {
-    within = omega arith;
-    is = rw e;
-    count = λ u q. let s : w ≡ u = cc in xe ∙ ap T s;
-  }
+  module _ {k r x : ℕ} (b : BestScan T c n k r x) (l : k < n) where
+    -- No count of the first k + 1 candidates is above y, where none of the first k is above x, nor that of the next.
+    highest-more : (y : ℕ) → x ≤ y → ((w : ℕ) → c k ≡ some w → T w ≤ y)
+        → (i w : ℕ) → i < k + 1 → c i ≡ some w → T w ≤ y
+    highest-more y le here i w h e = ⊎-elim (λ lt. omega (arith, b .highest i w lt e))
+        (λ ge. here w (subst (λ z. c z ≡ some w) (omega arith) e)) (le-or-lt (suc i) k)
 
-  pub best-off : {k x : ℕ} {r : Next} → BestScan T c n k r x → k < n → c k ≡ none → BestScan T c n (k + 1) r x
-  best-off {k} h l e = keep h l (best-next T c k ∙ rw e (better-none T (best T c k)))
+    pub best-off : c k ≡ none → BestScan T c n (k + 1) r x
+    best-off e = record {
+      within = omega arith;
+      highest = highest-more x (omega arith) (λ w q. none-some (sym e ∙ q));
+      is = λ h. (best-more T c k ∙ rw e (better-none T (best T c k)) ∙ b .is h .0, b .is h .1);
+    }
 
-  module _ {k h : ℕ} {r : Next} (w x : ℕ) (b : BestScan T c n k r h) (l : k < n) (is : c k ≡ some w)
-      (counts : x ≡ T w) where
-    pub best-first : r ≡ Stuck → BestScan T c n (k + 1) (toVertex w) x
-    unfolding better
-    best-first e =
-        let q : best T c k ≡ none = next-stuck (best T c k) (sym (b .is) ∙ e) in
-        take w x l counts (best-next T c k ∙ rw (q, is))
+    module _ (w y : ℕ) (is : c k ≡ some w) (counts : y ≡ T w) where
+      pub best-lower : y ≤ x → BestScan T c n (k + 1) r x
+      best-lower le = record {
+        within = omega arith;
+        highest = highest-more x (omega arith) (λ u q. let s : u ≡ w = cc in rw s (omega arith));
+        is = λ h.
+            let p = b .is h in
+            (best-more T c k ∙ rw (p .0, is) (better-first T c r w (omega arith)), p .1);
+      }
 
-    module _ (u : ℕ) (to : r ≡ toVertex u) where
-      was : best T c k ≡ some u
-      was = next-to (best T c k) u (sym (b .is) ∙ to)
-
-      pub best-higher : h < x → BestScan T c n (k + 1) (toVertex w) x
+      pub best-higher : x < y → BestScan T c n (k + 1) w y
       unfolding better
-      best-higher lt =
-          take w x l counts (best-next T c k ∙ rw (was, is)
-          (rw (lt-ltb (T u) (T w) (omega (arith, b .count u was)), better)))
+      best-higher lt = record {
+        within = omega arith;
+        highest = highest-more y (omega arith) (λ u q. let s : u ≡ w = cc in rw s (omega arith));
+        is = λ h. (best-more T c k ∙ cases (best T c k) (λ u q. best-is T c k u q), counts);
+      }
+        where
+          cases : (o : Option ℕ) → ((u : ℕ) → o ≡ some u → Best T c k u) → better T o (c k) ≡ some w
+          cases none first = is
+          cases (some u) first =
+              let p = first u refl in
+              rw is (better-later T c u w (omega (arith, b .highest (p .place) u (p .below) (p .here))))
 
-      pub best-lower : x ≤ h → BestScan T c n (k + 1) r h
-      unfolding better
-      best-lower ge =
-          keep b l (best-next T c k ∙ rw (was, is) (rw (le-ltb (T u) (T w) (omega (arith, b .count u was)), better)))
-
-  pub best-end : {k x : ℕ} {r : Next} → BestScan T c n k r x → n ≤ k → r ≡ nextFrom (best T c n)
-  best-end {k} h l = let e : k ≡ n = omega (arith, h .within) in rw e at (h .is)
+  -- At the end, where some candidate has a positive count.
+  pub best-end : {k r x : ℕ} → BestScan T c n k r x → n ≤ k → (i w : ℕ) → i < n → c i ≡ some w → 0 < T w
+      → best T c n ≡ some r
+  best-end {k} {r} {x} b h i w l e pos =
+      let same : k ≡ n = omega (arith, b .within) in
+      rw same at (b .is (omega (arith, b .highest i w (omega arith) e)) .0)
 
 -- ---- on the way, and candidates
 

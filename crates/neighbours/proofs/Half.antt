@@ -7,25 +7,27 @@
 --   far-of, half-far   == where every cost passes the test on g, or on h, a vertex that has P is unreached
 --   half-costs         == the test of every cost is the same
 --   counts-half, next-half == where these vertices are unreached, so are a count and the next vertex
+--   leads-half         == and a move leads on from v on h where one does on g
 use Prim.Native.Nat.{ℕ, zero, suc, _+_, _≤_, _<_}
-use mathlib.Core.Path.{_≡_, refl, sym, ap, ap₂, _∙_}
+use mathlib.Core.Path.{_≡_, refl, sym, ap, _∙_}
 use mathlib.Core.Bool.{Bool, true, false, _&&_, _||_}
-use mathlib.Core.Logic.{_⊎_, inl, inr, ⊎-elim}
+use mathlib.Core.Logic.{_⊎_, ⊎-elim}
 use mathlib.Core.Option.{Option, none, some}
 use native.Mathlib.Omega.{arith}
 use borrow.Author.Tests.{leb-true, le-leb, eqb-true, ne-eqb}
-use lib.Dec.{leb, ltb, eqb}
+use lib.Dec.{leb, eqb}
 use Rattle.basics.specs.Bounded.{every, any, sum}
 use Rattle.basics.proofs.Bools.{iff-eq, and-left, and-right, or-cases, true-or-false, not-both}
-use Rattle.basics.proofs.Bounded.{every-all, every-at, every-cong, any-cases}
+use Rattle.basics.proofs.Bounded.{every-all, every-at, every-cong}
 use Rattle.basics.proofs.Sums.{sum-cong}
 use Rattle.paths.specs.Graph.{Graph}
 use Rattle.paths.specs.Distance.{unreachable}
-use Rattle.paths.specs.Route.{candidate, best, better, nextVertex}
+use Rattle.paths.specs.Route.{candidate, best, nextVertex}
+use Rattle.paths.specs.Onward.{Leads}
 use Rattle.paths.specs.Local.{given, if-there, is-there, when-eq, tight, inflow, countAt}
 use Rattle.paths.proofs.Neighbours.{when-no}
 use Rattle.neighbours.specs.Reading.{tightBy, inflowBy}
-use Rattle.neighbours.proofs.Agree.{any-cong, best-cong}
+use Rattle.neighbours.proofs.Agree.{any-cong, best-cong, leads-cong}
 use Rattle.neighbours.specs.Least.{relaxedBy, relaxedIn, rightCostIn}
 
 pub record HalfOf (P : ℕ → Bool) (g h : Graph) (a : ℕ) : Type 0 where
@@ -121,16 +123,23 @@ module _ {P : ℕ → Bool} {g h : Graph} {a : ℕ} (H : HalfOf P g h a) (D : �
     counts-half c on F = rw (inflow-half F)
 
     -- The next vertex, where no unreached vertex is on the way.
-    pub next-half : (on : ℕ → Bool) (T : ℕ → ℕ) → ((w : ℕ) → D w ≡ unreachable → on w ≡ false)
-        → nextVertex g on D T v ≡ nextVertex h on D T v
-    unfolding nextVertex candidate
-    next-half on T off =
-        best-cong T (g .moves) (candidate g on D v) (candidate h on D v) (λ m l.
-        step-same (λ c o. elim o [
-          | none ↦ none
-          | some w ↦ elim (on w && eqb (D w) (D v + c)) [ true ↦ some w | false ↦ none ]
-        ]) m l (λ w e. rw (off w e)))
-        ∙ ap (best T (candidate h on D v)) (sym (H .moves))
+    module _ (on : ℕ → Bool) (off : (w : ℕ) → D w ≡ unreachable → on w ≡ false) where
+      candidate-half : (m : ℕ) → m < g .moves → candidate g on D v m ≡ candidate h on D v m
+      unfolding candidate
+      candidate-half m l =
+          step-same (λ c o. elim o [
+            | none ↦ none
+            | some w ↦ elim (on w && eqb (D w) (D v + c)) [ true ↦ some w | false ↦ none ]
+          ]) m l (λ w e. rw (off w e))
+
+      pub next-half : (T : ℕ → ℕ) → nextVertex g on D T v ≡ nextVertex h on D T v
+      unfolding nextVertex
+      next-half T =
+          best-cong T (g .moves) (candidate g on D v) (candidate h on D v) candidate-half
+          ∙ ap (best T (candidate h on D v)) (sym (H .moves))
+
+      pub leads-half : {T : ℕ → ℕ} {b : ℕ} → Leads g on D T b v → Leads h on D T b v
+      leads-half = leads-cong (sym (H .moves)) candidate-half
 
     right-half : rightCostIn g a D v ≡ rightCostIn h a D v
     unfolding rightCostIn

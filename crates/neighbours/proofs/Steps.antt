@@ -1,4 +1,4 @@
--- What a far end and a next vertex, as the code answers them, say.
+-- What a far end, as the code answers it, says.
 use Prim.Native.Nat.{ℕ}
 use mathlib.Core.Path.{_≡_, refl, ap}
 use mathlib.Core.Option.{Option, none, some}
@@ -6,8 +6,6 @@ use native.Mathlib.Omega.{arith}
 use Rattle.floor.specs.declared.Vertex.{Vertex}
 use Rattle.offsets.specs.declared.OpenEnd.the-variants.{At, Shut}
 use Rattle.offsets.specs.Offsets.{endOf}
-use Rattle.neighbours.specs.declared.Next.the-variants.{To, Stuck}
-use Rattle.neighbours.specs.Choice.{nextFrom}
 
 pub end-shut : (o : Option ℕ) → endOf o ≡ Shut → o ≡ none
 unfolding endOf
@@ -18,15 +16,4 @@ pub end-at : (o : Option ℕ) (w : ℕ) → endOf o ≡ At (record { 0 = w }) �
 unfolding endOf
 end-at none w e = let z : _≡_ {A = ℕ} 0 1 = cc in absurd (omega arith)
 end-at (some u) w e =
-    let q : _≡_ {A = Vertex} (record { 0 = u }) (record { 0 = w }) = cc in ap (λ (x : Vertex). some (x .0)) q
-
-pub next-stuck : (o : Option ℕ) → nextFrom o ≡ Stuck → o ≡ none
-unfolding nextFrom
-next-stuck none e = refl
-next-stuck (some w) e = let z : _≡_ {A = ℕ} 0 1 = cc in absurd (omega arith)
-
-pub next-to : (o : Option ℕ) (w : ℕ) → nextFrom o ≡ To (record { 0 = w }) → o ≡ some w
-unfolding nextFrom
-next-to none w e = let z : _≡_ {A = ℕ} 0 1 = cc in absurd (omega arith)
-next-to (some u) w e =
     let q : _≡_ {A = Vertex} (record { 0 = u }) (record { 0 = w }) = cc in ap (λ (x : Vertex). some (x .0)) q

@@ -7,19 +7,19 @@
 --   followsBy on D v w c           == what `candidate` tests of the far end w of a move that costs c
 --   candidateOf, traversalOf       == `candidate` and the traversal count, by the slices
 --   nextOf r s mask d e f b goal v == `nextVertex`, by the slices
---   nextFrom o                     == the next vertex as the code answers it
+--   OnwardBy r s mask d e f b goal v == some move leads on from v, by the slices (`Onward` of paths)
+--   LeadsBy r s mask d e f b goal v  == so it is where v is on the way and not the goal (`Leads` of paths)
 use Prim.Native.Nat.{ℕ, _+_, _*_, _^_, _≤_, _<_}
 use mathlib.Core.Path.{_≡_}
 use mathlib.Core.Bool.{Bool, false, _&&_}
 use mathlib.Core.List.{List}
-use mathlib.Core.Option.{Option, none, some}
+use mathlib.Core.Option.{Option}
 use lib.Dec.{eqb}
 use lib.ListN.{length}
 use Rattle.paths.specs.Route.{onShortest, candidate, nextVertex}
+use Rattle.paths.specs.Onward.{Onward, Leads}
 use Rattle.paths.specs.Local.{entry}
 use Rattle.moves.specs.declared.Rows.{Rows}
-use Rattle.neighbours.specs.declared.Next.{Next}
-use Rattle.neighbours.specs.declared.Next.the-variants.{To, Stuck}
 use Rattle.neighbours.specs.Reading.{maskGraph, Readable}
 
 pub record Choosing (r : Rows) (s : List ℕ) (mask : ℕ) (d e : List ℕ) (goal v : ℕ) : Type 0 where
@@ -49,6 +49,10 @@ abbrev pub nextOf : Rows → List ℕ → ℕ → List ℕ → List ℕ → List
 nextOf r s mask d e f b goal =
     nextVertex (maskGraph (length d) r s mask) (onShortest (entry d) (entry e) goal) (entry d) (traversalOf f b)
 
-unfoldable pub nextFrom : Option ℕ → Next
-nextFrom none = Stuck
-nextFrom (some v) = To (record { 0 = v })
+abbrev pub OnwardBy : Rows → List ℕ → ℕ → List ℕ → List ℕ → List ℕ → List ℕ → ℕ → ℕ → Type 0
+OnwardBy r s mask d e f b goal =
+    Onward (maskGraph (length d) r s mask) (onShortest (entry d) (entry e) goal) (entry d) (traversalOf f b)
+
+abbrev pub LeadsBy : Rows → List ℕ → ℕ → List ℕ → List ℕ → List ℕ → List ℕ → ℕ → ℕ → Type 0
+LeadsBy r s mask d e f b goal =
+    Leads (maskGraph (length d) r s mask) (onShortest (entry d) (entry e) goal) (entry d) (traversalOf f b) goal

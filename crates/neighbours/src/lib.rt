@@ -6,6 +6,7 @@
 // that leave it. The shifts are lent, since an array passed by value would be copied at each vertex.
 ghost use mathlib.Core.Path.{_≡_};
 ghost use mathlib.Core.Bool.{_&&_, true, false};
+ghost use mathlib.Core.Option.{some};
 ghost use Prim.Native.Nat.{_<_, _≤_, _^_};
 ghost use lib.ListN.{length};
 ghost use Rattle.basics.specs.Bounded.{pick};
@@ -17,7 +18,7 @@ ghost use Rattle.paths.specs.Local.{entry, inflow};
 ghost use Rattle.neighbours.specs.Reading.{readStep, maskGraph, Readable, sumOf};
 ghost use Rattle.neighbours.specs.Least.{endAt, lesserOf, leastBy, leastTwo, rightBy, rightNear};
 ghost use Rattle.neighbours.specs.Least.{ClassLent, Near};
-ghost use Rattle.neighbours.specs.Choice.{Choosing, Counted, OffWay, followsBy, traversalOf, nextOf, nextFrom};
+ghost use Rattle.neighbours.specs.Choice.{Choosing, Counted, OnwardBy, OffWay, followsBy, traversalOf, nextOf};
 use floor::Vertex;
 use moves::Rows;
 use offsets::Class;
@@ -30,12 +31,6 @@ const NOWHERE: u64 = 4294967296;
 pub enum Sum {
     Is(u64),
     Over,
-}
-
-// Where the central route goes from a vertex.
-pub enum Next {
-    To(Vertex),
-    Stuck,
 }
 
 // A cost in 64 bits, where a sum of two fits.
@@ -278,7 +273,8 @@ fn traversal_at(f: &[u64], b: &[u64], v: usize) -> u64
     f[v] * b[v]
 }
 
-// Where the central route goes from v, by the costs d and e and the counts f and b.
+// Where the central route goes from v, by the costs d and e and the counts f and b: of the candidates with the highest
+// traversal count the first. There is one, since a move leads on from v: some candidate has a positive count.
 pub fn next_at(
     rows: Rows,
     shifts: &[usize],
@@ -289,12 +285,13 @@ pub fn next_at(
     b: &[u64],
     goal: usize,
     v: usize,
-) -> Next
-    requires { ⌜ Choosing rows (now shifts) mask (now d) (now e) goal v × Counted (length (now d)) (now f) (now b) ⌝ }
-    ensures { λ r. ⌜ r ≡ nextFrom (nextOf rows (now (shifts .entry)) mask
-        (now (d .entry)) (now (e .entry)) (now (f .entry)) (now (b .entry)) goal v) ⌝ }
+) -> Vertex
+    requires { ⌜ Choosing rows (now shifts) mask (now d) (now e) goal v × Counted (length (now d)) (now f) (now b)
+        × OnwardBy rows (now shifts) mask (now d) (now e) (now f) (now b) goal v ⌝ }
+    ensures { λ r. ⌜ nextOf rows (now (shifts .entry)) mask
+        (now (d .entry)) (now (e .entry)) (now (f .entry)) (now (b .entry)) goal v ≡ some (r .0) ⌝ }
 {
-    let mut best = Next::Stuck;
+    let mut best = Vertex(v);
     let mut high: u64 = 0;
     for m in 0..rows.count {
         let OpenEnd::At(w) = far_end(rows, shifts, mask, v, m) else {
@@ -304,15 +301,10 @@ pub fn next_at(
             continue;
         }
         let x = traversal_at(f, b, w.0);
-        let Next::To(_) = best else {
-            best = Next::To(w);
-            high = x;
-            continue;
-        };
         if x <= high {
             continue;
         }
-        best = Next::To(w);
+        best = w;
         high = x;
     }
     best

@@ -6,7 +6,8 @@
 --   best-exact        == `best` is that one
 --   best-none         == where it gives none, there is no candidate
 --   nextVertex-exact  == so it is of the route's next vertex
---   next-same         == the choice reads its costs and counts at vertices alone, so lists of the true ones serve as well
+--   candidate-same, next-same == candidates and choice read their costs and counts at vertices alone, so lists of the
+--                        true ones serve as well
 use Prim.Native.Nat.{ℕ, zero, suc, _+_, _≤_, _<_}
 use mathlib.Core.Path.{_≡_, refl, sym, ap, ap₂, _∙_, subst}
 use mathlib.Core.Logic.{⊎-elim, _↔_}
@@ -200,10 +201,9 @@ next-inside g L on D T v w i e =
 
 -- ---- the choice reads its tests and counts at vertices alone
 
-module _ (g : Graph) (L : Lawful g) (on on′ : ℕ → Bool) (D D′ T T′ : ℕ → ℕ)
-    (same-on : (v : ℕ) → v < g .size → on v ≡ on′ v) (same-D : (v : ℕ) → v < g .size → D v ≡ D′ v)
-    (same-T : (v : ℕ) → v < g .size → T v ≡ T′ v) where
-  candidate-same : (v m : ℕ) → v < g .size → m < g .moves → candidate g on D v m ≡ candidate g on′ D′ v m
+module _ (g : Graph) (L : Lawful g) (on on′ : ℕ → Bool) (D D′ : ℕ → ℕ)
+    (same-on : (v : ℕ) → v < g .size → on v ≡ on′ v) (same-D : (v : ℕ) → v < g .size → D v ≡ D′ v) where
+  pub candidate-same : (v m : ℕ) → v < g .size → m < g .moves → candidate g on D v m ≡ candidate g on′ D′ v m
   unfolding candidate
   candidate-same v m i lt = cases (g .step m v) (λ w st. L .inside m v w lt i st)
     where
@@ -214,6 +214,9 @@ module _ (g : Graph) (L : Lawful g) (on on′ : ℕ → Bool) (D D′ T T′ : �
       cases none h = refl
       cases (some w) h = rw (same-on w (h w refl), same-D w (h w refl), same-D v i)
 
+module _ (g : Graph) (L : Lawful g) (on on′ : ℕ → Bool) (D D′ T T′ : ℕ → ℕ)
+    (same-on : (v : ℕ) → v < g .size → on v ≡ on′ v) (same-D : (v : ℕ) → v < g .size → D v ≡ D′ v)
+    (same-T : (v : ℕ) → v < g .size → T v ≡ T′ v) where
   better-same : (o p : Option ℕ) → ((w : ℕ) → o ≡ some w → w < g .size) → ((w : ℕ) → p ≡ some w → w < g .size)
       → better T o p ≡ better T′ o p
   unfolding better
@@ -229,7 +232,8 @@ module _ (g : Graph) (L : Lawful g) (on on′ : ℕ → Bool) (D D′ T T′ : �
   unfolding best
   best-same v zero i le = refl
   best-same v (suc n) i le =
-      ap₂ (better T) (best-same v n i (omega arith)) (candidate-same v n i (omega arith))
+      ap₂ (better T) (best-same v n i (omega arith))
+      (candidate-same g L on on′ D D′ same-on same-D v n i (omega arith))
       ∙ better-same (best T′ (candidate g on′ D′ v) n) (candidate g on′ D′ v n)
       (λ w e. let r = best-is T′ (candidate g on′ D′ v) n w e in
       inside-at v (r .place) w i (omega (arith, r .below)) (r .here))

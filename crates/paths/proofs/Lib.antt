@@ -13,6 +13,7 @@ pub mod Way
 pub mod CostTest
 pub mod CountTest
 pub mod Choice
+pub mod Flow
 pub mod Follow
 pub mod Route
 pub mod NextNumbers

@@ -18,6 +18,10 @@ use Rattle.paths.specs.Local.{given, if-there, is-there, when-eq, inflow
 
 -- ---- given
 
+pub given-at : (o : Option ℕ) (w : ℕ) (F : ℕ → ℕ) → o ≡ some w → given o F ≡ F w
+unfolding given
+given-at o w F e = rw e
+
 pub given-cong : (o : Option ℕ) (F G : ℕ → ℕ) → ((w : ℕ) → o ≡ some w → F w ≡ G w) → given o F ≡ given o G
 unfolding given
 given-cong none F G h = refl
@@ -62,6 +66,10 @@ when-yes a b x e = rw (eq-eqb a b e, when-eq)
 pub when-no : (a b x : ℕ) → (a ≡ b → ⊥) → when-eq a b x ≡ 0
 unfolding when-eq
 when-no a b x ne = rw (ne-eqb a b ne, when-eq)
+
+pub when-pos : (a b x : ℕ) → 0 < when-eq a b x → (a ≡ b) × (0 < x)
+when-pos a b x h =
+    ⊎-elim (λ e. (e, rw (when-yes a b x e) at h)) (λ ne. absurd (omega (arith, when-no a b x ne))) (eq-or-ne a b)
 
 pub when-cong : (a b x y : ℕ) → (a ≡ b → x ≡ y) → when-eq a b x ≡ when-eq a b y
 when-cong a b x y h =

@@ -1,7 +1,6 @@
 -- The central route: there is always a next vertex before b, and the route is a cheapest walk from a to b.
 --
---   candidate-there   == on the way before b there is a candidate for the next vertex
---   next-there        == so there is a next vertex; it is on the way, one move further from a and nearer to b
+--   next-there        == on the way before b there is a next vertex, by the equations of flow
 --   next-arrives      == the rule comes to b within as many points as there are vertices, by whatever counts T it chooses
 --   next-walk         == what it follows is a cheapest walk
 --   route-arrives, route-walk, route-length, route-begins, route-inside == the central route
@@ -15,15 +14,16 @@ use native.Mathlib.Omega.{arith}
 use lib.ListN.{length, getD}
 use Rattle.basics.proofs.Order.{eq-or-ne}
 use Rattle.paths.specs.Graph.{Graph, Lawful}
-use Rattle.paths.specs.Distance.{unreachable, distance}
-use Rattle.paths.specs.Route.{onWay, traversals, candidate, nextVertex, follow, centralRoute}
+use Rattle.paths.specs.Distance.{unreachable, distance, pathCount}
+use Rattle.paths.specs.Route.{onWay, countFrom, countTo, traversals, candidate, nextVertex, follow, centralRoute}
 use Rattle.paths.proofs.Listing.{Walk, stop, go-at, at-cost}
 use Rattle.paths.proofs.Distance.{distance-self}
-use Rattle.paths.proofs.Costs.{Tight, distance-tight}
 use Rattle.paths.proofs.Bound.{nearer, nearer-falls, nearer-lt}
 use Rattle.paths.proofs.Reverse.{distance-sym}
-use Rattle.paths.proofs.Way.{way-cases, way-start, way-forth, way-even}
-use Rattle.paths.proofs.Choice.{Candidate, Next, candidate-at, best-some, next-cases, next-inside}
+use Rattle.paths.proofs.Counts.{pathCount-pos}
+use Rattle.paths.proofs.Way.{way-cases, way-start, traversals-pos}
+use Rattle.paths.proofs.Choice.{Next, best-some, next-cases, next-inside}
+use Rattle.paths.proofs.Flow.{flow-true, flow-onward}
 use Rattle.paths.proofs.Follow.{Arrives, end, on, follow-end, follow-on, follow-length, follow-inside}
 use Rattle.paths.proofs.Follow.{arrives-begins, arrives-pos}
 
@@ -36,48 +36,19 @@ module _ (g : Graph) (L : Lawful g) (a b : ℕ) (in-a : a < g .size) (in-b : b <
 
   -- ---- a next vertex
 
-  -- By the distances from b, which are those to b, v has a tight neighbour.
-  tight-to : (v : ℕ) → v < g .size → onWay g a b v ≡ true → (v ≡ b → ⊥) → Tight g E v
-  tight-to v i o ne =
-      let p = way-cases g a b v o in
-      let s = distance-sym g L v b i in-b in
-      let t = distance-tight g L b in-b v i ne (omega arith) in
-      let q = distance-sym g L (t .to) b (t .inside) in-b in
-      record {
-        move = t .move;
-        to = t .to;
-        below = t .below;
-        inside = t .inside;
-        goes = t .goes;
-        even = omega (arith, t .even);
-      }
-
-  pub candidate-there : (v : ℕ) → v < g .size → onWay g a b v ≡ true → (v ≡ b → ⊥)
-      → (m : ℕ) × (w : ℕ) × (m < g .moves) × Candidate g (onWay g a b) D v m w
-  candidate-there v i o ne =
-      let t = tight-to v i o ne in
-      let o′ = way-forth g L a b v (t .to) (t .move) i (t .below) (t .goes) o (t .even) in (
-        t .move,
-        t .to,
-        t .below,
-        record {
-          goes = t .goes;
-          on-way = o′;
-          even = way-even g L a b v (t .to) (t .move) i (t .below) (t .goes) o o′ (t .even);
-        },
-      )
-
   module _ (T : ℕ → ℕ) where
     abbrev next : ℕ → Option ℕ
     next = nextVertex g (onWay g a b) D T
 
+    -- By the equations of flow: on the way the traversal count is positive, so that before b a move leads on.
     pub next-there : (v : ℕ) → v < g .size → onWay g a b v ≡ true → (v ≡ b → ⊥)
         → (w : ℕ) × (nextVertex g (onWay g a b) (distance g a) T v ≡ some w)
-    unfolding nextVertex
+    unfolding nextVertex traversals
     next-there v i o ne =
-        let r = candidate-there v i o ne in
-        best-some T (candidate g (onWay g a b) D v) (g .moves) (r .0) (r .1) (r .2)
-        (candidate-at g (onWay g a b) D v (r .0) (r .1) (r .3))
+        let reached = way-cases g a b v o .reached in
+        let r = flow-onward g L a b (pathCount g a b) (onWay g a b) D (countFrom g a b) (countTo g a b)
+        (flow-true g L a b in-a in-b reached) (pathCount-pos g L a b reached) v i o ne (traversals-pos g L a b v o) in
+        best-some T (candidate g (onWay g a b) D v) (g .moves) (r .move) (r .to) (r .below) (r .leads)
 
     -- ---- the rule comes to b
 

@@ -3,9 +3,12 @@
 --   numbers-exact         == `localNumbers` says so
 --   numbers-fit           == then f(v) * b(v) is at most f(B), at each vertex: a product of 64-bit numbers that fits
 --   local-on, local-next  == on the way and the next vertex, by such a sheet's numbers, are the true ones
+--   sheet-flow            == such numbers meet the equations of flow
+--   sheet-leads           == so a move leads on from each vertex on the way before b
 --   right-next            == so `rightNext` says that the next vertex of the sheet is the true one
 --   local-true, true-local       == `localRoute` passes on the true route sheet alone, among the sheets whose total fits
 --   localRoute-exact             == the two together
+--   route-flow                   == the numbers of the true route sheet meet the equations of flow
 --   local-noRoute, noRoute-local == `localNoRoute` passes on the true no-route sheet alone
 --   localNoRoute-exact           == the two together
 use Prim.Native.Nat.{ℕ, _*_, _^_, _≤_, _<_}
@@ -29,11 +32,15 @@ use Rattle.paths.specs.Route.{centralRoute, nextNumber}
 use Rattle.paths.specs.Sheet.{Sheet, routeSheet, noRouteSheet, TrueRoute, TrueNoRoute}
 use Rattle.paths.specs.Local.{rightCosts, rightCounts, entry, Shaped, localOn, localNext, localNumbers}
 use Rattle.paths.specs.Local.{is-there, rightNext, byNext, localRoute, blankAt, localNoRoute}
+use Rattle.paths.specs.Flow.{Flow}
+use Rattle.paths.specs.Onward.{Leads}
 use Rattle.paths.proofs.Reverse.{distance-sym, pathCount-sym}
-use Rattle.paths.proofs.Way.{shortest-same, way-end, countFrom-way, traversals-fit}
+use Rattle.paths.proofs.Counts.{pathCount-pos}
+use Rattle.paths.proofs.Way.{shortest-same, way-end, countFrom-way, traversals-pos, traversals-fit}
 use Rattle.paths.proofs.CostTest.{costs-true, true-costs}
 use Rattle.paths.proofs.CountTest.{Closed, closed-same, way-closed, way-closed-to, counts-true, true-counts}
 use Rattle.paths.proofs.Choice.{next-same}
+use Rattle.paths.proofs.Flow.{flow-true, flow-same, flow-onward}
 use Rattle.paths.proofs.Follow.{Arrives, follow-cong, arrives-cong}
 use Rattle.paths.proofs.Route.{next-there}
 use Rattle.paths.proofs.NextNumbers.{number-next, number-end, number-off, number-inside, numbers-arrive}
@@ -161,6 +168,23 @@ module _ (g : Graph) (L : Lawful g) (a b : ℕ) (in-a : a < g .size) (in-b : b <
         next-same g L (localOn b s) (onWay g a b) (entry (s .d)) (distance g a) (λ v. entry (s .f) v * entry (s .b) v)
         (traversals g a b) local-on (N .costs-from) product-true v i
 
+    -- ---- the flow
+
+    pub sheet-flow : Flow g a b (localOn b s) (entry (s .d)) (entry (s .f)) (entry (s .b)) (pathCount g a b)
+    sheet-flow =
+        flow-same g L (localOn b s) (onWay g a b) (entry (s .d)) (distance g a) (entry (s .f)) (countFrom g a b)
+        (entry (s .b)) (countTo g a b) local-on (N .costs-from) (N .counts-from) (N .counts-to) a b (pathCount g a b)
+        in-a in-b (flow-true g L a b in-a in-b (N .reached))
+
+    pub sheet-leads : (v : ℕ) → v < g .size
+        → Leads g (localOn b s) (entry (s .d)) (λ v. entry (s .f) v * entry (s .b) v) b v
+    sheet-leads v i = record {
+      onward = λ o ne.
+          flow-onward g L a b (pathCount g a b) (localOn b s) (entry (s .d)) (entry (s .f)) (entry (s .b)) sheet-flow
+          (pathCount-pos g L a b (N .reached)) v i o ne
+          (rw (product-true v i) (traversals-pos g L a b v (sym (local-on v i) ∙ o)));
+    }
+
     -- ---- the next vertices
 
     pub right-next : (v : ℕ) → v < g .size → rightNext g b s v ≡ eqb (entry (s .next) v) (nextNumber g a b v)
@@ -221,17 +245,26 @@ module _ (g : Graph) (L : Lawful g) (a b : ℕ) (in-a : a < g .size) (in-b : b <
             (r .count ∙ ap length (next-route N xx));
       }
 
-  pub true-local : TrueRoute g a b s → localRoute g a b s ≡ true
-  unfolding localRoute routeSheet
-  true-local S =
+  route-true-numbers : TrueRoute g a b s → TrueNumbers g a b s
+  route-true-numbers S =
       let E = route-entries g L a b in-a in-b s S in
-      let N : TrueNumbers g a b s = record {
+      record {
         reached = joined-reached g a b (S .is-joined);
         costs-from = E .d-at;
         costs-to = E .e-at;
         counts-from = E .f-at;
         counts-to = E .b-at;
-      } in
+      }
+
+  pub route-flow : TrueRoute g a b s
+      → Flow g a b (localOn b s) (entry (s .d)) (entry (s .f)) (entry (s .b)) (pathCount g a b)
+  route-flow S = sheet-flow (route-true-numbers S)
+
+  pub true-local : TrueRoute g a b s → localRoute g a b s ≡ true
+  unfolding localRoute routeSheet
+  true-local S =
+      let E = route-entries g L a b in-a in-b s S in
+      let N = route-true-numbers S in
       and-intro (localNumbers g a b s) _ (true-numbers N)
       (and-intro (every (g .size) (rightNext g b s)) _
       (every-all (g .size) (rightNext g b s) (λ v i. right-next N v i ∙ eq-eqb _ _ (E .next-at v i)))

@@ -10,6 +10,7 @@
 --   way-even           == a move between two vertices on the way that leads towards b leads as much away from a
 --   traversals-fit, countFrom-fits, countTo-fits == no traversal count passes the total, and neither factor does
 --   countFrom-way, countTo-way, traversals-way == what the sheet has for a vertex on the way
+--   traversals-pos     == there the traversal count is positive
 --   countFrom-off, countTo-off, traversals-off == and for one off it: 0
 use Prim.Native.Nat.{ℕ, _+_, _*_, _≤_, _<_}
 use mathlib.Core.Path.{_≡_, ap₂}
@@ -17,6 +18,7 @@ use mathlib.Core.Logic.{⊎-elim}
 use mathlib.Core.Bool.{true, false}
 use mathlib.Core.Option.{some}
 use native.Mathlib.Omega.{arith}
+use native.Mathlib.Nat.{mul-le-mul}
 use borrow.Author.Tests.{eqb-true, eq-eqb, ltb-true, lt-ltb}
 use lib.Dec.{ltb}
 use Rattle.basics.proofs.Bools.{and-intro, and-both, iff-eq, true-or-false}
@@ -27,6 +29,7 @@ use Rattle.paths.specs.Route.{onShortest, onWay, countFrom, countTo, tra
 use Rattle.paths.proofs.Listing.{go}
 use Rattle.paths.proofs.Distance.{distance-walk, distance-least, distance-self, triangle, distance-move}
 use Rattle.paths.proofs.Reverse.{distance-sym}
+use Rattle.paths.proofs.Counts.{pathCount-pos}
 use Rattle.paths.proofs.Through.{pathCount-through, pathCount-le-from, pathCount-le-to}
 
 pub record OnWay (g : Graph) (a b v : ℕ) : Type 0 where
@@ -86,6 +89,14 @@ module _ (g : Graph) (L : Lawful g) (a b : ℕ) where
 
   pub way-end : distance g a b < unreachable → onWay g a b b ≡ true
   way-end h = way-at g a b b (record { reached = h; even = omega (arith, distance-self g L b) })
+
+  pub traversals-pos : (v : ℕ) → onWay g a b v ≡ true → 1 ≤ traversals g a b v
+  traversals-pos v o =
+      let w = way-cases g a b v o in
+      let p = pathCount-pos g L a v (omega (arith, w .even, w .reached)) in
+      let q = pathCount-pos g L v b (omega (arith, w .even, w .reached)) in
+      let r = mul-le-mul {n₁ = 1} {m₁ = 1} {n₂ = pathCount g a v} {m₂ = pathCount g v b} p q in
+      omega (arith, traversals-way g a b v o)
 
   -- ---- counts fit where the total does
 

@@ -4,3 +4,5 @@ pub mod Distance
 pub mod Route
 pub mod Sheet
 pub mod Local
+pub mod Flow
+pub mod Onward

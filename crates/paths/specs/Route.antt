@@ -5,7 +5,8 @@
 --   countFrom g a b v     == f(v) as the sheet has it: the path count from a on the way, 0 elsewhere
 --   countTo g a b v       == b(v) likewise: the path count to b
 --   traversals g a b v    == the traversal count f(v) * b(v)
---   nextVertex g on D T v == where the route goes from v; none where it is stuck (it never is: see the laws)
+--   nextVertex g on D T v == where the route goes from v; none where it is stuck, which it never is on the way before b
+--                            (`flow-walk`, `next-there`)
 --   centralRoute g a b    == the vertices of the central route, its ends among them
 --   nextNumber g a b v    == the next vertex as the sheet has it: on the way before b that of the central rule, at b b
 --                            itself, 0 elsewhere

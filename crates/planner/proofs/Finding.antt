@@ -129,7 +129,9 @@ module _ {w h : ℕ} {map : List ℕ} {rows : Rows} {a b : ℕ} {d e f back rout
           lists = record {
             few = few;
             lawful = lawful;
+            start-in = F .finishable .job .start-in;
             goal-in = F .finishable .job .goal-in;
+            reached = F .reached;
             total = fits-total g a b (sym (K .answer));
             d-true = F .finishable .costs;
             e-true = e-true;

@@ -4,3 +4,4 @@ pub mod Finishing
 pub mod Finding
 pub mod Shaped
 pub mod Together
+pub mod Flow

@@ -1,17 +1,18 @@
 -- The next vertices, from true costs and counts and the masks.
 --
---   TrueLists g rows shifts a b d e f back work == the lists hold the true costs and counts of a job on graph g, whose
---                          total fits, and the masks
---   true-choosable      == the next vertex of every vertex can then be chosen
+--   TrueLists g rows shifts a b d e f back work == the lists hold the true costs and counts of a job on graph g that
+--                          has a route, whose total fits, and the masks
+--   true-choosable      == the next vertex of every vertex can then be chosen: on the way before b a move leads on
 --   true-numbers        == and what is chosen is the next vertex of the sheet
---   number-off, -goal, -stuck, -to == what the code finds of a vertex, said of `numberOf`
+--   number-off, -goal, -to == what the code finds of a vertex, said of `numberOf`
 --   numbered-none, -more, -off, -all == `NumberedTo` at the start, one vertex on, past vertices off the way, and at the
 --                          end
 use Prim.Native.Nat.{ℕ, suc, _+_, _*_, _^_, _≤_, _<_}
 use mathlib.Core.Path.{_≡_, sym, ap, ap₂, _∙_, subst}
 use mathlib.Core.Bool.{Bool, true, false, not}
 use mathlib.Core.Logic.{⊎-elim}
-use mathlib.Core.List.{List}
+use mathlib.Core.List.{List, []}
+use mathlib.Core.Option.{some}
 use native.Mathlib.Omega.{arith}
 use borrow.Author.Tests.{eq-eqb, ne-eqb, not-true, not-false}
 use lib.ListN.{length, set, length-set, length-replicate}
@@ -20,18 +21,18 @@ use Rattle.basics.specs.Lists.{tabulate, zeros}
 use Rattle.basics.proofs.Order.{le-or-lt}
 use Rattle.basics.proofs.Lists.{length-tabulate, getD-tabulate, getD-zeros, tabulate-of, tabulate-cong}
 use Rattle.paths.specs.Graph.{Graph, Lawful}
-use Rattle.paths.specs.Distance.{distance, pathCount}
+use Rattle.paths.specs.Distance.{unreachable, distance, pathCount}
 use Rattle.paths.specs.Route.{onShortest, onWay, countFrom, countTo, traversals, nextVertex, nextNumber}
-use Rattle.paths.specs.Local.{entry}
+use Rattle.paths.specs.Sheet.{sheetOf}
+use Rattle.paths.specs.Local.{entry, localOn}
 use Rattle.paths.proofs.Way.{shortest-same, traversals-fit}
 use Rattle.paths.proofs.Choice.{next-same, next-cases}
+use Rattle.paths.proofs.Sheets.{TrueNumbers}
+use Rattle.paths.proofs.SheetTest.{sheet-leads}
 use Rattle.moves.specs.declared.Rows.{Rows}
-use Rattle.neighbours.specs.declared.Next.{Next}
-use Rattle.neighbours.specs.declared.Next.the-variants.{To, Stuck}
 use Rattle.neighbours.specs.Reading.{maskGraph}
-use Rattle.neighbours.specs.Choice.{traversalOf, nextOf, nextFrom, Choosing, OffWay}
-use Rattle.neighbours.proofs.Steps.{next-stuck, next-to}
-use Rattle.neighbours.proofs.Agree.{nextVertex-agrees}
+use Rattle.neighbours.specs.Choice.{traversalOf, nextOf, Choosing, OffWay, LeadsBy}
+use Rattle.neighbours.proofs.Agree.{nextVertex-agrees, leads-agrees}
 use Rattle.workspace.specs.Regions.{maskAt, Masked}
 use Rattle.planner.specs.Parts.{numberOf, numberAt, Choosable, NumberedTo}
 
@@ -40,7 +41,9 @@ use Rattle.planner.specs.Parts.{numberOf, numberAt, Choosable, NumberedT
 pub record TrueLists (g : Graph) (rows : Rows) (shifts : List ℕ) (a b : ℕ) (d e f back work : List ℕ) : Type 0 where
   pub few : g .size ≤ 16384
   pub lawful : Lawful g
+  pub start-in : a < g .size
   pub goal-in : b < g .size
+  pub reached : distance g a b < unreachable
   pub total : pathCount g a b < 2 ^ 64
   pub d-true : d ≡ tabulate (g .size) (distance g a)
   pub e-true : e ≡ tabulate (g .size) (λ v. distance g v b)
@@ -70,6 +73,22 @@ module _ {g : Graph} {rows : Rows} {shifts : List ℕ} {a b : ℕ} {d e f back w
       shortest-same (entry d) (distance g a) (entry e) (λ w. distance g w b) b u (at _ (T .d-true) u i)
       (at _ (T .e-true) u i) (at _ (T .d-true) b (T .goal-in))
 
+  numbers : TrueNumbers g a b (sheetOf d e f back [] [] 0)
+  numbers = record {
+    reached = T .reached;
+    costs-from = at _ (T .d-true);
+    costs-to = at _ (T .e-true);
+    counts-from = at _ (T .f-true);
+    counts-to = at _ (T .back-true);
+  }
+
+  -- By the equations of flow.
+  leads-at : (v : ℕ) → v < g .size → LeadsBy rows shifts (maskAt (length d) work v) d e f back b v
+  unfolding localOn
+  leads-at v i =
+      rw d-len (leads-agrees (T .masked .shows v i .agrees) (entry d)
+      (sheet-leads g (T .lawful) a b (T .start-in) (T .goal-in) (sheetOf d e f back [] [] 0) numbers v i))
+
   pub true-choosable : Choosable rows shifts b d e f back work
   true-choosable = record {
     few = omega (arith, d-len, T .few);
@@ -89,6 +108,7 @@ module _ {g : Graph} {rows : Rows} {shifts : List ℕ} {a b : ℕ} {d e f back w
         T .total,
       );
     };
+    leads = λ v i. leads-at v (omega (arith, d-len));
   }
 
   module _ (v : ℕ) (i : v < g .size) where
@@ -125,20 +145,12 @@ module _ {rows : Rows} {shifts : List ℕ} {mask b : ℕ} {d e : List ℕ} (f ba
     pub number-goal : v ≡ b → (b ≡ numberOf rows shifts mask b d e f back v) × (b < length d)
     number-goal q = (rw (way, eq-eqb v b q), C .goal-in)
 
-    module _ (ne : v ≡ b → ⊥) {s : Next} (is : s ≡ nextFrom (nextOf rows shifts mask d e f back b v)) where
-      pub number-stuck : s ≡ Stuck → (0 ≡ numberOf rows shifts mask b d e f back v) × (0 < length d)
-      number-stuck q = (
-        rw (way, ne-eqb v b ne, next-stuck (nextOf rows shifts mask d e f back b v) (sym is ∙ q)),
-        omega (arith, C .readable .vertex),
-      )
-
-      pub number-to : (w : ℕ) → s ≡ To (record { 0 = w })
-          → (w ≡ numberOf rows shifts mask b d e f back v) × (w < length d)
-      number-to w q =
-          let there = next-to (nextOf rows shifts mask d e f back b v) w (sym is ∙ q) in
-          let c = next-cases (maskGraph (length d) rows shifts mask) (onShortest (entry d) (entry e) b) (entry d)
-          (traversalOf f back) v w there in
-          (rw (way, ne-eqb v b ne, there), C .readable .inside (c .move) w (c .below) (c .by .goes))
+    pub number-to : (v ≡ b → ⊥) → (w : ℕ) → nextOf rows shifts mask d e f back b v ≡ some w
+        → (w ≡ numberOf rows shifts mask b d e f back v) × (w < length d)
+    number-to ne w there =
+        let c = next-cases (maskGraph (length d) rows shifts mask) (onShortest (entry d) (entry e) b) (entry d)
+        (traversalOf f back) v w there in
+        (rw (way, ne-eqb v b ne, there), C .readable .inside (c .move) w (c .below) (c .by .goes))
 
 -- ---- every vertex
 

@@ -4,7 +4,8 @@
 --
 --   numberOf r s mask b d e f back v == `nextNumber`, by the slices and the mask of v
 --   numberAt r s b d e f back work v == the same, by the mask of v in the working slice
---   Choosable r s b d e f back work  == the slices have what the next vertex of every vertex is chosen by
+--   Choosable r s b d e f back work  == the slices have what the next vertex of every vertex is chosen by, and from
+--                                each on the way before b a move leads on
 --   NumberedTo .. v next      == the list has the next vertices of the vertices before v, and 0 from there on
 --   Walkable g a b next route == the lists hold the next vertices of a job on graph g that has a route, and a route
 --                                that is all 0
@@ -35,7 +36,7 @@ use Rattle.paths.specs.Local.{entry, Shaped}
 use Rattle.grid.specs.Grid.{floorGraph}
 use Rattle.grid.specs.Known.{GoodJob}
 use Rattle.grid.specs.declared.Job.the-variants.{Fit}
-use Rattle.neighbours.specs.Choice.{Choosing, Counted, nextOf}
+use Rattle.neighbours.specs.Choice.{Choosing, Counted, nextOf, LeadsBy}
 use Rattle.workspace.specs.Regions.{maskAt, MasksIn}
 use Rattle.planner.specs.declared.Costed.{Costed}
 use Rattle.planner.specs.declared.Planned.{Planned}
@@ -54,6 +55,7 @@ pub record Choosable (rows : Rows) (shifts : List ℕ) (b : ℕ) (d e f back wor
   pub work-len : length work ≡ 4 * length d
   pub choosing : (v : ℕ) → v < length d → Choosing rows shifts (maskAt (length d) work v) d e b v
   pub counted : Counted (length d) f back
+  pub leads : (v : ℕ) → v < length d → LeadsBy rows shifts (maskAt (length d) work v) d e f back b v
 
 pub record NumberedTo (rows : Rows) (shifts : List ℕ) (b : ℕ) (d e f back work : List ℕ) (v : ℕ) (next : List ℕ)
     : Type 0 where

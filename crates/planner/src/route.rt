@@ -4,16 +4,15 @@ ghost use Prim.Native.Nat.{_≤_, _<_};
 ghost use lib.ListN.{length};
 ghost use Rattle.basics.specs.Lists.{tabulate, zeros};
 ghost use Rattle.paths.specs.Graph.{Graph};
-ghost use Rattle.neighbours.specs.Choice.{Choosing, Counted};
+ghost use Rattle.neighbours.specs.Choice.{Choosing, Counted, LeadsBy};
 ghost use Rattle.planner.specs.Parts.{numberOf, numberAt, Choosable, NumberedTo, Walkable, Routed};
 use moves::Rows;
-use neighbours::Next;
 
 // So many vertices are asked at a time whether any is on the way.
 const PART: usize = 64;
 
-// The next vertex of v as the sheet has it, by the costs and counts and the mask of v: off the way 0, at b b itself. On
-// the way before b there is one, by the true numbers; where a choice finds none, 0.
+// The next vertex of v as the sheet has it, by the costs and counts and the mask of v: off the way 0, at b b itself, and
+// on the way before b, where a move leads on, that of the central rule.
 fn next_number(
     rows: Rows,
     shifts: &[usize],
@@ -25,7 +24,8 @@ fn next_number(
     back: &[u64],
     v: usize,
 ) -> usize
-    requires { ⌜ Choosing rows (now shifts) mask (now d) (now e) b v × Counted (length (now d)) (now f) (now back) ⌝ }
+    requires { ⌜ Choosing rows (now shifts) mask (now d) (now e) b v × Counted (length (now d)) (now f) (now back)
+        × LeadsBy rows (now shifts) mask (now d) (now e) (now f) (now back) b v ⌝ }
     ensures { λ r. ⌜ (r ≡ numberOf rows (now (shifts .entry)) mask b
         (now (d .entry)) (now (e .entry)) (now (f .entry)) (now (back .entry)) v) × (r < length (now (d .entry))) ⌝ }
 {
@@ -35,10 +35,7 @@ fn next_number(
     if v == b {
         return b;
     }
-    let Next::To(w) = neighbours::next_at(rows, shifts, mask, d, e, f, back, b, v) else {
-        return 0;
-    };
-    w.0
+    neighbours::next_at(rows, shifts, mask, d, e, f, back, b, v).0
 }
 
 // The next vertices of the vertices from first to past.

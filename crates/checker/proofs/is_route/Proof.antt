@@ -17,7 +17,7 @@ use Rattle.grid.specs.Grid.{floorGraph}
 use Rattle.grid.proofs.Lawful.{floor-lawful}
 use Rattle.checker.specs.Tests.{chosenOf, verticesTest, nextsTest, pointsTest, Choosable}
 use Rattle.checker.proofs.Exact.{route-unreached, route-start, route-end}
-use Rattle.checker.proofs.Exact.{route-vertices, route-nexts, route-points, counts-fit}
+use Rattle.checker.proofs.Exact.{route-vertices, route-nexts, route-points, counts-fit, counts-lead}
 use Rattle.checker.proofs.Exact.{vertices-uncounted, nexts-alone, points-alone}
 use Rattle.checker.proofs.Leaving.{pinches-far}
 use Rattle.checker.proofs.Posed.{posed-uncounted, posed-chosen}
@@ -105,16 +105,19 @@ chosen : (c : tie.Else4)
 chosen c =
     let v = c .before in
     let s = start (first v) in
+    let L = floor-lawful (floorOf (s .args .w) (s .args .h) (s .args .map .now)) (s .args .rows)
+    (listed-lawful (s .pre .job .listed)) in
     record {
       posed = posed-chosen (s .pre);
       counted = counts-fit (graph s) (s .args .a .0) (s .args .b .0) (sheet s) (near (first v))
-          (v .before .before .before .if2 .left) (v .before .if3 .left) (vertices v) (c .if4 .left)
-          (floor-lawful (floorOf (s .args .w) (s .args .h) (s .args .map .now)) (s .args .rows)
-          (listed-lawful (s .pre .job .listed)))
+          (v .before .before .before .if2 .left) (v .before .if3 .left) (vertices v) (c .if4 .left) L
           (s .pre .job .start-in) (s .pre .job .goal-in) (s .pre .shape)
           (omega (arith, first v .before .before .before .before .before .shared-slice-known4 .given (s .args .b .0)));
       pinches = pinches-far (s .pre .job) (sheet s) (sym (vertices v) ∙ not-false _ (c .if4 .left));
       near = near (first v);
+      leads = counts-lead (graph s) (s .args .a .0) (s .args .b .0) (sheet s) (near (first v))
+          (v .before .before .before .if2 .left) (v .before .if3 .left) (vertices v) (c .if4 .left) L
+          (s .pre .job .start-in) (s .pre .job .goal-in);
     }
 
 nexts : (c : tie.After-nexts-right)

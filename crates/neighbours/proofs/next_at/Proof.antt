@@ -1,7 +1,6 @@
 -- `neighbours::next_at` meets its contract: of the candidates passed the best is kept, with its count. Assumes nothing.
 use Prim.Native.Nat.{ℕ, _+_, _-_, _^_, _<_}
 use mathlib.Core.Path.{_≡_, refl, sym, ap, _∙_}
-use mathlib.Core.Bool.{true, false}
 use mathlib.Core.Option.{some}
 use native.Mathlib.Omega.{arith}
 use borrow.Author.Tests.{not-true, not-false}
@@ -12,8 +11,7 @@ use Rattle.paths.specs.Local.{entry}
 use Rattle.neighbours.specs.Reading.{readStep}
 use Rattle.neighbours.specs.Choice.{candidateOf, followsBy, traversalOf}
 use Rattle.neighbours.proofs.Steps.{end-shut, end-at}
-use Rattle.neighbours.proofs.Choice.{BestScan, best-start, best-off, best-first}
-use Rattle.neighbours.proofs.Choice.{best-higher, best-lower, best-end}
+use Rattle.neighbours.proofs.Choice.{BestScan, best-start, best-off, best-lower, best-higher, best-end}
 use Rattle.neighbours.proofs.Choice.{candidate-none, candidate-off, candidate-on}
 use borrow.Author.Needs.{needs}
 use Rattle.neighbours.proofs.next_at.Statement.{statement}
@@ -22,7 +20,7 @@ use Rattle.neighbours.proofs.next_at.Tie as tie
 abbrev Inv-loop : tie.InvT-loop
 Inv-loop rows shifts mask d e f b goal v best₀ high₀ m₀ m-end best high m =
     (m-end ≡ rows .count)
-    × BestScan (traversalOf f b) (candidateOf rows shifts mask d e goal v) (rows .count) m best high
+    × BestScan (traversalOf f b) (candidateOf rows shifts mask d e goal v) (rows .count) m (best .0) high
 
 abbrev μ-loop : tie.MeasureT-loop
 μ-loop rows shifts mask d e f b goal v best₀ high₀ m₀ m-end best high m = rows .count - m
@@ -141,69 +139,48 @@ traversal-at-requires c κs =
       p .fit (k .before .w .given .0 .0 .0) (inside k),
     )
 
-enum-told-2 : tie.Need-enum-told-2 Inv-loop μ-loop
-enum-told-2 c = search needs
-
-enum-told-3 : tie.Need-enum-told-3 Inv-loop μ-loop
-enum-told-3 c = search needs
-
--- the far end and the turn, from where its count is known
+-- the far end, from where its count is known
 abbrev far-end-of : tie.After-traversal-at Inv-loop μ-loop → tie.After-known-told Inv-loop μ-loop
 far-end-of c = far-of (c .before .before)
 
 add-m-3 : tie.Need-add-m-3 Inv-loop μ-loop
-add-m-3 c = let h = more (turn-of (far-end-of (c .before .before))) in omega arith
+add-m-3 c = let h = more (turn-of (far-end-of (c .before))) in omega arith
 
 loop-less-3 : tie.Need-loop-less-3 Inv-loop μ-loop
-loop-less-3 c = let l = turn (turn-of (far-end-of (c .before .before))) in omega arith
+loop-less-3 c = let l = turn (turn-of (far-end-of (c .before))) in omega arith
 
 loop-again-3 : tie.Need-loop-again-3 Inv-loop μ-loop
 loop-again-3 c =
-    let t = c .before .before in
+    let t = c .before in
     let k = far-end-of t in
     let l = turn-of k in (
       l .before .loop .inv .0,
-      best-first (k .before .w .given .0 .0 .0) (t .traversal-at .result) (l .before .loop .inv .1) (turn l)
-          (taken (t .before)) (t .traversal-at .ensures) (c .enum-told3 .given .1),
+      best-lower (l .before .loop .inv .1) (turn l) (k .before .w .given .0 .0 .0) (t .traversal-at .result)
+          (taken (t .before)) (t .traversal-at .ensures) (omega arith),
     )
 
 add-m-4 : tie.Need-add-m-4 Inv-loop μ-loop
-add-m-4 c = let h = more (turn-of (far-end-of (c .before .before .before))) in omega arith
+add-m-4 c = let h = more (turn-of (far-end-of (c .before))) in omega arith
 
 loop-less-4 : tie.Need-loop-less-4 Inv-loop μ-loop
-loop-less-4 c = let l = turn (turn-of (far-end-of (c .before .before .before))) in omega arith
+loop-less-4 c = let l = turn (turn-of (far-end-of (c .before))) in omega arith
 
 loop-again-4 : tie.Need-loop-again-4 Inv-loop μ-loop
 loop-again-4 c =
-    let t = c .before .before .before in
+    let t = c .before in
     let k = far-end-of t in
     let l = turn-of k in (
       l .before .loop .inv .0,
-      best-lower (k .before .w .given .0 .0 .0) (t .traversal-at .result) (l .before .loop .inv .1) (turn l)
-          (taken (t .before)) (t .traversal-at .ensures) (c .before .enum-told2 .given .0 .0 .0)
-          (c .before .enum-told2 .given .1) (omega arith),
-    )
-
-add-m-5 : tie.Need-add-m-5 Inv-loop μ-loop
-add-m-5 c = let h = more (turn-of (far-end-of (c .before .before .before))) in omega arith
-
-loop-less-5 : tie.Need-loop-less-5 Inv-loop μ-loop
-loop-less-5 c = let l = turn (turn-of (far-end-of (c .before .before .before))) in omega arith
-
-loop-again-5 : tie.Need-loop-again-5 Inv-loop μ-loop
-loop-again-5 c =
-    let t = c .before .before .before in
-    let k = far-end-of t in
-    let l = turn-of k in (
-      l .before .loop .inv .0,
-      best-higher (k .before .w .given .0 .0 .0) (t .traversal-at .result) (l .before .loop .inv .1) (turn l)
-          (taken (t .before)) (t .traversal-at .ensures) (c .before .enum-told2 .given .0 .0 .0)
-          (c .before .enum-told2 .given .1) (omega arith),
+      best-higher (l .before .loop .inv .1) (turn l) (k .before .w .given .0 .0 .0) (t .traversal-at .result)
+          (taken (t .before)) (t .traversal-at .ensures) (omega arith),
     )
 
 returns : tie.Need-returns Inv-loop μ-loop
 unfolding nextVertex
-returns c = best-end (c .before .loop .inv .1) (omega (arith, c .before .loop .inv .0))
+returns c =
+    let l = c .before in
+    let o = l .before .before .before .before .before .before .pre .2 in
+    best-end (l .loop .inv .1) (omega (arith, l .loop .inv .0)) (o .move) (o .to) (o .below) (o .leads) (o .counted)
 
 pub next-at-spec : {M : Type 1} → statement M
 next-at-spec =
@@ -224,15 +201,10 @@ next-at-spec =
     loop-less-2
     loop-again-2
     traversal-at-requires
-    enum-told-2
-    enum-told-3
     add-m-3
     loop-less-3
     loop-again-3
     add-m-4
     loop-less-4
     loop-again-4
-    add-m-5
-    loop-less-5
-    loop-again-5
     returns)

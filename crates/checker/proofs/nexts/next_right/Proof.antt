@@ -1,5 +1,7 @@
 -- `checker::nexts::next_right` meets its contract: each return is a case of the definition. Assumes nothing.
-use Rattle.checker.proofs.Choices.{next-off, next-goal, next-stuck-at, next-to-at}
+use mathlib.Core.Path.{sym, _∙_}
+use borrow.Author.Tests.{not-false}
+use Rattle.checker.proofs.Choices.{next-off, next-goal, next-to}
 use borrow.Author.Needs.{needs}
 use Rattle.checker.proofs.nexts.next_right.Statement.{statement}
 use Rattle.checker.proofs.nexts.next_right.Tie as tie
@@ -39,32 +41,20 @@ returns-2 c =
     (c .if2 .taken)
 
 next-at-requires : tie.Need-next-at-requires
-next-at-requires c κs = search needs
-
-enum-known-w : tie.Need-enum-known-w
-enum-known-w c = search needs
-
-enum-told : tie.Need-enum-told
-enum-told c = search needs
+next-at-requires c κs =
+    let o = c .before .before in
+    let s = start o in
+    let way = sym (o .on-way .ensures) ∙ not-false _ (c .before .if1 .left) in
+    (s .pre .0, s .pre .1, s .pre .2 .onward way (c .if2 .left))
 
 returns-3 : tie.Need-returns-3
 returns-3 c =
-    let n = c .before .before in
+    let n = c .before in
     let o = n .before .before .before in
     let a = start o .args in
-    next-stuck-at (a .rows) (a .shifts .now) (a .mask) (a .b) (a .d .now) (a .e .now) (a .f .now) (a .back .now)
+    next-to (a .rows) (a .shifts .now) (a .mask) (a .b) (a .d .now) (a .e .now) (a .f .now) (a .back .now)
     (a .next .now) (a .v) (read o .index .result) (read o .index .ensures) (o .on-way .ensures)
-    (n .before .before .if1 .left) (n .before .if2 .left) (n .next-at .ensures) (c .enum-told .given .1)
-
-returns-4 : tie.Need-returns-4
-returns-4 c =
-    let n = c .before .before .before .before in
-    let o = n .before .before .before in
-    let a = start o .args in
-    let w = c .before .before .w .given in
-    next-to-at (a .rows) (a .shifts .now) (a .mask) (a .b) (a .d .now) (a .e .now) (a .f .now) (a .back .now)
-    (a .next .now) (a .v) (read o .index .result) (read o .index .ensures) (o .on-way .ensures)
-    (n .before .before .if1 .left) (n .before .if2 .left) (n .next-at .ensures) (w .0 .0 .0) (w .1)
+    (n .before .before .if1 .left) (n .before .if2 .left) (n .next-at .result .0) (n .next-at .ensures)
 
 pub next-right-spec : {M : Type 1} → statement M
 next-right-spec =
@@ -77,7 +67,4 @@ next-right-spec =
     returns
     returns-2
     next-at-requires
-    enum-known-w
-    enum-told
-    returns-3
-    returns-4)
+    returns-3)

@@ -16,7 +16,7 @@ use Rattle.paths.specs.Distance.{unreachable}
 use Rattle.paths.specs.Local.{entry}
 use Rattle.grid.specs.Grid.{floorGraph}
 use Rattle.checker.specs.Tests.{chosenOf, nextColumnTest}
-use Rattle.checker.proofs.Choices.{next-row-blank, next-choosing, next-stops, next-keeps}
+use Rattle.checker.proofs.Choices.{next-row-blank, next-choosing, next-leads, next-stops, next-keeps}
 use borrow.Author.Needs.{needs}
 use Rattle.checker.proofs.nexts.row_right.Statement.{statement}
 use Rattle.checker.proofs.nexts.row_right.Tie as tie
@@ -146,6 +146,7 @@ next-right-requires c κs =
     let p = s .pre .0 in (
       next-choosing p (s .pre .3) (on-row c) (mask-is c) (at-number c),
       p .counted,
+      next-leads p (s .pre .3) (on-row c) (mask-is c) (at-number c) (small c),
       p .posed .shape .next ∙ sym (p .posed .shape .d),
     )
 

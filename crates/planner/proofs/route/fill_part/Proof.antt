@@ -32,8 +32,11 @@ mask-at-requires c κs = let p = start (c .before) .pre .0 in (p .few, p .work-l
 next-number-requires : tie.Need-next-number-requires Inv-loop μ-loop
 next-number-requires c κs =
     let t = c .before in
-    let p = start (t .before) .pre .0 in
-    (rw (c .mask-at .ensures) (p .choosing (t .before .loop .v) (vertex t)), p .counted)
+    let p = start (t .before) .pre .0 in (
+      rw (c .mask-at .ensures) (p .choosing (t .before .loop .v) (vertex t)),
+      p .counted,
+      rw (c .mask-at .ensures) (p .leads (t .before .loop .v) (vertex t)),
+    )
 
 cast-next : tie.Need-cast-next Inv-loop μ-loop
 cast-next c = omega (arith, c .next-number .ensures .1, start (c .before .before .before) .pre .0 .few)

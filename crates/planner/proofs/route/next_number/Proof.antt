@@ -1,5 +1,7 @@
 -- `planner::route::next_number` meets its contract: each return is a case of the definition. Assumes nothing.
-use Rattle.planner.proofs.Numbering.{number-off, number-goal, number-stuck, number-to}
+use mathlib.Core.Path.{sym, _∙_}
+use borrow.Author.Tests.{not-false}
+use Rattle.planner.proofs.Numbering.{number-off, number-goal, number-to}
 use borrow.Author.Needs.{needs}
 use Rattle.planner.proofs.route.next_number.Statement.{statement}
 use Rattle.planner.proofs.route.next_number.Tie as tie
@@ -24,30 +26,18 @@ returns-2 c =
     (c .if2 .taken)
 
 next-at-requires : tie.Need-next-at-requires
-next-at-requires c κs = search needs
-
-enum-known-w : tie.Need-enum-known-w
-enum-known-w c = search needs
-
-enum-told : tie.Need-enum-told
-enum-told c = search needs
+next-at-requires c κs =
+    let o = c .before .before in
+    let s = start o in
+    let way = sym (o .on-way .ensures) ∙ not-false _ (c .before .if1 .left) in
+    (s .pre .0, s .pre .1, s .pre .2 .onward way (c .if2 .left))
 
 returns-3 : tie.Need-returns-3
 returns-3 c =
-    let n = c .before .before in
-    let o = n .before .before .before in
+    let o = c .before .before .before in
     let s = start o in
-    number-stuck (s .args .f .now) (s .args .back .now) (s .pre .0) (o .on-way .ensures) (n .before .before .if1 .left)
-    (n .before .if2 .left) (n .next-at .ensures) (c .enum-told .given .1)
-
-returns-4 : tie.Need-returns-4
-returns-4 c =
-    let n = c .before .before .before in
-    let o = n .before .before .before in
-    let s = start o in
-    let w = c .before .w .given in
-    number-to (s .args .f .now) (s .args .back .now) (s .pre .0) (o .on-way .ensures) (n .before .before .if1 .left)
-    (n .before .if2 .left) (n .next-at .ensures) (w .0 .0 .0) (w .1)
+    number-to (s .args .f .now) (s .args .back .now) (s .pre .0) (o .on-way .ensures) (c .before .before .if1 .left)
+    (c .before .if2 .left) (c .next-at .result .0) (c .next-at .ensures)
 
 pub next-number-spec : {M : Type 1} → statement M
 next-number-spec =
@@ -57,7 +47,4 @@ next-number-spec =
     returns
     returns-2
     next-at-requires
-    enum-known-w
-    enum-told
-    returns-3
-    returns-4)
+    returns-3)
