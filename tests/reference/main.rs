@@ -19,6 +19,7 @@ mod closures;
 mod cost_jobs;
 mod count;
 mod floor;
+mod flow_checks;
 mod format;
 mod graph;
 mod jobs;

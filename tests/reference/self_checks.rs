@@ -2,6 +2,7 @@
 
 use crate::closures::{Rectangle, Table};
 use crate::floor::Floor;
+use crate::flow_checks;
 use crate::graph::{self, Graph, NEIGHBOURHOODS};
 use crate::layouts::{self, KINDS};
 use crate::natural::Natural;
@@ -23,6 +24,7 @@ pub fn run(tally: &mut Tally) {
     packing(tally);
     tiny_floors(tally);
     next_walks(tally);
+    flow_checks::run(tally);
     checker_on_damage(tally);
     costs_by_local_law(tally);
     thinning(tally);
@@ -276,7 +278,7 @@ fn tiny_jobs(tally: &mut Tally, floor: &Floor, neighbourhood: u64) {
 }
 
 /// Every walk of this cost from a vertex to the goal, move by move.
-fn walks_of_cost(graph: &Graph, goal: usize, cost: u64, walk: &mut Vec<usize>, found: &mut Vec<Vec<usize>>) {
+pub fn walks_of_cost(graph: &Graph, goal: usize, cost: u64, walk: &mut Vec<usize>, found: &mut Vec<Vec<usize>>) {
     let at = walk[walk.len() - 1];
     if cost == 0 && at == goal {
         found.push(walk.clone());
