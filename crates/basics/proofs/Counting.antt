@@ -1,23 +1,28 @@
--- Laws of `count` and `chosen`.
+-- Laws of `count`, `chosen` and `differences`.
 --
 --   count-le, count-next    == a count is at most its bound; one number more, as a loop counts it
 --   count-none, count-zero  == a count is 0 exactly where nothing is counted
 --   count-or                == of two tests that never hold together, the counts add up
 --   length-chosen           == as many are chosen as are counted
 --   chosen-holds, chosen-has, chosen-rises == the numbers chosen are those that pass, each once, ascending
+--   differences-none, differences-same == two lists of one length differ nowhere exactly where they are equal
 --   Counted n k c p         == a loop over the numbers below n that is at k has counted c
+--   Differing k l end i n   == a loop that compares the lists k and l, to place end, is at i and has found n differences
 use Prim.Native.Nat.{ℕ, zero, suc, _+_, _≤_, _<_}
 use mathlib.Core.Path.{_≡_, refl, sym, ap, _∙_}
 use mathlib.Core.Logic.{⊎-elim}
-use mathlib.Core.Bool.{Bool, true, false, _&&_, _||_, true≢false}
+use mathlib.Core.Bool.{Bool, true, false, _&&_, _||_, not, true≢false}
 use mathlib.Core.List.{List, [], _∷_, _++_}
 use native.Mathlib.Omega.{arith}
 use native.Mathlib.Numerals.{add-one}
+use borrow.Author.Tests.{eqb-true, eq-eqb, ne-eqb}
+use lib.Dec.{eqb}
 use lib.ListN.{length, getD, length-append, List·getD-append}
-use lib.Seq.{getD-at}
+use lib.Seq.{ext-getD, getD-at}
 use Rattle.basics.specs.Bounded.{pick, sum, count}
-use Rattle.basics.specs.Lists.{chosen}
+use Rattle.basics.specs.Lists.{chosen, differences}
 use Rattle.basics.proofs.Order.{le-or-lt}
+use Rattle.basics.proofs.Bools.{true-or-false, not-both}
 use Rattle.basics.proofs.Sums.{sum-cong, sum-le, sum-ones, sum-add, sum-zero, sum-next}
 
 -- ---- count
@@ -152,6 +157,23 @@ chosen-has (suc n) k p l e = ⊎-elim
     ))
     (le-or-lt (suc k) n)
 
+-- ---- differences
+
+abbrev differAt : List ℕ → List ℕ → ℕ → Bool
+differAt k l i = not (eqb (getD k i 0) (getD l i 0))
+
+pub differences-same : (l : List ℕ) → differences l l ≡ 0
+unfolding differences
+differences-same l = count-none (length l) (differAt l l) (λ i k. ap not (eq-eqb (getD l i 0) (getD l i 0) refl))
+
+pub differences-none : (k l : List ℕ) → length k ≡ length l → differences k l ≡ 0 → k ≡ l
+unfolding differences
+differences-none k l e z =
+    ext-getD 0 k l e (λ i h. equal (getD k i 0) (getD l i 0) (count-zero (length k) (differAt k l) z i (omega arith)))
+  where
+    equal : (x y : ℕ) → not (eqb x y) ≡ false → x ≡ y
+    equal x y q = ⊎-elim (λ t. eqb-true x y t) (λ f. absurd (true≢false (sym (ap not f) ∙ q))) (true-or-false (eqb x y))
+
 -- ---- a loop that counts
 
 pub record Counted (n k c : ℕ) (p : ℕ → Bool) : Type 0 where
@@ -173,3 +195,35 @@ counted-more {k = k} {p = p} h l e =
 pub counted-all : {n k c : ℕ} {p : ℕ → Bool} → Counted n k c p → n ≤ k → c ≡ count n p
 counted-all {n = n} {k = k} {p = p} h l =
     let e : k ≡ n = omega (arith, h .within) in h .tally ∙ ap (λ m. count m p) e
+
+-- ---- a loop that compares two lists place by place
+
+pub record Differing (k l : List ℕ) (end i n : ℕ) : Type 0 where
+  pub whole : end ≡ length k
+  pub same : length k ≡ length l
+  pub counted : Counted end i n (differAt k l)
+
+pub differing-none : (k l : List ℕ) → length k ≡ length l → Differing k l (length k) 0 0
+differing-none k l e = record { whole = refl; same = e; counted = counted-none (length k) (differAt k l) }
+
+pub differing-few : {k l : List ℕ} {end i n : ℕ} → Differing k l end i n → n ≤ i
+differing-few h = counted-few (h .counted)
+
+pub differing-more : {k l : List ℕ} {end i n m : ℕ} → Differing k l end i n → i < end → m ≡ n + pick (differAt k l i) 1 0
+    → Differing k l end (i + 1) m
+differing-more h b e = record { whole = h .whole; same = h .same; counted = counted-more (h .counted) b e }
+
+pub differing-yes : {k l : List ℕ} {end i n : ℕ} → Differing k l end i n → i < end
+    → (getD k i 0 ≡ getD l i 0 → ⊥) → Differing k l end (i + 1) (n + 1)
+differing-yes {k} {l} {i = i} {n = n} h b d =
+    differing-more h b (ap (λ b. n + pick (not b) 1 0) (sym (ne-eqb (getD k i 0) (getD l i 0) d)))
+
+pub differing-no : {k l : List ℕ} {end i n : ℕ} → Differing k l end i n → i < end
+    → getD k i 0 ≡ getD l i 0 → Differing k l end (i + 1) n
+differing-no {k} {l} {i = i} {n = n} h b d =
+    differing-more h b
+    (omega (arith, ap (λ b. n + pick (not b) 1 0) (eq-eqb (getD k i 0) (getD l i 0) d)))
+
+pub differing-all : {k l : List ℕ} {end i n : ℕ} → Differing k l end i n → end ≤ i → n ≡ differences k l
+unfolding differences
+differing-all {k} {l} h b = counted-all (h .counted) b ∙ ap (λ m. count m (differAt k l)) (h .whole)

@@ -5,12 +5,13 @@
 --   zeros n        == n times 0
 --   same k l       == the two lists are equal
 --   chosen n p     == the k < n with p k, ascending
+--   differences k l == at how many places of k the two lists differ
 use Prim.Native.Nat.{ℕ, zero, suc, _-_}
-use mathlib.Core.Bool.{Bool, true, false, _&&_}
+use mathlib.Core.Bool.{Bool, true, false, _&&_, not}
 use mathlib.Core.List.{List, [], _∷_, _++_}
 use lib.Dec.{eqb}
-use lib.ListN.{length, replicate}
-use Rattle.basics.specs.Bounded.{pick}
+use lib.ListN.{length, getD, replicate}
+use Rattle.basics.specs.Bounded.{pick, count}
 
 unfoldable pub tabulate : ℕ → (ℕ → ℕ) → List ℕ
 tabulate zero F = []
@@ -32,7 +33,10 @@ unfoldable pub chosen : ℕ → (ℕ → Bool) → List ℕ
 chosen zero p = []
 chosen (suc n) p = chosen n p ++ pick (p n) (n ∷ []) []
 
+unfoldable pub differences : List ℕ → List ℕ → ℕ
+differences k l = count (length k) (λ i. not (eqb (getD k i 0) (getD l i 0)))
+
 -- Named on an `unfolding` line, this opens all of the above, for a theorem that is computed.
 unfoldable pub lists-opened : ℕ
-unfolding tabulate padded same chosen
+unfolding tabulate padded same chosen differences
 lists-opened = 0

@@ -1,6 +1,7 @@
-// Slices filled with one number.
+// Slices filled with one number, and at how many places two of them differ.
 ghost use mathlib.Core.Path.{_≡_};
 ghost use lib.ListN.{length, replicate};
+ghost use Rattle.basics.specs.Lists.{differences};
 
 // Fills `s` with `x`.
 pub fn fill_u32(s: &mut [u32], x: u32)
@@ -36,4 +37,46 @@ pub fn clear_u64(s: &mut [u64])
     for i in 0..s.len() {
         s[i] = 0;
     }
+}
+
+// At how many places two slices differ.
+pub fn differences_u16(s: &[u16], t: &[u16]) -> usize
+    requires { ⌜ length (now s) ≡ length (now t) ⌝ }
+    ensures { λ r. ⌜ r ≡ differences (now (s .entry)) (now (t .entry)) ⌝ }
+{
+    let mut n: usize = 0;
+    for i in 0..s.len() {
+        if s[i] != t[i] {
+            n += 1;
+        }
+    }
+    n
+}
+
+// At how many places two slices differ.
+pub fn differences_u32(s: &[u32], t: &[u32]) -> usize
+    requires { ⌜ length (now s) ≡ length (now t) ⌝ }
+    ensures { λ r. ⌜ r ≡ differences (now (s .entry)) (now (t .entry)) ⌝ }
+{
+    let mut n: usize = 0;
+    for i in 0..s.len() {
+        if s[i] != t[i] {
+            n += 1;
+        }
+    }
+    n
+}
+
+// At how many places two slices differ.
+pub fn differences_u64(s: &[u64], t: &[u64]) -> usize
+    requires { ⌜ length (now s) ≡ length (now t) ⌝ }
+    ensures { λ r. ⌜ r ≡ differences (now (s .entry)) (now (t .entry)) ⌝ }
+{
+    let mut n: usize = 0;
+    for i in 0..s.len() {
+        if s[i] != t[i] {
+            n += 1;
+        }
+    }
+    n
 }

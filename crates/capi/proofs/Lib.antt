@@ -3,3 +3,4 @@ pub mod Places
 pub mod Changes
 pub mod WriterAnswers
 pub mod Legs
+pub mod Mending

@@ -2,3 +2,4 @@ pub mod Results
 pub mod Changes
 pub mod Writing
 pub mod Legs
+pub mod Mending

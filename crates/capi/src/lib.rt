@@ -16,6 +16,7 @@ use sight::Sight;
 
 pub mod change_reports; // change_reports.rt: what changed between two floors
 pub mod fewest_legs; // fewest_legs.rt: fewest stops
+pub mod mend; // mend.rt: mending a damaged sheet
 pub mod writing; // writing.rt: the program's input written
 
 // What is in the way with its place: a cell's number, a vertex's, or 0.

@@ -1,0 +1,3 @@
+pub mod Shaped
+pub mod Refused
+pub mod Taken
