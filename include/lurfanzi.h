@@ -37,9 +37,9 @@
  * Memory. A slice is a pointer and the number of its elements. The pointer of a slice with elements must be valid for
  * all of them and aligned for their type; the pointer of a slice of length 0 may be anything, null included, and is
  * not used. A slice that a call writes may overlap no other slice of the call: a list must not be thinned onto itself,
- * nor a working map be written onto its base map. A table of closures is a pointer to 64 numbers, valid for all of them
- * and aligned; it may overlap no slice of its call. Numbers are 32 bits wide or a size_t, so that none is cut down on
- * its way in; those of lurfanzi_write_job alone are as wide as its record has them.
+ * nor a working map be written onto its base map, nor a sheet be mended in place. A table of closures is a pointer to
+ * 64 numbers, valid for all of them and aligned; it may overlap no slice of its call. Numbers are 32 bits wide or a
+ * size_t, so that none is cut down on its way in; those of lurfanzi_write_job alone are as wide as its record has them.
  *
  * The library is built for x86-64. It uses the C library's memcpy and memset, no heap, no static memory and less than
  * 4 KiB of stack; calls at the same time are safe on different memory, and on the same memory where none of them
@@ -221,6 +221,48 @@ uint8_t lurfanzi_check(
     const uint32_t *d, size_t d_length, const uint32_t *e, size_t e_length, const uint64_t *f, size_t f_length,
     const uint64_t *back, size_t back_length, const uint16_t *route, size_t route_length,
     const uint16_t *next, size_t next_length, size_t n);
+
+typedef struct {
+    size_t n;        /* the number of points of the true route, its ends among them; 0 at every answer but 0 */
+    size_t d;        /* at how many places old_d and d differ; each of these six is 0 at every answer but 0 and 7 */
+    size_t e;        /* at how many old_e and e do */
+    size_t f;        /* old_f and f */
+    size_t back;     /* old_back and back */
+    size_t route;    /* old_route and route */
+    size_t next;     /* old_next and next */
+    uint8_t answer;  /* 0, 7, or a refusal: 1 to 6, 8 or 11 */
+} lurfanzi_mend_result;
+
+/* Mends a damaged sheet of the job from vertex a to vertex b: writes the true sheet into a second set of slices, and
+ * counts for each slice at how many places the damaged one is not true.
+ *
+ * old_d, old_e, old_f,        V places each: the damaged sheet, read. Anything may stand there. How many points its
+ * old_back, old_route,        route has is not asked for: the true number is answered.
+ * old_next
+ * d, e, f, back, route, next  V places each: the true sheet, d as lurfanzi_costs leaves it, the rest as
+ *                             lurfanzi_finish does; what they hold at entry does not matter
+ * work                        4 * V numbers of working memory; what it holds at entry does not matter
+ *
+ * answer      d          e          f, back, route, next  work       n     the six counts
+ * 0           true       true       true                  0          true  of places that differ
+ * 7           true       0          0                     0          0     of places that differ
+ * 8           true       true       0                     0          0     0
+ * 1 to 6, 11  untouched  untouched  untouched             untouched  0     0
+ *
+ * Refuses with 1, 2, 3, 4, 5 for a or b, 11 for a or b, also where a = b, 6 for each of the thirteen slices, the
+ * damaged ones too, 7 and 8, in this order. At 0 and at 7 lurfanzi_check accepts the slices written, with n points: it
+ * answers 0 and 7. There all six counts are 0 exactly when the damaged sheet has the true numbers at every place. A job
+ * with the answer 8 has no true sheet.
+ */
+lurfanzi_mend_result lurfanzi_mend(
+    uint32_t width, uint32_t height, const uint8_t *map, size_t map_length,
+    uint32_t neighbourhood, uint32_t a, uint32_t b,
+    const uint32_t *old_d, size_t old_d_length, const uint32_t *old_e, size_t old_e_length,
+    const uint64_t *old_f, size_t old_f_length, const uint64_t *old_back, size_t old_back_length,
+    const uint16_t *old_route, size_t old_route_length, const uint16_t *old_next, size_t old_next_length,
+    uint32_t *d, size_t d_length, uint32_t *e, size_t e_length, uint64_t *f, size_t f_length,
+    uint64_t *back, size_t back_length, uint16_t *route, size_t route_length, uint16_t *next, size_t next_length,
+    uint32_t *work, size_t work_length);
 
 typedef struct {
     size_t kept;     /* how many positions are kept; 0 at a refusal */

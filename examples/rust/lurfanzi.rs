@@ -79,6 +79,25 @@ pub enum Verdict {
     FalseSheet,
 }
 
+/// At how many places two sheets differ, slice by slice.
+#[derive(Clone, Copy, Debug, Default, PartialEq, Eq)]
+pub struct Differences {
+    pub d: usize,
+    pub e: usize,
+    pub f: usize,
+    pub back: usize,
+    pub route: usize,
+    pub next: usize,
+}
+
+/// A mended sheet: how many points its route has, none where no walk joins the ends, and at how many places the damaged
+/// sheet was not true.
+#[derive(Clone, Copy, Debug, PartialEq, Eq)]
+pub struct Mended {
+    pub points: Option<NonZeroUsize>,
+    pub damage: Differences,
+}
+
 /// A proposal for a list, with slices as long as the list: the kept positions, `count` of them, then 0; and the fewest
 /// legs from each position to the last, then 0.
 #[derive(Clone, Copy, Debug)]
@@ -289,6 +308,13 @@ impl SheetMut<'_> {
     }
 }
 
+impl Mended {
+    /// The answer's number of the header.
+    pub fn number(&self) -> u8 {
+        if self.points.is_some() { 0 } else { 7 }
+    }
+}
+
 impl Replay {
     /// The answer's number of the header.
     pub fn number(&self) -> u8 {
@@ -414,6 +440,22 @@ pub fn check(floor: Floor, job: Job, sheet: Sheet) -> Result<Verdict, Refusal> {
         7 => Ok(Verdict::NoRoute),
         9 => Ok(Verdict::FalseSheet),
         number => Err(Refusal::from_number(number)),
+    }
+}
+
+/// Mends a damaged sheet of a job: writes the true one into `d` and `sheet`, and counts the places that differ. How
+/// many points the damaged one has is not asked for. `check` accepts what is written; that no walk joins the ends,
+/// answer 7, is no refusal here. `work` has four places for every vertex.
+pub fn mend(
+    floor: Floor, job: Job, damaged: Sheet, d: &mut [u32], sheet: &mut SheetMut, work: &mut [u32],
+) -> Result<Mended, Refusal> {
+    let result = call::mend(floor, job, damaged, d, sheet, work);
+    let call::MendResult { n, d, e, f, back, route, next, answer } = result;
+    match (answer, NonZeroUsize::new(n)) {
+        (0, points @ Some(_)) | (7, points @ None) => {
+            Ok(Mended { points, damage: Differences { d, e, f, back, route, next } })
+        }
+        (number, _) => Err(Refusal::from_number(number)),
     }
 }
 
@@ -566,6 +608,18 @@ mod call {
         pub answer: u8,
     }
 
+    #[repr(C)]
+    pub struct MendResult {
+        pub n: usize,
+        pub d: usize,
+        pub e: usize,
+        pub f: usize,
+        pub back: usize,
+        pub route: usize,
+        pub next: usize,
+        pub answer: u8,
+    }
+
     extern "C" {
         fn lurfanzi_sight(width: u32, height: u32, map: *const u8, map_length: usize, a: u32, b: u32) -> u8;
 
@@ -602,6 +656,16 @@ mod call {
             back: *const u64, back_length: usize, route: *const u16, route_length: usize,
             next: *const u16, next_length: usize, n: usize,
         ) -> u8;
+
+        fn lurfanzi_mend(
+            width: u32, height: u32, map: *const u8, map_length: usize, neighbourhood: u32, a: u32, b: u32,
+            old_d: *const u32, old_d_length: usize, old_e: *const u32, old_e_length: usize,
+            old_f: *const u64, old_f_length: usize, old_back: *const u64, old_back_length: usize,
+            old_route: *const u16, old_route_length: usize, old_next: *const u16, old_next_length: usize,
+            d: *mut u32, d_length: usize, e: *mut u32, e_length: usize, f: *mut u64, f_length: usize,
+            back: *mut u64, back_length: usize, route: *mut u16, route_length: usize,
+            next: *mut u16, next_length: usize, work: *mut u32, work_length: usize,
+        ) -> MendResult;
 
         fn lurfanzi_thin(
             width: u32, height: u32, map: *const u8, map_length: usize,
@@ -710,6 +774,24 @@ mod call {
                 sheet.d.as_ptr(), sheet.d.len(), sheet.e.as_ptr(), sheet.e.len(),
                 sheet.f.as_ptr(), sheet.f.len(), sheet.back.as_ptr(), sheet.back.len(),
                 sheet.route.as_ptr(), sheet.route.len(), sheet.next.as_ptr(), sheet.next.len(), sheet.points,
+            )
+        }
+    }
+
+    pub fn mend(
+        floor: Floor, job: Job, damaged: Sheet, d: &mut [u32], sheet: &mut SheetMut, work: &mut [u32],
+    ) -> MendResult {
+        // SAFETY: the map and the damaged slices are shared slices, the seven others are exclusive ones.
+        unsafe {
+            lurfanzi_mend(
+                floor.width, floor.height, floor.map.as_ptr(), floor.map.len(), job.neighbourhood, job.a, job.b,
+                damaged.d.as_ptr(), damaged.d.len(), damaged.e.as_ptr(), damaged.e.len(),
+                damaged.f.as_ptr(), damaged.f.len(), damaged.back.as_ptr(), damaged.back.len(),
+                damaged.route.as_ptr(), damaged.route.len(), damaged.next.as_ptr(), damaged.next.len(),
+                d.as_mut_ptr(), d.len(), sheet.e.as_mut_ptr(), sheet.e.len(),
+                sheet.f.as_mut_ptr(), sheet.f.len(), sheet.back.as_mut_ptr(), sheet.back.len(),
+                sheet.route.as_mut_ptr(), sheet.route.len(), sheet.next.as_mut_ptr(), sheet.next.len(),
+                work.as_mut_ptr(), work.len(),
             )
         }
     }
@@ -1044,6 +1126,112 @@ mod tests {
         assert_eq!(none.post(CELL), Err(Refusal::BadSize));
         assert_eq!(none.strike(0), Err(Refusal::BadSize));
         assert_eq!(none.working_map(&[], &mut []), Err(Refusal::BadSize));
+    }
+
+    /// The slices of a sheet.
+    #[derive(Clone, Debug, PartialEq, Eq)]
+    struct Slices {
+        d: Vec<u32>,
+        e: Vec<u32>,
+        f: Vec<u64>,
+        back: Vec<u64>,
+        route: Vec<u16>,
+        next: Vec<u16>,
+    }
+
+    impl Slices {
+        fn new(vertices: usize) -> Slices {
+            let (d, e, f, back) = (vec![7; vertices], vec![7; vertices], vec![7; vertices], vec![7; vertices]);
+            Slices { d, e, f, back, route: vec![7; vertices], next: vec![7; vertices] }
+        }
+
+        fn sheet(&self, points: usize) -> Sheet<'_> {
+            let Slices { d, e, f, back, route, next } = self;
+            Sheet { d, e, f, back, route, next, points }
+        }
+
+        /// Mends a sheet into these, with a working slice of the given length.
+        fn mend(&mut self, floor: Floor, job: Job, damaged: Sheet, work: usize) -> Result<Mended, Refusal> {
+            let Slices { d, e, f, back, route, next } = self;
+            let mut work = vec![7; work];
+            let answer = mend(floor, job, damaged, d, &mut SheetMut { e, f, back, route, next }, &mut work);
+            let written = matches!(answer, Ok(_) | Err(Refusal::TooMany));
+            assert!(work.iter().all(|&number| number == if written { 0 } else { 7 }));
+            answer
+        }
+    }
+
+    /// The true sheet of a job, and the number of its points.
+    fn planned(floor: Floor, job: Job) -> (Slices, usize) {
+        let (mut truth, mut work) = (Slices::new(floor.vertices()), vec![7; 4 * floor.vertices()]);
+        assert_eq!(costs(floor, job.neighbourhood, job.a, &mut truth.d, &mut work), Ok(()));
+        let Slices { d, e, f, back, route, next } = &mut truth;
+        let points = finish(floor, job, d, &mut SheetMut { e, f, back, route, next }, &mut work);
+        let points = points.map_or(0, |plan| plan.points);
+        (truth, points)
+    }
+
+    #[test]
+    fn mended() {
+        for (floor, job) in [(OPEN, JOB), (OPEN, FINE), (SHUT, JOB), (OPEN, Job { b: 0, ..JOB })] {
+            let (truth, points) = planned(floor, job);
+            let mut damaged = truth.clone();
+            let expect_mended = |damaged: &Slices, damage: Differences| {
+                let mut slices = Slices::new(6);
+                let wanted = Mended { points: NonZeroUsize::new(points), damage };
+                assert_eq!(slices.mend(floor, job, damaged.sheet(usize::MAX), 24), Ok(wanted));
+                assert_eq!(slices, truth);
+                let verdict = if points > 0 { Verdict::Route } else { Verdict::NoRoute };
+                assert_eq!(check(floor, job, slices.sheet(points)), Ok(verdict));
+                assert_eq!(wanted.number(), if points > 0 { 0 } else { 7 });
+            };
+            expect_mended(&damaged, Differences::default());
+            // One place of d, two of e and so on, each by a bit of its own.
+            for place in 0..6 {
+                let turned = |least: usize| usize::from(place < least);
+                damaged.d[place] ^= (turned(1) as u32) << 31;
+                damaged.e[place] ^= turned(2) as u32;
+                damaged.f[place] ^= (turned(3) as u64) << 63;
+                damaged.back[place] ^= (turned(4) as u64) << 32;
+                damaged.route[place] ^= (turned(5) as u16) << 15;
+                damaged.next[place] ^= turned(6) as u16;
+                let [d, e, f, back, route, next] = [1, 2, 3, 4, 5, 6].map(|least| (place + 1).min(least));
+                expect_mended(&damaged, Differences { d, e, f, back, route, next });
+            }
+        }
+    }
+
+    #[test]
+    fn unmended() {
+        let (whole, _) = planned(OPEN, JOB);
+        let refused = |floor: Floor, job: Job, damaged: Sheet, work: usize, refusal: Refusal| {
+            let mut slices = Slices::new(floor.vertices().min(9));
+            let before = slices.clone();
+            assert_eq!(slices.mend(floor, job, damaged, work), Err(refusal));
+            assert_eq!(slices, before);
+        };
+        let sheet = whole.sheet(0);
+        let short = Sheet { next: &whole.next[..5], ..sheet };
+        refused(Floor { width: 0, ..OPEN }, JOB, short, 24, Refusal::BadSize);
+        refused(Floor { map: &[], ..OPEN }, JOB, short, 24, Refusal::BadMapLength);
+        refused(Floor { map: &[4], ..OPEN }, JOB, short, 24, Refusal::UnusedBit);
+        refused(OPEN, Job { neighbourhood: 5, ..JOB }, short, 24, Refusal::BadNeighbourhood);
+        refused(OPEN, Job { b: 6, ..JOB }, short, 24, Refusal::BadEnd);
+        refused(TOUCHING, Job { b: 4, ..JOB }, short, 36, Refusal::PinchedEnd);
+        refused(TOUCHING, Job { a: 4, b: 4, ..JOB }, short, 36, Refusal::PinchedEnd);
+        refused(OPEN, JOB, short, 24, Refusal::BadSliceLength);
+        refused(OPEN, JOB, Sheet { d: &whole.d[1..], ..sheet }, 24, Refusal::BadSliceLength);
+        refused(OPEN, JOB, Sheet { back: &[7; 7], ..sheet }, 24, Refusal::BadSliceLength);
+        refused(OPEN, JOB, sheet, 23, Refusal::BadSliceLength);
+        refused(SHUT, JOB, Sheet { e: &[], ..sheet }, 24, Refusal::BadSliceLength);
+        // Too many routes: d and e are written, the rest is 0, and nothing is counted.
+        let largest = Floor { width: 127, height: 127, map: &[0; 2017] };
+        let corners = Job { neighbourhood: 4, a: 0, b: 16_383 };
+        let (wanted, _) = planned(largest, corners);
+        let mut slices = Slices::new(16_384);
+        let damaged = slices.clone();
+        assert_eq!(slices.mend(largest, corners, damaged.sheet(0), 65_536), Err(Refusal::TooMany));
+        assert!(slices == wanted && slices.f.iter().chain(&slices.back).all(|&count| count == 0));
     }
 
     #[test]

@@ -65,6 +65,21 @@ static inline unsigned first_unused(sides s)
     return left == 0 ? 8 : left;
 }
 
+/* The number at a place of a slice, by the size of its elements. */
+static inline uint64_t number_at(const void *slice, size_t size, size_t place)
+{
+    if (size == 2) return ((const uint16_t *)slice)[place];
+    if (size == 4) return ((const uint32_t *)slice)[place];
+    return ((const uint64_t *)slice)[place];
+}
+
+static inline void put_number(void *slice, size_t size, size_t place, uint64_t number)
+{
+    if (size == 2) ((uint16_t *)slice)[place] = (uint16_t)number;
+    else if (size == 4) ((uint32_t *)slice)[place] = (uint32_t)number;
+    else ((uint64_t *)slice)[place] = number;
+}
+
 /* A slice lent to a call: its bytes between two guards, a copy of both guards and bytes, and the pointer that is handed
  * in. With no bytes the pointer is null, or one that no read would survive. */
 enum { GUARD = 64 };
