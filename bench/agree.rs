@@ -5,8 +5,9 @@ use crate::copied_sight::Sight;
 use crate::floors::{Case, Kind, Random, KINDS, SIDES};
 use crate::legs;
 use crate::lurfanzi::{check_legs, fewest_legs, log_of, pack, Floor, Job, UNREACHABLE};
-use crate::lurfanzi::{CostChange, Plan, Proposal, Refusal, Replay, Verdict};
+use crate::lurfanzi::{CostChange, Differences, Mended, Plan, Proposal, Refusal, Replay, Verdict};
 use crate::programs::{Operation, Program, Slices, LIBRARY, PROGRAMS, TEXTBOOK};
+use std::num::NonZeroUsize;
 
 const NEIGHBOURHOODS: [u32; 3] = [4, 8, 16];
 
@@ -100,6 +101,32 @@ fn agree_on_cost_changes(floor: Floor, job: Job, truth: &Truth, random: &mut Ran
         assert_eq!(changes, wanted, "cost changes: the bytes");
         assert!(slices.work.iter().all(|&number| number == 0), "cost changes: the working slice");
     }
+}
+
+/// The library mends a sheet with some numbers altered, and counts the places where it differs from the true one.
+fn agree_on_mending(floor: Floor, job: Job, truth: &Truth, random: &mut Random) {
+    fn count<T: PartialEq>(one: &[T], other: &[T]) -> usize {
+        one.iter().zip(other).filter(|(a, b)| a != b).count()
+    }
+    let (whole, mut damaged) = (&truth.slices, truth.slices.clone());
+    for _ in 0..random.below(20) {
+        alter(&mut damaged, random);
+    }
+    let damage = Differences {
+        d: count(&damaged.d, &whole.d),
+        e: count(&damaged.e, &whole.e),
+        f: count(&damaged.f, &whole.f),
+        back: count(&damaged.back, &whole.back),
+        route: count(&damaged.route, &whole.route),
+        next: count(&damaged.next, &whole.next),
+    };
+    let mut slices = Slices::new(floor.vertices(), random.below(256) as u8);
+    let wanted = match truth.planned {
+        Ok(_) | Err(Refusal::NoRoute) => Ok(Mended { points: NonZeroUsize::new(truth.points()), damage }),
+        Err(refusal) => Err(refusal),
+    };
+    assert_eq!(slices.mend(floor, job, damaged.sheet(random.below(9))), wanted, "mend");
+    assert!(slices == *whole, "mend: the slices");
 }
 
 /// The fewest legs from each position of a joined list, by a look at all pairs.
@@ -273,6 +300,7 @@ fn all_agree_on(floor: Floor, job: Job, truth: &Truth, random: &mut Random) {
     }
     agree_on_replay(floor, job, truth, random);
     agree_on_cost_changes(floor, job, truth, random);
+    agree_on_mending(floor, job, truth, random);
 }
 
 fn is_blocked(floor: Floor, i: i32, j: i32) -> bool {

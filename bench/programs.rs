@@ -1,7 +1,7 @@
 //! The programs, and one operation of one program on one job.
 
 use crate::floors::{Case, Kind};
-use crate::lurfanzi::{self, CostChangesMut, Floor, Job, Plan, Refusal, Replay, Sheet, SheetMut, Verdict};
+use crate::lurfanzi::{self, CostChangesMut, Floor, Job, Mended, Plan, Refusal, Replay, Sheet, SheetMut, Verdict};
 use crate::{buckets, textbook, tuned, tuned_check, tuned_sight};
 use std::hint::black_box;
 
@@ -27,12 +27,11 @@ impl Program {
         let job = Job { neighbourhood, a: 0, b: 0 };
         let mut slices = Slices::new(floor.vertices(), 0);
         let answer = match operation {
-            Operation::Plan | Operation::Costs | Operation::Finish | Operation::FortyJobs => {
-                slices.costs(self, floor, job)
-            }
+            operation if operation.is_of_planner() => slices.costs(self, floor, job),
             Operation::Check => (self.check)(floor, job, slices.sheet(0)).map(|_| ()),
             Operation::Replay => slices.replay(floor, job, &[]).map(|_| ()),
             Operation::CostChanges => slices.cost_changes(floor, floor, job, &mut [0; 4]),
+            Operation::Mend => slices.mend(floor, job, Slices::new(floor.vertices(), 0).sheet(0)).map(|_| ()),
             _ => Ok(()),
         };
         answer != Err(Refusal::BadNeighbourhood)
@@ -88,6 +87,8 @@ pub enum Operation {
     Costs,
     /// A job from given costs.
     Finish,
+    /// A job from given costs of which that of the last vertex is false: it is refused after all are tested.
+    FalseCosts,
     /// The costs from one dock, and forty jobs from them.
     FortyJobs,
     Check,
@@ -96,6 +97,8 @@ pub enum Operation {
     Replay,
     /// The costs on the floor and on the one after a change.
     CostChanges,
+    /// A sheet with a damaged place in each slice.
+    Mend,
     ShortSight,
     LongSight,
     /// One row and a whole side of columns.
@@ -110,15 +113,17 @@ pub enum Operation {
     DiagonalSight,
 }
 
-pub const OPERATIONS: [Operation; 15] = [
+pub const OPERATIONS: [Operation; 17] = [
     Operation::Plan,
     Operation::Costs,
     Operation::Finish,
+    Operation::FalseCosts,
     Operation::FortyJobs,
     Operation::Check,
     Operation::Thin,
     Operation::Replay,
     Operation::CostChanges,
+    Operation::Mend,
     Operation::ShortSight,
     Operation::LongSight,
     Operation::FlatSight,
@@ -144,11 +149,13 @@ impl Operation {
             Operation::Plan => "plan",
             Operation::Costs => "costs",
             Operation::Finish => "finish",
+            Operation::FalseCosts => "false-costs",
             Operation::FortyJobs => "forty-jobs",
             Operation::Check => "check",
             Operation::Thin => "thin",
             Operation::Replay => "replay",
             Operation::CostChanges => "cost-changes",
+            Operation::Mend => "mend",
             Operation::ShortSight => "short-sight",
             Operation::LongSight => "long-sight",
             Operation::FlatSight => "flat-sight",
@@ -159,15 +166,21 @@ impl Operation {
         }
     }
 
-    /// Whether the library alone has it. It is measured beside the library's costs from one end.
+    /// Whether it is one of the planner, of which every program has its own.
+    fn is_of_planner(self) -> bool {
+        use Operation::*;
+        matches!(self, Plan | Costs | Finish | FalseCosts | FortyJobs)
+    }
+
+    /// Whether the library alone has it. It is measured beside other operations of the library.
     pub fn is_of_library_alone(self) -> bool {
-        matches!(self, Operation::Replay | Operation::CostChanges)
+        matches!(self, Operation::Replay | Operation::CostChanges | Operation::Mend)
     }
 
     /// The programs to measure: those with an operation of their own.
     pub fn programs(self) -> &'static [Program] {
         match self {
-            Operation::Plan | Operation::Costs | Operation::Finish | Operation::FortyJobs => &PROGRAMS,
+            _ if self.is_of_planner() => &PROGRAMS,
             _ if self.is_of_library_alone() => &PROGRAMS[..1],
             _ => &PROGRAMS[..3],
         }
@@ -242,26 +255,46 @@ impl Slices {
         lurfanzi::cost_changes(floor, after, job.neighbourhood, job.a, &mut to, &mut self.work)
     }
 
+    /// Mends a sheet into these by the library.
+    pub fn mend(&mut self, floor: Floor, job: Job, damaged: Sheet) -> Result<Mended, Refusal> {
+        let Slices { d, e, f, back, route, next, work } = self;
+        lurfanzi::mend(floor, job, damaged, d, &mut SheetMut { e, f, back, route, next }, work)
+    }
+
     pub fn sheet(&self, points: usize) -> Sheet<'_> {
         let Slices { d, e, f, back, route, next, .. } = self;
         Sheet { d, e, f, back, route, next, points }
     }
 }
 
-/// A job, the floor after a change, the job's true sheet, the log of its route, the other ends of forty jobs from its
-/// start, and memory for the operations. The memory is not cleared between runs; `given` has the true costs in d.
+/// A job, the floor after a change, the job's true sheet and a damaged one, the log of its route, the other ends of
+/// forty jobs from its start, and memory for the operations. The memory is not cleared between runs; `given` has the
+/// true costs in d, and `falsely_given` costs of which the last is false.
 pub struct Bench<'a> {
     pub case: &'a Case,
     after: Case,
     pub truth: Slices,
+    damaged: Slices,
     pub points: usize,
     log: Vec<u8>,
     ends: Vec<u32>,
     given: Slices,
+    falsely_given: Slices,
     segments: [Vec<(u32, u32)>; 7],
     slices: Slices,
     out: Vec<u16>,
     changes: Vec<u8>,
+}
+
+/// Turns a bit over in the middle of each slice of a sheet.
+fn damage(sheet: &mut Slices) {
+    let middle = sheet.d.len() / 2;
+    sheet.d[middle] ^= 1;
+    sheet.e[middle] ^= 1;
+    sheet.f[middle] ^= 1;
+    sheet.back[middle] ^= 1;
+    sheet.route[middle] ^= 1;
+    sheet.next[middle] ^= 1;
 }
 
 impl<'a> Bench<'a> {
@@ -279,7 +312,12 @@ impl<'a> Bench<'a> {
         let ends = case.forty_ends();
         let (slices, out, changes) = (Slices::new(vertices, 0xFF), vec![0xFFFF; vertices], vec![0xFF; vertices]);
         let after = case.without_route();
-        Bench { case, after, truth, points, log, ends, given, segments, slices, out, changes }
+        let (mut damaged, mut falsely_given) = (truth.clone(), given.clone());
+        damage(&mut damaged);
+        falsely_given.d[vertices - 1] ^= 1;
+        Bench {
+            case, after, truth, damaged, points, log, ends, given, falsely_given, segments, slices, out, changes,
+        }
     }
 
     /// How many operations a run has.
@@ -302,6 +340,7 @@ impl<'a> Bench<'a> {
                 _ = black_box(self.given.finish(program, floor, job));
                 black_box(&self.given.route);
             }
+            Operation::FalseCosts => _ = black_box(self.falsely_given.finish(program, floor, job)),
             Operation::FortyJobs => {
                 _ = black_box(self.slices.costs(program, floor, job));
                 for &b in &self.ends {
@@ -321,6 +360,10 @@ impl<'a> Bench<'a> {
             Operation::CostChanges => {
                 _ = black_box(self.slices.cost_changes(floor, self.after.floor(), job, &mut self.changes));
                 black_box(&self.changes);
+            }
+            Operation::Mend => {
+                _ = black_box(self.slices.mend(floor, job, self.damaged.sheet(0)));
+                black_box(&self.slices.route);
             }
             _ => {
                 for &(a, b) in operation.segments().iter().flat_map(|&k| &self.segments[k]) {

@@ -91,11 +91,13 @@ fn title(operation: Operation) -> &'static str {
         Operation::Plan => "Whole plan",
         Operation::Costs => "Costs from one end",
         Operation::Finish => "Finish from given costs",
+        Operation::FalseCosts => "Finish refused, for a false cost of the last vertex",
         Operation::FortyJobs => "Forty jobs from one dock",
         Operation::Check => "Checker, on the true sheet",
         Operation::Thin => "Thinning of the central route",
         Operation::Replay => "Replay of the central route as a log",
         Operation::CostChanges => "Change of the costs between two floors",
+        Operation::Mend => "Mending of a damaged sheet",
         Operation::ShortSight => "Sight question, at most 8 cells",
         Operation::LongSight => "Sight question, at least half the side",
         Operation::FlatSight => "Sight question, one row and the whole side",
@@ -115,7 +117,7 @@ fn ratio(time: Option<f64>, to: Option<f64>) -> Option<f64> {
     Some(time? / to?)
 }
 
-fn print_row(row: &Row, search: Option<f64>) {
+fn print_row(row: &Row, beside: Option<f64>) {
     let name = match row.operation.has_neighbourhood() {
         true => format!("{} {}", row.kind.name(), row.neighbourhood),
         false => row.kind.name().to_string(),
@@ -123,20 +125,36 @@ fn print_row(row: &Row, search: Option<f64>) {
     let (smallest, largest) = (&row.by_side[0], &row.by_side[SIDES.len() - 1]);
     let ratios = |other: usize| cells(row.by_side.iter().map(move |times| ratio(times[0], times[other])), 2);
     let all_ratios: String = (1..largest.len()).map(ratios).collect();
-    let to_search = cells(search.iter().map(|&time| ratio(largest[0], Some(time))), 2);
+    let to_beside = cells(beside.iter().map(|&time| ratio(largest[0], Some(time))), 2);
     let times = cells(largest.iter().map(|&time| ratio(time, Some(1000.0))), 2);
     let growth = cells(largest.iter().zip(smallest).map(|(&most, &least)| ratio(most, least)), 0);
-    println!("| {name} |{all_ratios}{to_search}{times}{growth}");
+    println!("| {name} |{all_ratios}{to_beside}{times}{growth}");
 }
 
-/// The time for the costs from one end on a row's floor, at 127 cells a side, among all rows: for a plan the textbook
-/// program's, for what the library alone has the library's.
-fn search(rows: &[Row], of: &Row) -> Option<f64> {
-    let same_floor = |row: &&Row| (row.kind, row.neighbourhood) == (of.kind, of.neighbourhood);
-    let costs = rows.iter().filter(same_floor).find(|row| row.operation == Operation::Costs)?;
+/// What else the library's time at 127 cells a side is divided by.
+fn beside_name(operation: Operation) -> Option<&'static str> {
+    match operation {
+        Operation::Plan => Some("one heap search"),
+        Operation::Mend => Some("the library's costs and finish without the test"),
+        _ if operation.is_of_library_alone() => Some("the library's costs from one end"),
+        _ => None,
+    }
+}
+
+/// That time, on a row's floor in the same run. A heap search is the textbook program's for the costs from one end.
+/// What the library's finish does past the test of the costs is the whole of it less one that a false cost ends there.
+fn beside(rows: &[Row], of: &Row) -> Option<f64> {
+    let time = |operation: Operation, program: usize| {
+        let same = |row: &&Row| {
+            (row.operation, row.kind, row.neighbourhood) == (operation, of.kind, of.neighbourhood)
+        };
+        rows.iter().find(same)?.by_side[SIDES.len() - 1][program]
+    };
+    let costs = |program: usize| time(Operation::Costs, program);
     match of.operation {
-        Operation::Plan => costs.by_side[SIDES.len() - 1][1],
-        operation if operation.is_of_library_alone() => costs.by_side[SIDES.len() - 1][0],
+        Operation::Plan => costs(1),
+        Operation::Mend => Some(costs(0)? + time(Operation::Finish, 0)? - time(Operation::FalseCosts, 0)?),
+        operation if operation.is_of_library_alone() => costs(0),
         _ => None,
     }
 }
@@ -145,12 +163,7 @@ fn print_heading(operation: Operation) {
     let names = || operation.programs().iter().map(|program| program.name);
     let mut columns = vec!["floor".to_string()];
     columns.extend(names().skip(1).flat_map(|name| SIDES.map(|side| format!("to {name}, {side}"))));
-    if operation == Operation::Plan {
-        columns.push("to one heap search, 127".to_string());
-    }
-    if operation.is_of_library_alone() {
-        columns.push("to the library's costs from one end, 127".to_string());
-    }
+    columns.extend(beside_name(operation).map(|name| format!("to {name}, 127")));
     columns.extend(names().map(|name| format!("{name} μs, 127")));
     columns.extend(names().map(|name| format!("{name} growth")));
     println!("### {}\n", title(operation));
@@ -165,7 +178,7 @@ pub fn print(rounds: usize) {
     for operation in OPERATIONS {
         print_heading(operation);
         for row in rows.iter().filter(|row| row.operation == operation) {
-            print_row(row, search(&rows, row));
+            print_row(row, beside(&rows, row));
         }
         println!();
     }
