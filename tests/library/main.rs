@@ -6,6 +6,7 @@ mod calls;
 #[allow(dead_code)]
 #[path = "../../examples/rust/lurfanzi.rs"]
 mod lurfanzi;
+mod mending;
 
 use calls::{TwoCosts, WriteResult, Writer};
 use lurfanzi::{Closures, Floor, Job, Obstacle, Rectangle, Refusal, Replay, Sheet, SheetMut, Verdict};
@@ -102,11 +103,15 @@ impl Record {
         self.payload.chunks_exact(8).map(|pair| (number(&pair[..4]) as u32, number(&pair[4..]) as u32))
     }
 
-    /// The payload's changes: slice, place, value.
     fn changes(&self) -> impl Iterator<Item = (u64, usize, u64)> + '_ {
-        let change = |row: &[u8]| (number(&row[..4]), number(&row[4..8]) as usize, number(&row[8..]));
-        self.payload.chunks_exact(16).map(change)
+        changes_in(&self.payload)
     }
+}
+
+/// The changes of a payload: slice, place, value.
+fn changes_in(rows: &[u8]) -> impl Iterator<Item = (u64, usize, u64)> + '_ {
+    let change = |row: &[u8]| (number(&row[..4]), number(&row[4..8]) as usize, number(&row[8..]));
+    rows.chunks_exact(16).map(change)
 }
 
 #[derive(Clone)]
@@ -203,6 +208,7 @@ impl Driver {
             18 => self.write_job(record),
             19 => self.propose(record),
             20 => format!("legs {}", self.legs(record)),
+            21 => self.mend(record),
             _ => return Err(Error::new(ErrorKind::InvalidData, "a record of no known operation")),
         })
     }

@@ -4,6 +4,7 @@ use crate::changes;
 use crate::closures::{Rectangle, Table};
 use crate::format::{self, Damage, Digest, Record};
 use crate::legs;
+use crate::mend::{self, Second};
 use crate::packed::{self, PackedFloor};
 use crate::replay;
 use crate::sheet::{self, Handed, Lent, Request, Solver};
@@ -160,6 +161,7 @@ impl Runner {
             format::FINISH => self.finish(record),
             format::LOAD => self.load(record),
             format::CHECK => self.check(record),
+            format::MEND => self.mend(record),
             format::THIN => self.thin(record),
             format::SIGHT => self.sight(record),
             format::TABLE => self.table(record),
@@ -371,6 +373,22 @@ impl Runner {
             at.put(old);
         });
         format!("check {answer}")
+    }
+
+    /// The second set and its working slice are made for the call, with the pattern in them.
+    fn mend(&mut self, record: &Record) -> String {
+        let at = &mut self.buffers;
+        let ([d, e, f, b, route, next], damages) = mend::from_payload(&record.payload);
+        let undo: Vec<Damage> = damages.iter().map(|&damage| at.put(damage)).collect();
+        let (d, e, f, b) = (&at.d[..d], &at.e[..e], &at.f[..f], &at.b[..b]);
+        let old = Handed { d, e, f, b, route: &at.route[..route], next: &at.next[..next], n: at.n };
+        let mut second = Second::patterned([3, 4, 5, 6, 7, 8, 9].map(|k| record.word(k)), record.words[10]);
+        let told = mend::mend(&mut self.solver, request_of(record), &old, &mut second);
+        undo.iter().rev().for_each(|&old| {
+            at.put(old);
+        });
+        let numbers = [&[told.answer.into(), told.n], &told.differing[..], &second.digests()].concat();
+        format!("mend {}", joined(&numbers))
     }
 
     fn thin(&mut self, record: &Record) -> String {

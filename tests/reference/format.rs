@@ -21,6 +21,7 @@ pub const WRITE_MAP: u8 = 17;
 pub const WRITE_JOB: u8 = 18;
 pub const PROPOSE: u8 = 19;
 pub const LEGS: u8 = 20;
+pub const MEND: u8 = 21;
 
 pub const WORDS: usize = 14;
 pub const HEADER_SIZE: usize = 64;

@@ -37,6 +37,8 @@ pub struct Maker {
     bits: Random,
     /// For next vertices: their records change nothing of the others.
     pushed: Random,
+    /// For mending: its records change nothing of the others.
+    mended: Random,
     /// For neighbourhoods: their records change nothing of the others.
     steered: Random,
     /// For logs: their records change nothing of the others.
@@ -70,6 +72,7 @@ pub fn make(seed: u64, count: u64, wide: bool) -> Vec<u8> {
     let mut maker = Maker {
         out, random, aside, given, corners, bits, pushed, steered, driven, compared, written, chosen, wide, map, solver,
         table, writer: Writer::FRESH,
+        mended: Random::new(seed.swap_bytes() ^ 14),
     };
     let fixed = fixed_floors(&mut maker.random).into_iter().take(count as usize);
     let mut floors: Vec<_> = fixed.map(|(floor, requests)| (PackedFloor::of(&floor), requests)).collect();
@@ -210,12 +213,14 @@ impl Maker {
         if is_good {
             let requests = self.good_operations(requests);
             self.pinch_operations();
+            self.mend_operations(&requests);
             self.replay_operations(&requests);
             self.change_operations();
             self.writer_operations();
             self.legs_operations(&requests);
         } else {
             self.bad_operations();
+            self.mends_on_bad_floor();
             self.logs_on_bad_floor();
             self.changes_on_bad_floor();
             self.writer_on_bad_floor();
@@ -253,6 +258,10 @@ impl Maker {
 
     pub fn use_pushed(&mut self) {
         std::mem::swap(&mut self.random, &mut self.pushed);
+    }
+
+    pub fn use_mended(&mut self) {
+        std::mem::swap(&mut self.random, &mut self.mended);
     }
 
     pub fn use_steered(&mut self) {
@@ -669,7 +678,7 @@ impl Maker {
     }
 }
 
-fn value_at(sheet: &Sheet, slice: usize, place: usize) -> u64 {
+pub fn value_at(sheet: &Sheet, slice: usize, place: usize) -> u64 {
     match slice {
         0 => sheet.d[place].into(),
         1 => sheet.e[place].into(),

@@ -1,4 +1,4 @@
-//! An independent second program for the route planner, its checker, the
+//! An independent second program for the route planner, its checker, the mending of sheets, the
 //! thinner, the sight questions, the closures, the replay, the comparison of two
 //! floors, the fewest stops, the program and the writer of its input. Subcommands:
 //!
@@ -28,6 +28,9 @@ mod legs;
 mod legs_checks;
 mod legs_jobs;
 mod map_jobs;
+mod mend;
+mod mend_checks;
+mod mend_jobs;
 mod natural;
 mod neighbourhood_jobs;
 mod next_jobs;

@@ -93,6 +93,7 @@ impl Maker {
         let pairs = [(0, 0), (0, last as u32), (last as u32 + 1, 0)];
         self.pairs_record(format::SIGHT, &pairs);
         self.pairs_record(format::OBSTACLE, &pairs);
+        self.mend_with_map();
         self.use_driven();
         let (neighbourhood, log) = (self.random.pick(&[good.neighbourhood, 5]), self.random.pick(&[4, 16_385]));
         self.replay_record(neighbourhood, log_of(&[0]), log, [count, 4 * count]);

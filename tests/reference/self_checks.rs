@@ -5,6 +5,7 @@ use crate::floor::Floor;
 use crate::flow_checks;
 use crate::graph::{self, Graph, NEIGHBOURHOODS};
 use crate::layouts::{self, KINDS};
+use crate::mend_checks;
 use crate::natural::Natural;
 use crate::packed::{self, PackedFloor};
 use crate::random::Random;
@@ -26,6 +27,7 @@ pub fn run(tally: &mut Tally) {
     next_walks(tally);
     flow_checks::run(tally);
     checker_on_damage(tally);
+    mend_checks::run(tally);
     costs_by_local_law(tally);
     thinning(tally);
     streams(tally);
@@ -652,6 +654,7 @@ fn streams(tally: &mut Tally) {
     let text = answers::run(&stream).unwrap_or_default();
     tally.holds("a stream ends", text.ends_with("\nend\n"));
     streams_of_neighbourhoods(tally, &stream, &text);
+    mend_checks::streams(tally, &stream, &text);
     streams_of_logs(tally, &stream, &text);
     change_checks::streams(tally, &stream, &text);
     writer_checks::streams(tally, &stream, &text);

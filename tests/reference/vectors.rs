@@ -3,6 +3,7 @@
 
 use crate::closures::{Rectangle, Table};
 use crate::floor::Floor;
+use crate::mend;
 use crate::natural::{binomial, Natural};
 use crate::packed::{self, PackedFloor};
 use crate::sheet::{self, Handed, Lent, PlanAnswer, Request, Sheet, Solver, NO_WALK};
@@ -54,6 +55,7 @@ pub fn run() -> bool {
     source_003(&mut tally);
     programs(&mut tally);
     sixteen::run(&mut tally);
+    mend::run(&mut tally);
     replay::run(&mut tally);
     changes::run(&mut tally);
     writer::run(&mut tally);
