@@ -16,10 +16,13 @@ x,y: the cell corner in column x, row y, from 0,0 at the upper left.
                        up to 16, each with an option of its own
   --log FILE           the walk that a cart's night log tells
   --why P Q            what is in the way from point P to point Q
+  --fewest             keeps the fewest points that can be
   --text               a drawing in characters in place of the SVG
   --job N              of several jobs A B the one that is drawn (1)
   -o FILE              the drawing goes into FILE, and what it says in words to
                        standard output; else the drawing goes there
+  --stream FILE        writes floor and jobs as a record stream for `route`, and
+                       draws nothing without -o or --text
 
 The planner's sheet is checked before it is drawn. Errors and refusals go to
 standard error, with the paper's number in brackets, and the exit status is 1;
@@ -40,8 +43,10 @@ pub struct Arguments {
     pub closures: Vec<Rectangle>,
     pub log: Option<String>,
     pub why: Option<(Point, Point)>,
+    pub fewest: bool,
     pub text: bool,
     pub out: Option<String>,
+    pub stream: Option<String>,
 }
 
 /// What the command line asks for.
@@ -62,8 +67,10 @@ pub fn parse(words: impl IntoIterator<Item = String>) -> Result<Command, String>
         closures: Vec::new(),
         log: None,
         why: None,
+        fewest: false,
         text: false,
         out: None,
+        stream: None,
     };
     let mut plain = Vec::new();
     while let Some(word) = words.next() {
@@ -74,9 +81,11 @@ pub fn parse(words: impl IntoIterator<Item = String>) -> Result<Command, String>
             "--close" => arguments.closures.push(rectangle(&value()?)?),
             "--log" => arguments.log = Some(value()?),
             "--why" => arguments.why = Some((point(&value()?)?, point(&value()?)?)),
+            "--fewest" => arguments.fewest = true,
             "--text" => arguments.text = true,
             "--job" => arguments.job = number(&value()?)? as usize,
             "-o" => arguments.out = Some(value()?),
+            "--stream" => arguments.stream = Some(value()?),
             other if other.starts_with('-') => return Err(format!("there is no option {other}; draw --help has all")),
             _ => plain.push(word),
         }
@@ -142,7 +151,7 @@ mod tests {
     fn all_options() {
         let found = arguments(
             "--moves 16 ward.txt 0,1 2,3 --close 1,2,3,4 --close 5,6,7,8 --log n.log --why 9,8 7,6 --text 4,5 6,7 \
-             --job 2 -o w.svg",
+             --job 2 -o w.svg --fewest --stream w.bin",
         );
         let closure = |column, row, columns, rows| Rectangle { column, row, columns, rows };
         let at = |x, y| Point { x, y };
@@ -154,8 +163,10 @@ mod tests {
             closures: vec![closure(1, 2, 3, 4), closure(5, 6, 7, 8)],
             log: Some("n.log".to_string()),
             why: Some((at(9, 8), at(7, 6))),
+            fewest: true,
             text: true,
             out: Some("w.svg".to_string()),
+            stream: Some("w.bin".to_string()),
         };
         assert_eq!(found, wanted);
     }

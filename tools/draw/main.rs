@@ -3,6 +3,7 @@
 
 mod arguments;
 mod characters;
+mod fewest;
 mod floor_text;
 mod heat;
 mod labels;
@@ -14,6 +15,7 @@ mod planning;
 mod scene;
 mod sides;
 mod sighting;
+mod stream;
 mod svg;
 mod symbols;
 mod words;
@@ -37,17 +39,24 @@ fn read(name: &str) -> Result<Vec<u8>, String> {
     std::fs::read(name).map_err(|error| format!("{name}: {error}"))
 }
 
-/// The scene that is asked for.
-fn composed(arguments: &Arguments) -> Result<Scene, String> {
+/// The floor that is asked for, with its closures.
+fn floor_of(arguments: &Arguments) -> Result<WorkingFloor, String> {
     let name = &arguments.floor;
     let text = floor_text::read(&read(name)?).map_err(|error| format!("{name}: {error}"))?;
+    WorkingFloor::new(text, &arguments.closures)
+}
+
+/// The scene that is asked for.
+fn composed(arguments: &Arguments, floor: WorkingFloor) -> Result<Scene, String> {
+    let name = &arguments.floor;
     let shown = std::path::Path::new(name).file_name().map_or(name.into(), |name| name.to_string_lossy());
-    let mut scene = Scene::new(&shown, WorkingFloor::new(text, &arguments.closures)?);
+    let thinning = if arguments.fewest { fewest::FEWEST } else { planning::FARTHEST };
+    let mut scene = Scene::new(&shown, floor);
     if let Some(&ends) = arguments.jobs.get(arguments.job - 1) {
         if arguments.jobs.len() > 1 {
             scene.caption.push(format!("Job {} of {}.", arguments.job, arguments.jobs.len()));
         }
-        scene.add_job(arguments.neighbourhood, ends, &planning::FARTHEST)?;
+        scene.add_job(arguments.neighbourhood, ends, &thinning)?;
     }
     if let Some(points) = arguments.why {
         scene.add_sighting(points)?;
@@ -56,6 +65,14 @@ fn composed(arguments: &Arguments) -> Result<Scene, String> {
         scene.add_log(arguments.neighbourhood, &read(log)?)?;
     }
     Ok(scene)
+}
+
+/// Writes the record stream of the floor and all its jobs into a file.
+fn write_stream(arguments: &Arguments, floor: &WorkingFloor, file: &str) -> Result<(), String> {
+    let bytes = stream::written(floor, arguments.neighbourhood, &arguments.jobs)?;
+    std::fs::write(file, &bytes).map_err(|error| format!("{file}: {error}"))?;
+    let jobs = words::counted(arguments.jobs.len(), "job");
+    print(&format!("{file}: a floor and {jobs} in {}\n", words::counted(bytes.len(), "byte")))
 }
 
 /// Writes the drawing, and what it says in words: the words go to standard output where the drawing goes into a file,
@@ -82,17 +99,27 @@ fn print(text: &str) -> Result<(), String> {
     std::io::stdout().write_all(text.as_bytes()).map_err(|error| format!("standard output: {error}"))
 }
 
+/// Writes what is asked for: the refusals among the answers.
+fn draw(arguments: &Arguments) -> Result<Vec<String>, String> {
+    let floor = floor_of(arguments)?;
+    if let Some(file) = &arguments.stream {
+        write_stream(arguments, &floor, file)?;
+        if arguments.out.is_none() && !arguments.text {
+            return Ok(Vec::new());
+        }
+    }
+    let scene = composed(arguments, floor)?;
+    write(arguments, &scene)?;
+    Ok(scene.refusals)
+}
+
 /// Does what the command line asks for: the refusals among the answers.
 fn run() -> Result<Vec<String>, String> {
     let words: Result<Vec<String>, _> = std::env::args_os().skip(1).map(|word| word.into_string()).collect();
     let words = words.map_err(|word| format!("{word:?} is no text"))?;
     match arguments::parse(words)? {
         Command::Help => print(arguments::HELP).map(|()| Vec::new()),
-        Command::Draw(arguments) => {
-            let scene = composed(&arguments)?;
-            write(&arguments, &scene)?;
-            Ok(scene.refusals)
-        }
+        Command::Draw(arguments) => draw(&arguments),
     }
 }
 
