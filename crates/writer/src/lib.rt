@@ -185,8 +185,8 @@ impl Writer {
         Writer { at: 0, due: 0 }
     }
 
-    // Writes a map record: the floor of w by h cells whose packed map is `map`, a byte to a cell. A refusal, 1, 2, 3,
-    // 20 or 18, writes nothing and answers this writer.
+    // Writes a map record: the floor of w by h cells with the packed map `map`; the record has a byte to a cell. A
+    // refusal, 1, 2, 3, 20 or 18, writes nothing and answers this writer.
     pub fn put_map(self, w: usize, h: usize, map: &[u8], buf: &mut [u8]) -> AfterWrite
         ensures { λ r. ⌜ Writes self (putMap w h (now (map .entry))) (now (buf .entry)) r (now (buf .exit)) ⌝ }
     {
