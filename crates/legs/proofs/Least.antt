@@ -2,7 +2,7 @@
 -- fewest legs.
 --
 --   leg-seen      == of two positions in order a leg is their sight
---   at-most-one, at-most-more == what is at most a number, and at most one number more
+--   at-most-one, at-most-then == what is at most one number, and at most each of two runs, one after the other
 --   least-none, least-lesser, least-seen, least-unseen == the least over no position, over positions with no lesser
 --                    number, and over one position that is seen or not
 --   least-then    == the least over two runs of positions, one after the other
@@ -19,7 +19,7 @@ use mathlib.Core.List.{List}
 use native.Mathlib.Omega.{arith}
 use borrow.Author.Tests.{lt-ltb}
 use lib.ListN.{getD}
-use Rattle.basics.proofs.Order.{le-or-lt, eq-or-ne}
+use Rattle.basics.proofs.Order.{le-or-lt}
 use Rattle.basics.proofs.Bools.{not-both}
 use Rattle.legs.specs.Choices.{Leg, isLeg, fewestLegs}
 use Rattle.legs.specs.Known.{RightFrom, AtMost, Least}
@@ -32,11 +32,11 @@ leg-seen s n i j a b = rw (lt-ltb i j a, lt-ltb j n b)
 pub at-most-one : (l : List ℕ) (k m : ℕ) → m ≡ getD l k 0 → AtMost l k (k + 1) m
 at-most-one l k m e = record { each = λ j a b. let q : j ≡ k = omega arith in rw q (omega arith) }
 
-pub at-most-more : {l : List ℕ} {a b m : ℕ} → AtMost l a b m → (c r : ℕ) → c ≡ b + 1 → r ≡ min m (getD l b 0)
-    → AtMost l a c r
-at-most-more {l} {a} {b} {m} h c r d e = record {
-  each = λ j x y. ⊎-elim (λ (q : j ≡ b). rw q (omega arith)) (λ ne. omega (arith, h .each j x (omega arith)))
-      (eq-or-ne j b);
+pub at-most-then : {l : List ℕ} {a b c x y : ℕ} → AtMost l a b x → AtMost l b c y → (d r : ℕ) → d ≡ c → r ≡ min x y
+    → AtMost l a d r
+at-most-then {b = b} h t d r e q = record {
+  each = λ j u v. ⊎-elim (λ (z : b ≤ j). omega (arith, t .each j z (omega arith)))
+      (λ (z : j < b). omega (arith, h .each j u z)) (le-or-lt b j);
 }
 
 module _ (s : ℕ → ℕ → Bool) (n : ℕ) (l : List ℕ) (i : ℕ) where

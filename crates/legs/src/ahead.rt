@@ -22,18 +22,28 @@ fn lesser(a: usize, b: usize) -> usize
     b
 }
 
-// The least of eight numbers, from position k on.
+// The least of two numbers, from position k on.
+fn least_of_two(numbers: &[u16], k: usize) -> usize
+    requires { ⌜ k + 2 ≤ length (now numbers) ⌝ }
+    ensures { λ r. ⌜ AtMost (now (numbers .entry)) k (k + 2) r ⌝ }
+{
+    lesser(number_at(numbers, k), number_at(numbers, k + 1))
+}
+
+// The least of four numbers, from position k on.
+fn least_of_four(numbers: &[u16], k: usize) -> usize
+    requires { ⌜ k + 4 ≤ length (now numbers) ⌝ }
+    ensures { λ r. ⌜ AtMost (now (numbers .entry)) k (k + 4) r ⌝ }
+{
+    lesser(least_of_two(numbers, k), least_of_two(numbers, k + 2))
+}
+
+// The least of eight numbers, from position k on. No comparison waits for more than two others.
 fn least_of_eight(numbers: &[u16], k: usize) -> usize
     requires { ⌜ k + 8 ≤ length (now numbers) ⌝ }
     ensures { λ r. ⌜ AtMost (now (numbers .entry)) k (k + 8) r ⌝ }
 {
-    let mut least = number_at(numbers, k);
-    let mut m: usize = 1;
-    while m < 8 {
-        least = lesser(least, number_at(numbers, k + m));
-        m += 1;
-    }
-    least
+    lesser(least_of_four(numbers, k), least_of_four(numbers, k + 4))
 }
 
 // The lesser of `cap` and the number at position j, where i has a leg to j, else `cap`. Sight is asked only where the
