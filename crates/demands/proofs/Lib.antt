@@ -1,0 +1,9 @@
+pub mod Shapes
+pub mod Answers
+pub mod ClosureAnswers
+pub mod RequestAnswers
+pub mod Walks
+pub mod Sheets
+pub mod Routes
+pub mod Checks
+pub mod Requests
