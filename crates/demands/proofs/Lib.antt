@@ -7,3 +7,4 @@ pub mod Sheets
 pub mod Routes
 pub mod Checks
 pub mod Requests
+pub mod Demands

@@ -1,7 +1,7 @@
--- The customer's three demands, and what the requests after them promise, on one page. Each statement is a record that
--- follows from what an operation promises, for every input. The proofs are in proofs/: `Answers` has demand 1, `Routes`
--- demand 2, `Sheets` demand 3 and `Requests` the rest; each theorem there takes the `ensures` of an operation and gives
--- the record of this page.
+-- The customer's three demands, and what the requests after them promise, on one page. The statements are the records
+-- `Demand1`, `Demand2`, `Demand3` and `Requests`, each at the end of its section; proofs/Demands.antt proves the four.
+-- Each field begins with what an operation promises, its `ensures`: `FillsCosts`, `Finishes`, `Thins` and so on, or the
+-- equation of its answer. Nothing is assumed of the input.
 --
 -- Words that come from the crates below:
 --   w, h, map             == a floor's width, height and map, as they are handed in; nb is the neighbourhood
@@ -60,32 +60,35 @@ use Rattle.checker.specs.declared.Checked.{Checked}
 use Rattle.thinning.specs.Thinning.{seen, joinedList, keptPositions}
 use Rattle.thinning.specs.Answer.{Thins, thinNumber, thinKept}
 use Rattle.thinning.specs.declared.Thinned.{Thinned}
-use Rattle.closures.specs.Plain.{Plain, within, lowestFree, freeIn, closedBy, workingMap}
+use Rattle.closures.specs.Plain.{Plain, nothingHeld, within, lowestFree, freeIn, closedBy, workingMap}
 use Rattle.closures.specs.Plain.{postNumber, postSlot, strikeNumber, workNumber}
-use Rattle.closures.specs.Table.{held, withSlot}
+use Rattle.closures.specs.Table.{held, withSlot, emptyTable, Posts, Strikes, Writes as WritesMap}
+use Rattle.closures.specs.Calls.{Call as ClosureCall, tableAfter, plainAfter}
 use Rattle.closures.specs.declared.Rectangle.{Rectangle}
 use Rattle.closures.specs.declared.Closures.{Closures}
 use Rattle.closures.specs.declared.Hold.the-variants.{Free, Held}
 use Rattle.closures.specs.declared.Posting.{Posting}
 use Rattle.closures.specs.declared.Striking.{Striking}
 use Rattle.closures.specs.declared.Writing.{Writing}
-use Rattle.stored_closures.specs.Stored.{storedIn, withNumbers, noNumbers}
+use Rattle.stored_closures.specs.Stored.{storedIn, withNumbers, noNumbers, PostsIn, StrikesIn, WritesFrom}
+use Rattle.stored_closures.specs.Calls.{noneStored, storedAfter}
 use Rattle.logs.specs.Log.{Log, logOf}
-use Rattle.replay.specs.Replay.{ReplaySlices, replaySlicesOf, logCosts, pinchAt, firstStop, lastStop}
+use Rattle.replay.specs.Replay.{ReplaySlices, replaySlicesOf, logCosts, pinchAt, firstStop, lastStop, Replays}
 use Rattle.replay.specs.Replay.{replayNumber, replayRead, replayCost, replayUnfollowed, replayCheapest}
 use Rattle.replay.specs.declared.Replayed.{Replayed}
-use Rattle.changes.specs.Changes.{GivenFloor, floorIn, differing, cellsNumber, ReportSlices, costsOn, costsNumber}
+use Rattle.changes.specs.Changes.{GivenFloor, floorIn, differing, ReportsCells, cellsNumber}
+use Rattle.changes.specs.Changes.{ReportSlices, costsOn, ReportsCosts, costsNumber}
 use Rattle.changes.specs.declared.CellReport.{CellReport}
 use Rattle.changes.specs.declared.CostReport.{CostReport}
 use Rattle.records.specs.Format.{mapSide}
-use Rattle.writer.specs.Writing.{Call, putMap, putJob, callBytes, inTurn, writingNumber}
+use Rattle.writer.specs.Writing.{Call, putMap, putJob, callBytes, inTurn, Writes as WritesRecord, writingNumber}
 use Rattle.writer.specs.Calls.{fresh, after, ReadBack, readEnd, WrittenBack}
 use Rattle.writer.specs.declared.Writer.{Writer}
 use Rattle.writer.specs.declared.AfterWrite.{AfterWrite}
 use Rattle.legs.specs.Choices.{Choice, Fewest, fewestLegs}
-use Rattle.legs.specs.Answer.{trueChoice, proposed, checkAnswer as legsAnswer, checkNumber as legsNumber}
+use Rattle.legs.specs.Answer.{trueChoice, proposed, checkAnswer as legsAnswer, checkNumber as legsNumber, Proposes}
 use Rattle.legs.specs.declared.Checked.{Checked as LegsChecked}
-use Rattle.mending.specs.Mending.{MendSlices, sheetIn, withCosts, sheetDifferences, noDifferences}
+use Rattle.mending.specs.Mending.{MendSlices, sheetIn, withCosts, sheetDifferences, noDifferences, Mends}
 use Rattle.mending.specs.Mending.{mendNumber, mendPoints, mendDifferences}
 use Rattle.mending.specs.declared.Mended.{Mended}
 
@@ -442,6 +445,42 @@ pub record AnswersMend (w h : ℕ) (map : List ℕ) (nb a b : ℕ) (old : Sheet)
   pub counts : mendDifferences r ≡ planLeft (mendNumber r) (sheetDifferences old (routeSheet g a b))
       (sheetDifferences old (noRouteSheet g a)) noDifferences noDifferences
 
+-- Demand 1, of every operation: from what its `ensures` says.
+pub record Demand1 : Type 0 where
+  pub sight : (w h : ℕ) (map : List ℕ) (a b : ℕ) (r : Sight) → r ≡ sightAnswer w h map a b → AnswersSight w h map a b r
+  pub costs : (w h : ℕ) (map : List ℕ) (nb a : ℕ) (s : CostSlices) (r : Costed) (s' : CostSlices)
+      → FillsCosts w h map nb a s r s' → AnswersCosts w h map nb a s r s'
+  pub plan : (w h : ℕ) (map : List ℕ) (nb a b : ℕ) (d : List ℕ) (s : Slices) (r : Planned) (s' : Slices)
+      → Finishes w h map nb a b d s r s' → AnswersPlan w h map nb a b d s r s' (graphOf w h map nb)
+  pub check : (w h : ℕ) (map : List ℕ) (nb a b : ℕ) (s : Sheet) (r : Checked)
+      → r ≡ checkAnswer w h map nb a b s → AnswersCheck w h map nb a b s r
+  pub thin : (w h : ℕ) (map list out : List ℕ) (n : ℕ) (r : Thinned) (out' : List ℕ)
+      → Thins w h map list out n r out' → AnswersThin w h map list out n r out'
+  pub post : (t : Closures) (r : Rectangle) (p : Posting) (t' : Closures) → Posts t r p t' → AnswersPost t r p t'
+  pub strike : (t : Closures) (k : ℕ) (p : Striking) (t' : Closures) → Strikes t k p t' → AnswersStrike t k p t'
+  pub working-map : (t : Closures) (base work : List ℕ) (p : Writing) (work' : List ℕ)
+      → WritesMap t base work p work' → AnswersWorkingMap t base work p work'
+  pub stored-post : (w h : ℕ) (l : List ℕ) (r : Rectangle) (p : Posting) (l' : List ℕ)
+      → PostsIn w h l r p l' → AnswersStoredPost w h l r p l'
+  pub stored-strike : (w h : ℕ) (l : List ℕ) (k : ℕ) (p : Striking) (l' : List ℕ)
+      → StrikesIn w h l k p l' → AnswersStoredStrike w h l k p l'
+  pub stored-map : (w h : ℕ) (l base work : List ℕ) (p : Writing) (work' : List ℕ)
+      → WritesFrom w h l base work p work' → AnswersStoredMap w h l base work p work'
+  pub replay : (w h : ℕ) (map : List ℕ) (nb : ℕ) (log : List ℕ) (s : ReplaySlices) (r : Replayed) (s' : ReplaySlices)
+      → Replays w h map nb log s r s' → AnswersReplay w h map nb log s r s'
+  pub cells : (p q : GivenFloor) (l : List ℕ) (r : CellReport) (l' : List ℕ)
+      → ReportsCells p q l r l' → AnswersCells p q l r l'
+  pub changes : (p q : GivenFloor) (nb a : ℕ) (s : ReportSlices) (r : CostReport) (s' : ReportSlices)
+      → ReportsCosts p q nb a s r s' → AnswersChanges p q nb a s r s'
+  pub write : (c : Writer) (x : Call) (buf : List ℕ) (r : AfterWrite) (buf' : List ℕ)
+      → WritesRecord c x buf r buf' → AnswersWrite c x buf r buf'
+  pub legs : (w h : ℕ) (map list kept legs : List ℕ) (n c : ℕ) (r : LegsChecked)
+      → r ≡ legsAnswer w h map list n kept c legs → AnswersLegs w h map list n kept c legs r
+  pub proposal : (w h : ℕ) (map list kept legs : List ℕ) (n : ℕ) (r : Thinned) (kept' legs' : List ℕ)
+      → Proposes w h map list kept legs n r kept' legs' → AnswersProposal w h map list kept legs n r kept' legs'
+  pub mend : (w h : ℕ) (map : List ℕ) (nb a b : ℕ) (old : Sheet) (s : MendSlices) (r : Mended) (s' : MendSlices)
+      → Mends w h map nb a b old s r s' → AnswersMend w h map nb a b old s r s' (graphOf w h map nb)
+
 -- ==== demand 2: costs, counts, route, "no route" and "too many" are exactly the published method's
 
 -- No cost but M is above the paper's bound: 16,383 times the dearest move.
@@ -504,12 +543,32 @@ pub record Kept (f : Floor) (list : List ℕ) (n k : ℕ) (out : List ℕ) : Typ
   pub sees-next : (m : ℕ) → suc m < k → seen f list (getD out m 0) (getD out (suc m) 0) ≡ true
   pub rest : (m : ℕ) → k ≤ m → getD out m 0 ≡ 0
 
+-- Demand 2, of the planner's operations, of the two together, and of thinning.
+pub record Demand2 : Type 0 where
+  pub costs : (w h : ℕ) (map : List ℕ) (nb a : ℕ) (s : CostSlices) (r : Costed) (s' : CostSlices)
+      → FillsCosts w h map nb a s r s' → costedNumber r ≡ 0 → TrueCosts (graphOf w h map nb) nb a (s' .d)
+  pub plan : (w h : ℕ) (map : List ℕ) (nb a b : ℕ) (d : List ℕ) (s : Slices) (r : Planned) (s' : Slices)
+      → Finishes w h map nb a b d s r s' → firstOf (finishShape w h map nb a b d s) ≡ 0
+      → Plans (graphOf w h map nb) nb a b d r s'
+  pub planner : (w h : ℕ) (map : List ℕ) (nb a b : ℕ) (s : CostSlices) (r : Costed) (s' : CostSlices) (t : Slices)
+      (q : Planned) (t' : Slices) → FillsCosts w h map nb a s r s' → costedNumber r ≡ 0
+      → Finishes w h map nb a b (s' .d) t q t'
+      → firstOf (jobLines w h map nb a b ++ (line 6 (not (slicesSized (vertices w h) (s' .d) t)) ∷ [])) ≡ 0
+      → Planner w h map nb a b (s' .d) t q t'
+  pub thin : (w h : ℕ) (map list out : List ℕ) (n : ℕ) (r : Thinned) (out' : List ℕ)
+      → Thins w h map list out n r out' → thinNumber r ≡ 0 → Kept (floorOf w h map) list n (thinKept r) out'
+
 -- ==== demand 3: the checker accepts exactly the true sheets
 
 pub record Checks (g : Graph) (a b : ℕ) (s : Sheet) (r : Checked) : Type 0 where
   pub route : (checkNumber r ≡ 0) ↔ TrueRouteSheet g a b s
   pub no-route : (checkNumber r ≡ 7) ↔ TrueNoRouteSheet g a b s
   pub refused : (checkNumber r ≡ 9) ↔ ((TrueRouteSheet g a b s → ⊥) × (TrueNoRouteSheet g a b s → ⊥))
+
+-- Demand 3, where the shape is good, whatever numbers stand on the sheet.
+pub record Demand3 : Type 0 where
+  pub check : (w h : ℕ) (map : List ℕ) (nb a b : ℕ) (s : Sheet) (r : Checked) → r ≡ checkAnswer w h map nb a b s
+      → firstOf (checkShape w h map nb a b s) ≡ 0 → Checks (graphOf w h map nb) a b s r
 
 -- ==== the requests
 
@@ -578,3 +637,25 @@ pub record MendsSheet (w h : ℕ) (map : List ℕ) (nb a b : ℕ) (old : Sheet) 
   pub b-whole : (mendNumber r ≡ 0) ⊎ (mendNumber r ≡ 7) → (mendDifferences r .back ≡ 0) ↔ (old .b ≡ s' .b)
   pub route-whole : (mendNumber r ≡ 0) ⊎ (mendNumber r ≡ 7) → (mendDifferences r .route ≡ 0) ↔ (old .route ≡ s' .route)
   pub next-whole : (mendNumber r ≡ 0) ⊎ (mendNumber r ≡ 7) → (mendDifferences r .next ≡ 0) ↔ (old .next ≡ s' .next)
+
+pub record Requests : Type 0 where
+  pub closures : (w h : ℕ) (cs : List ClosureCall) (base work : List ℕ) (p : Writing) (work' : List ℕ)
+      → WritesMap (tableAfter (emptyTable w h) cs) base work p work' → workNumber p ≡ 0
+      → ReadsClosures w h base work' (plainAfter w h nothingHeld cs)
+  pub stored-closures : (w h : ℕ) (cs : List ClosureCall) (base work : List ℕ) (p : Writing) (work' : List ℕ)
+      → WritesFrom w h (storedAfter w h noneStored cs) base work p work' → workNumber p ≡ 0
+      → ReadsClosures w h base work' (plainAfter w h nothingHeld cs)
+  pub packed : (w h : ℕ) (cells : List ℕ) → ReadsPacked w h cells
+  pub cheapest : (w h : ℕ) (map : List ℕ) (nb : ℕ) (log : List ℕ) (s : ReplaySlices) (r : Replayed) (s' : ReplaySlices)
+      → Replays w h map nb log s r s' → RightlyCheapest (graphOf w h map nb) (logOf log (vertices w h)) r
+  pub read-back : (buf : List ℕ) (xs : List Call) → ReadsBack buf xs
+  pub write-back : (s buf : List ℕ) → WritesBack s buf
+  pub judged : (w h : ℕ) (map list : List ℕ) (n : ℕ) (kept : List ℕ) (c : ℕ) (legs : List ℕ) (r : LegsChecked)
+      → r ≡ legsAnswer w h map list n kept c legs → firstOf (legsLines w h map list kept legs n) ≡ 0
+      → JudgesStops w h map list n kept c legs r
+  pub proposed : (w h : ℕ) (map list kept legs : List ℕ) (n : ℕ) (r : Thinned) (kept' legs' : List ℕ)
+      → Proposes w h map list kept legs n r kept' legs' → thinNumber r ≡ 0 → ProposesStops w h map list n r kept' legs'
+  pub flow : (w h : ℕ) (map : List ℕ) (nb a b : ℕ) (d : List ℕ) (s : Slices) (r : Planned) (s' : Slices)
+      → Finishes w h map nb a b d s r s' → planNumber r ≡ 0 → Flows (graphOf w h map nb) a b d s' (planTotal r)
+  pub mended : (w h : ℕ) (map : List ℕ) (nb a b : ℕ) (old : Sheet) (s : MendSlices) (r : Mended) (s' : MendSlices)
+      → Mends w h map nb a b old s r s' → MendsSheet w h map nb a b old r s'
