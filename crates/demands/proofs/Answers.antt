@@ -232,7 +232,8 @@ check-answers w h map nb a b s r e =
     }
   where
     cases : (x y z : Bool)
-        → checkNumber (pick x (pick y Route (pick z AcceptedNoRoute (NotAccepted FalseSheet))) (NotAccepted SliceLength))
+        → checkNumber
+        (pick x (pick y Route (pick z AcceptedNoRoute (NotAccepted FalseSheet))) (NotAccepted SliceLength))
         ≡ firstOf (line 6 (not x) ∷ line 0 y ∷ line 7 z ∷ line 9 true ∷ [])
     cases false y z = refl
     cases true true z = refl

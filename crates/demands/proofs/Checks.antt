@@ -65,7 +65,10 @@ module _ (w h : ℕ) (map : List ℕ) (nb a b : ℕ) (s : Sheet) (r : Checked) (
   none-said =
       let W = none-words g (fit-good .lawful) (fit-good .small) a b (fit-good .start) (fit-good .end) s in (
         λ e. let x = and-both (not (joined g a b)) _ e in
-            W .0 (record { not-joined = turned (joined g a b) (x .0); is = sameSheet-exact s (noRouteSheet g a) .0 (x .1) }),
+            W .0 (record {
+              not-joined = turned (joined g a b) (x .0);
+              is = sameSheet-exact s (noRouteSheet g a) .0 (x .1);
+            }),
         λ t. let T = W .1 t in
             and-intro (not (joined g a b)) _ (ap not (T .not-joined)) (sameSheet-exact s (noRouteSheet g a) .1 (T .is)),
       )

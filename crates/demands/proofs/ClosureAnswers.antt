@@ -98,7 +98,8 @@ work-first w h base work =
     floor-first w h base (λ s. shapeNumber (andThen s (pick t Good (Refused SliceLength)))) (λ r. refl)
     (line 6 (not t) ∷ []) (test-first shapeNumber (λ r. refl) t SliceLength)
 
-posting-number : (s : Shape) (k : ℕ) → (postNumber (postingOf s k) ≡ shapeNumber s) × (postSlot (postingOf s k) ≡ leftBy s k 0)
+posting-number : (s : Shape) (k : ℕ)
+    → (postNumber (postingOf s k) ≡ shapeNumber s) × (postSlot (postingOf s k) ≡ leftBy s k 0)
 posting-number Good k = (refl, refl)
 posting-number (Refused r) k = (refl, refl)
 

@@ -80,7 +80,8 @@ use Rattle.demands.specs.Demands.{jobLines, rowsFor, graphOf, planLines,
 use Rattle.demands.specs.Demands.{floorsLines, AnswersCells, reportLines, AnswersChanges, givenLines, writeLines}
 use Rattle.demands.specs.Demands.{AnswersWrite, legsLines, AnswersLegs, AnswersProposal, mendShape, AnswersMend}
 use Rattle.demands.proofs.Shapes.{shapeNumber, test-first, and-first, two-first, two-cases, floor-first}
-use Rattle.demands.proofs.Shapes.{floor-cases, known-first, known-cases, job-first, job-cases, refusal-positive, left-zero}
+use Rattle.demands.proofs.Shapes.{floor-cases, known-first, known-cases, job-first, job-cases}
+use Rattle.demands.proofs.Shapes.{refusal-positive, left-zero}
 
 -- ---- the replay of a log
 
@@ -181,8 +182,8 @@ module _ (p q : GivenFloor) where
     unfolding cellsShape
     cells-first =
         let t = eqb (length l) (p .wide * p .high) in
-        floors-first (λ s. shapeNumber (andThen s (pick t Good (Refused SliceLength)))) (λ r. refl) (line 6 (not t) ∷ [])
-        (test-first shapeNumber (λ r. refl) t SliceLength)
+        floors-first (λ s. shapeNumber (andThen s (pick t Good (Refused SliceLength)))) (λ r. refl)
+        (line 6 (not t) ∷ []) (test-first shapeNumber (λ r. refl) t SliceLength)
 
     pub cells-answers : (r : CellReport) (l′ : List ℕ) → ReportsCells p q l r l′ → AnswersCells p q l r l′
     unfolding cellsAnswer cellsLeft
@@ -250,8 +251,8 @@ module _ (p q : GivenFloor) where
     unfolding costsLeft reportJob
     changes-leaves =
         let n = neighbourhoodOf nb in
-        let ends = andThen (startShape p q a) (slicesShape v (length (s .first)) (length (s .second)) (length (s .change))
-        (length (s .work))) in
+        let ends = andThen (startShape p q a)
+        (slicesShape v (length (s .first)) (length (s .second)) (length (s .change)) (length (s .work))) in
         let P : Job → Type 0 = λ j. changedLeft (floorIn p) (floorIn q) a s j ≡ report j in
         floors-cases (λ t. P (orUnfit t (withRows n ends))) unfit-leaves
         (known-cases nb (λ n. P (withRows n ends)) (unfit-leaves BadNeighbourhood)
@@ -380,7 +381,8 @@ module _ (w h : ℕ) (map : List ℕ) (nb a b : ℕ) (old : Sheet) (s : MendSlic
 
   abbrev outcome : Bool → Bool → Bool → Mended
   outcome x z u =
-      pick x (pick z (pick u (Route (routeSheet g a b .n) (sheetDifferences old (routeSheet g a b))) (NotMended TooMany))
+      pick x (pick z
+      (pick u (Route (routeSheet g a b .n) (sheetDifferences old (routeSheet g a b))) (NotMended TooMany))
       (NoRoute (sheetDifferences old (noRouteSheet g a)))) (NotMended SliceLength)
 
   abbrev leftBehind : Bool → Bool → Bool → MendSlices

@@ -111,7 +111,8 @@ module _ (w h : ℕ) (base work : List ℕ) (m : Plain) (good : workShape w h ba
   working-read = rw good (record {
     shape-good = floor-lines w h (mapOf closed) (blocked-good w h base base-good (closedBy m));
     cells = map-cell closed;
-    graph = λ nb. graph-same (floorOf w h (mapOf closed)) closed (rowsFor (neighbourhoodOf nb)) refl refl (map-cell closed);
+    graph = λ nb.
+        graph-same (floorOf w h (mapOf closed)) closed (rowsFor (neighbourhoodOf nb)) refl refl (map-cell closed);
   })
 
 pub closures-read : (w h : ℕ) (cs : List Call) (base work : List ℕ) (p : Writing) (work′ : List ℕ)
@@ -156,7 +157,8 @@ module _ (g : Graph) (p : ℕ → Bool) where
       → throughout (drive g p k o c l .followed) ≡ true
   unfolding drive
   all-follow [] k o c i e = refl
-  all-follow (v ∷ l) k o c i e = cases (followCost g p o v) e (λ x z. all-follow l (k + 1) (some v) (c + x) (omega arith) z)
+  all-follow (v ∷ l) k o c i e =
+      cases (followCost g p o v) e (λ x z. all-follow l (k + 1) (some v) (c + x) (omega arith) z)
     where
       on : Option ℕ → Driven
       on q = ifFollows q (λ x. drive g p (k + 1) (some v) (c + x) l) (drivenOf c (Not k))

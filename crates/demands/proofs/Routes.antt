@@ -1,5 +1,5 @@
--- Demand 2: costs, counts, route, "no route" and "too many" are exactly the published method's; thinning keeps exactly the
--- points of its rule.
+-- Demand 2: costs, counts, route, "no route" and "too many" are exactly the published method's, and thinning keeps
+-- exactly the points of its rule.
 --
 --   job-good        == where none of the lines of a job applies, it is fit, and the rest of the table decides
 --   GoodJob, good-job == what a fit job has: a lawful graph of at most 16,384 vertices, with both ends in it
@@ -58,7 +58,7 @@ use Rattle.thinning.specs.Answer.{listShape, shapeAnswer, thinAnswer, Thins, th
 use Rattle.thinning.specs.declared.Thinned.{Thinned}
 use Rattle.thinning.proofs.Shapes.{good-list}
 use Rattle.thinning.proofs.Kept.{KeptLaws, kept-laws}
-use Rattle.demands.specs.Demands.{Line, line, firstOf, atZero, jobLines, rowsFor, graphOf, costsLines, finishShape}
+use Rattle.demands.specs.Demands.{Line, line, firstOf, jobLines, rowsFor, graphOf, costsLines, finishShape}
 use Rattle.demands.specs.Demands.{Joins, Cheapest, Number, TrueRouteSheet, TrueNoRouteSheet, bound, Bounded}
 use Rattle.demands.specs.Demands.{TrueCosts, CostsAlone, sheetWith, Plans, Planner, KeptAfter, Kept, thinLines}
 use Rattle.demands.proofs.Shapes.{job-first, refusal-positive}
@@ -157,7 +157,8 @@ module _ (w h : ℕ) (map : List ℕ) (nb a b : ℕ) (J : GoodJob w h map nb a b
       below lt =
           ⊎-elim
           (λ (y : eqb nb 16 ≡ true).
-          rw y (cost-sixteen (floorOf w h map) (J .wide) (J .high) listed u v i j lt (eqb-true (r .count) 16 (sixteen ∙ y))))
+          rw y (cost-sixteen (floorOf w h map) (J .wide) (J .high) listed u v i j lt
+          (eqb-true (r .count) 16 (sixteen ∙ y))))
           (λ (n : eqb nb 16 ≡ false).
           rw n (cost-small (floorOf w h map) (J .wide) (J .high) listed u v i j lt
           (λ e. not-both (eqb (r .count) 16) (eq-eqb (r .count) 16 e) (sixteen ∙ n))))

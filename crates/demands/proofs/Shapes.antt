@@ -1,8 +1,8 @@
 -- The shapes that the operations' answers are made of, by the lines of their tables.
 --
 --   shapeNumber s      == the number of a shape: 0 where it is good
---   floor-first        == where F gives a refusal its number and goes on with k at a good shape, F of a floor's shape is
---                         the first of `floorLines` that applies, else k
+--   floor-first        == where F gives a refusal its number and a good shape that of the lines `rest`, F of a floor's
+--                         shape is the first that applies of `floorLines` and then `rest`
 --   floor-cases        == what holds of the good shape and of refusals 1, 2 and 3 holds of a floor's shape
 --   known-first        == the same as `floor-first` of refusal 4
 --   job-first, job-cases == the same of a job's shape: refusals 1 to 5 and 11
@@ -65,8 +65,8 @@ module _ (F : Shape → ℕ) (given : (r : Refusal) → F (Refused r) ≡ refusa
   test-first false r = given r
 
 -- A test before others.
-pub and-first : (F : Shape → ℕ) → ((r : Refusal) → F (Refused r) ≡ refusalNumber r) → (x : Bool) (r : Refusal) (t : Shape)
-    → F (andThen (pick x Good (Refused r)) t) ≡ pick (not x) (refusalNumber r) (F t)
+pub and-first : (F : Shape → ℕ) → ((r : Refusal) → F (Refused r) ≡ refusalNumber r) → (x : Bool) (r : Refusal)
+    (t : Shape) → F (andThen (pick x Good (Refused r)) t) ≡ pick (not x) (refusalNumber r) (F t)
 and-first F given true r t = refl
 and-first F given false r t = given r
 
@@ -132,7 +132,8 @@ module _ (nb : ℕ) where
   known-first F other rest known = cases (eqb nb 16) (eqb nb 8) (eqb nb 4) known
     where
       hood : Bool → Bool → Bool → Neighbourhood
-      hood x y z = pick x (Known (rowsOf 16 1 16)) (pick y (Known (rowsOf 0 2 8)) (pick z (Known (rowsOf 0 4 4)) Unknown))
+      hood x y z =
+          pick x (Known (rowsOf 16 1 16)) (pick y (Known (rowsOf 0 2 8)) (pick z (Known (rowsOf 0 4 4)) Unknown))
 
       cases : (x y z : Bool) → F (Known (rowsFor (hood x y z))) ≡ firstOf rest
           → F (hood x y z) ≡ firstOf (line 4 (not (z || (y || x))) ∷ rest)

@@ -33,7 +33,8 @@ use Rattle.paths.proofs.SheetTest.{local-true, true-local, true-numbers, local-
 use Rattle.paths.proofs.RouteTest.{point-inside, point-last, point-on, point-past}
 use Rattle.demands.specs.Demands.{Joins, Cheapest, Number, OnWay, LeadsOn, CentralNext, Lengths, OnWayIn, NextIn}
 use Rattle.demands.specs.Demands.{CentralRoute, TrueRouteSheet, TrueNoRouteSheet}
-use Rattle.demands.proofs.Walks.{reached-joins, apart-unreachable, cheapest-is, cheapest-one, number-is, number-one}
+use Rattle.demands.proofs.Walks.{reached-joins, apart-unreachable, cheapest-is, cheapest-one, number-is}
+use Rattle.demands.proofs.Walks.{number-one}
 
 -- ---- on the way
 
@@ -289,7 +290,8 @@ module _ (g : Graph) (L : Lawful g) (small : g .size ≤ 16384) (a b : ℕ) (in-
     on-same : (v : ℕ) → v < g .size → localOn b s v ≡ onWay g a b v
     unfolding localOn onWay
     on-same v i =
-        shortest-same (entry (s .d)) (distance g a) (entry (s .e)) (λ w. distance g w b) b v (dd v i) (ee v i) (dd b in-b)
+        shortest-same (entry (s .d)) (distance g a) (entry (s .e)) (λ w. distance g w b) b v (dd v i) (ee v i)
+        (dd b in-b)
 
     said-in : (v : ℕ) → v < g .size → onWay g a b v ≡ true → OnWayIn s b v
     said-in v i o = in-exact v .0 (on-same v i ∙ o)

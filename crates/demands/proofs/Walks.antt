@@ -1,4 +1,4 @@
--- The numbers of a graph in the words of demand 2: the least cost of an open walk, and how many cheapest walks there are.
+-- Distances and path counts in the words of demand 2: the least cost of an open walk, the number of cheapest walks.
 --
 --   same-length     == two lists that have the same members, each once, are equally long
 --   cheapest-is     == the distance is the cheapest cost
@@ -58,7 +58,8 @@ module _ {A : Type 0} where
         arith,
         w .shorter,
         at-most xs (w .rest) (d .1) (λ y k.
-            ⊎-elim (λ (e : y ≡ x). absurd (d .0 (Memᴰ·cast (sym e) k))) (λ r. r) (w .others y (h y (List·Memᴰ·tail k)))),
+            ⊎-elim (λ (e : y ≡ x). absurd (d .0 (Memᴰ·cast (sym e) k))) (λ r. r)
+            (w .others y (h y (List·Memᴰ·tail k)))),
       )
 
   pub same-length : (xs ys : List A) → Distinct xs → Distinct ys

@@ -21,7 +21,7 @@
 --   OnWay D E b v         == v is on the way, by the costs D from the start and E to b
 --   LeadsOn, CentralNext  == a move of the central rule from u, and the one that the rule takes
 --   TrueRouteSheet, TrueNoRouteSheet == the two true sheets, number by number
---   line n c, firstOf     == a line of the table "Answers by number": answer n where c holds; and the first that applies
+--   line n c, firstOf     == a line of the table "Answers by number", answer n where c holds; the first that applies
 use Prim.Native.Nat.{ℕ, suc, _+_, _-_, _*_, _^_, _≤_, _<_, pred}
 use mathlib.Core.Path.{_≡_}
 use mathlib.Core.Logic.{_↔_, _⊎_}
@@ -182,8 +182,9 @@ pub record TrueNoRouteSheet (g : Graph) (a b : ℕ) (s : Sheet) : Type 0 where
 
 -- ==== demand 1: any input is answered, by the first line that applies, and touches only what the answer says
 
--- That every call ends and touches nothing but what it was lent is what the language's checker proves of every function.
--- Here is which numbers an operation answers, in which order they are decided, and what each leaves in the lent slices.
+-- That every call ends and touches nothing but what it was lent is proved of every function by the language's checker.
+-- Here is which numbers an operation answers, in which order they are decided, and what each leaves in the lent
+-- slices.
 
 pub record Line : Type 0 where
   pub number : ℕ
@@ -253,8 +254,8 @@ pub record AnswersCosts (w h : ℕ) (map : List ℕ) (nb a : ℕ) (s : CostSlice
   pub leaves : s' ≡ atZero (costedNumber r)
       (costSlicesOf (tabulate (vertices w h) (distance (graphOf w h map nb) a)) (zeros (4 * vertices w h))) s
 
--- The planner's second operation, lent all other slices of the sheet and a working slice, with d to read. To demand 2 its
--- shape is good where none of these lines applies.
+-- The planner's second operation, lent all other slices of the sheet and a working slice, with d to read. To demand 2
+-- its shape is good where none of these lines applies.
 abbrev pub finishShape : ℕ → ℕ → List ℕ → ℕ → ℕ → ℕ → List ℕ → Slices → List Line
 finishShape w h map nb a b d s =
     jobLines w h map nb a b
@@ -263,7 +264,8 @@ finishShape w h map nb a b d s =
 abbrev pub planLines : Graph → ℕ → ℕ → List Line
 planLines g a b = line 7 (not (joined g a b)) ∷ line 8 (not (fits g a b)) ∷ []
 
--- At 0 the true route sheet, at 7 the true no-route sheet, at 8 the costs alone, the working slice all 0; else untouched.
+-- At 0 the true route sheet, at 7 the true no-route sheet, at 8 the costs alone, with the working slice all 0; else
+-- untouched.
 abbrev pub planLeft : {A : Type 0} → ℕ → A → A → A → A → A
 planLeft n x0 x7 x8 s = pick (eqb n 0) x0 (pick (eqb n 7) x7 (pick (eqb n 8) x8 s))
 
@@ -573,8 +575,8 @@ pub record Demand3 : Type 0 where
 -- ==== the requests
 
 -- 1. After any calls from empty, the working map is of good shape and has the cells that are blocked in the base map or
--- covered by a closure that a plain map from slot to rectangle would hold. So demands 2 and 3, which hold for every map,
--- read the floor `withBlocked ..` in its place.
+-- covered by a closure that a plain map from slot to rectangle would hold. So demands 2 and 3, which hold for every
+-- map, read the floor `withBlocked ..` in its place.
 pub record ReadsClosures (w h : ℕ) (base work : List ℕ) (m : Plain) : Type 0 where
   pub shape-good : firstOf (floorLines w h work) ≡ 0
   pub cells : (i j : ℕ) → i < w → j < h → floorOf w h work .cell i j ≡ (floorOf w h base .cell i j || closedBy m i j)
@@ -593,8 +595,8 @@ pub record RightlyCheapest (g : Graph) (l : Log) (r : Replayed) : Type 0 where
   pub called : (replayCheapest r ≡ true) ↔ ((1 ≤ replayRead r) × (replayNumber r ≡ 0) × (replayUnfollowed r ≡ 0)
       × Cheapest g (firstStop l) (lastStop l) (replayCost r))
 
--- 11. Writer and reader are inverse. After any calls of a fresh writer on a buffer that nobody else writes, once a map is
--- in, reading what was written gives the floor and the jobs of the calls that were not refused (`ReadBack`); and with
+-- 11. Writer and reader are inverse. After any calls of a fresh writer on a buffer that nobody else writes, once a map
+-- is in, reading what was written gives the floor and the jobs of the calls that were not refused (`ReadBack`); with
 -- room enough, writing what is read of a stream before any bad record gives the same bytes (`WrittenBack`).
 abbrev pub ReadsBack : List ℕ → List Call → Type 0
 ReadsBack buf xs = 1 ≤ after (fresh buf) xs .writer .due → ReadBack buf xs
@@ -621,13 +623,14 @@ pub record JudgesStops (w h : ℕ) (map list : List ℕ) (n : ℕ) (kept : List 
 pub record ProposesStops (w h : ℕ) (map list : List ℕ) (n : ℕ) (r : Thinned) (kept' legs' : List ℕ) : Type 0 where
   pub accepted : legsNumber (legsAnswer w h map list n kept' (thinKept r) legs') ≡ 0
 
--- 13. Whenever the planner answers 0, the traversal counts are a flow, with the total that it answers (`Flow`: what
--- leaves a vertex on the way, but b, and what comes to it, but to a, is its traversal count; at a and b it is the total).
+-- 13. Whenever the planner answers 0, the traversal counts are a flow with the total that it answers. `Flow`: what
+-- leaves a vertex on the way, except b, and what comes to one, except a, is its traversal count; at a and at b that is
+-- the total.
 abbrev pub Flows : Graph → ℕ → ℕ → List ℕ → Slices → ℕ → Type 0
 Flows g a b d s t = Flow g a b (onShortest (entry d) (entry (s .e)) b) (entry d) (entry (s .f)) (entry (s .b)) t
 
--- 14. At 0 and 7 the checker takes the mended sheet, with the point count answered, and a count of differing places is 0
--- exactly when the old slice was the true one.
+-- 14. At 0 and 7 the checker takes the mended sheet, with the point count answered, and a count of differing places is
+-- 0 exactly when the old slice was the true one.
 pub record MendsSheet (w h : ℕ) (map : List ℕ) (nb a b : ℕ) (old : Sheet) (r : Mended) (s' : MendSlices) : Type 0 where
   pub route : mendNumber r ≡ 0 → checkNumber (checkAnswer w h map nb a b (sheetIn s' (mendPoints r))) ≡ 0
   pub no-route : mendNumber r ≡ 7 → checkNumber (checkAnswer w h map nb a b (sheetIn s' (mendPoints r))) ≡ 7
