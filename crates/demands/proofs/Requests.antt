@@ -9,7 +9,7 @@
 --   flows           == request 13
 --   sheet-mended    == request 14
 use Prim.Native.Nat.{ℕ, suc, _+_, _≤_, _<_}
-use mathlib.Core.Path.{_≡_, refl, sym, ap, _∙_}
+use mathlib.Core.Path.{_≡_, refl, sym, ap, _∙_, subst}
 use mathlib.Core.Logic.{_↔_, _⊎_, inl, inr, ⊎-elim}
 use mathlib.Core.Bool.{Bool, true, false, _&&_, _||_, not, true≢false}
 use mathlib.Core.List.{List, [], _∷_, _++_}
@@ -85,9 +85,11 @@ use Rattle.mending.specs.declared.Mended.{Mended}
 use Rattle.mending.proofs.Taken.{mended-route, mended-none, counts-exact}
 use Rattle.demands.specs.Demands.{firstOf, floorLines, rowsFor, graphOf, ReadsClosures, ReadsPacked, Cheapest}
 use Rattle.demands.specs.Demands.{RightlyCheapest, ReadsBack, WritesBack, legsLines, FewestStops, JudgesStops}
-use Rattle.demands.specs.Demands.{ProposesStops, Flows, MendsSheet}
+use Rattle.demands.specs.Demands.{ProposesStops, Flows, MendsSheet, closedGraph, Plans, Checks}
 use Rattle.demands.proofs.Shapes.{shapeNumber, floor-first, refusal-positive}
 use Rattle.demands.proofs.RequestAnswers.{legs-first}
+use Rattle.demands.proofs.Routes.{plans}
+use Rattle.demands.proofs.Checks.{checks}
 use Rattle.demands.proofs.Walks.{cheapest-is, cheapest-one}
 
 -- ---- request 1: closures
@@ -107,12 +109,18 @@ module _ (w h : ℕ) (base work : List ℕ) (m : Plain) (good : workShape w h ba
   unfolding workShape
   base-good = good-first (floorShape w h base) _ good
 
+  same-graph : (nb : ℕ) → graphOf w h (mapOf closed) nb ≡ closedGraph w h base m nb
+  same-graph nb =
+      graph-same (floorOf w h (mapOf closed)) closed (rowsFor (neighbourhoodOf nb)) refl refl (map-cell closed)
+
   working-read : ReadsClosures w h base (workLeft w h base m work) m
   working-read = rw good (record {
     shape-good = floor-lines w h (mapOf closed) (blocked-good w h base base-good (closedBy m));
     cells = map-cell closed;
-    graph = λ nb.
-        graph-same (floorOf w h (mapOf closed)) closed (rowsFor (neighbourhoodOf nb)) refl refl (map-cell closed);
+    graph = same-graph;
+    plan = λ nb a b d s r s′ F z.
+        subst (λ g. Plans g nb a b d r s′) (same-graph nb) (plans w h (mapOf closed) nb a b d s r s′ F z);
+    check = λ nb a b s r e z. subst (λ g. Checks g a b s r) (same-graph nb) (checks w h (mapOf closed) nb a b s r e z);
   })
 
 pub closures-read : (w h : ℕ) (cs : List Call) (base work : List ℕ) (p : Writing) (work′ : List ℕ)

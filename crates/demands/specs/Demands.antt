@@ -575,13 +575,20 @@ pub record Demand3 : Type 0 where
 -- ==== the requests
 
 -- 1. After any calls from empty, the working map is of good shape and has the cells that are blocked in the base map or
--- covered by a closure that a plain map from slot to rectangle would hold. So demands 2 and 3, which hold for every
--- map, read the floor `withBlocked ..` in its place.
+-- covered by a closure that a plain map from slot to rectangle would hold. So on the working map demands 2 and 3 are of
+-- the graph `closedGraph`.
+abbrev pub closedGraph : ℕ → ℕ → List ℕ → Plain → ℕ → Graph
+closedGraph w h base m nb =
+    floorGraph (withBlocked (floorOf w h base) (closedBy m)) (rowsFor (neighbourhoodOf nb))
+
 pub record ReadsClosures (w h : ℕ) (base work : List ℕ) (m : Plain) : Type 0 where
   pub shape-good : firstOf (floorLines w h work) ≡ 0
   pub cells : (i j : ℕ) → i < w → j < h → floorOf w h work .cell i j ≡ (floorOf w h base .cell i j || closedBy m i j)
-  pub graph : (nb : ℕ) → graphOf w h work nb
-      ≡ floorGraph (withBlocked (floorOf w h base) (closedBy m)) (rowsFor (neighbourhoodOf nb))
+  pub graph : (nb : ℕ) → graphOf w h work nb ≡ closedGraph w h base m nb
+  pub plan : (nb a b : ℕ) (d : List ℕ) (s : Slices) (r : Planned) (s' : Slices) → Finishes w h work nb a b d s r s'
+      → firstOf (finishShape w h work nb a b d s) ≡ 0 → Plans (closedGraph w h base m nb) nb a b d r s'
+  pub check : (nb a b : ℕ) (s : Sheet) (r : Checked) → r ≡ checkAnswer w h work nb a b s
+      → firstOf (checkShape w h work nb a b s) ≡ 0 → Checks (closedGraph w h base m nb) a b s r
 
 -- 6. A packed floor is the byte floor with the same cells, so whatever is asked of one is answered as of the other.
 pub record ReadsPacked (w h : ℕ) (cells : List ℕ) : Type 0 where
