@@ -1,4 +1,5 @@
 pub mod Travel
+pub mod Cross
 pub mod Enters
 pub mod Sees
 pub mod Symmetry

@@ -6,7 +6,7 @@
 --   sees-same  == the law for two floors
 --   unblocked-back, -self, -same == the same of cells and steps alone; passes-back of the vertices passed
 use Prim.Native.Nat.{ℕ, suc, _<_, min, max}
-use mathlib.Core.Path.{_≡_, refl, ap₂, _∙_}
+use mathlib.Core.Path.{_≡_, refl, sym, ap₂, _∙_}
 use mathlib.Core.Bool.{Bool, true, _&&_, _||_, not}
 use native.Mathlib.Omega.{arith}
 use borrow.Author.Tests.{eq-eqb}
@@ -34,7 +34,7 @@ use Rattle.sight.specs.Sight.{
   sees,
 }
 use Rattle.sight.proofs.Travel.{between-back}
-use Rattle.sight.proofs.Enters.{less, more}
+use Rattle.sight.proofs.Cross.{less, more, positive-is, negative-is}
 use Rattle.sight.proofs.Sees.{none-entered, none-between, upright-enters}
 
 abbrev pub back : Segment → Segment
@@ -49,12 +49,10 @@ module _ (s : Segment) (p q : ℕ) where
   more-back = omega arith
 
   pub positive-back : positive (back s) p q ≡ negative s p q
-  unfolding positive negative
-  positive-back = ap₂ ltb less-back more-back
+  positive-back = positive-is (back s) p q ∙ ap₂ ltb less-back more-back ∙ sym (negative-is s p q)
 
   pub negative-back : negative (back s) p q ≡ positive s p q
-  unfolding positive negative
-  negative-back = ap₂ ltb more-back less-back
+  negative-back = negative-is (back s) p q ∙ ap₂ ltb more-back less-back ∙ sym (positive-is s p q)
 
 corner-same : (p q : ℕ → ℕ → Bool) (i j : ℕ) → ((x y : ℕ) → p x y ≡ q x y) → corner p i j ≡ corner q i j
 unfolding corner
