@@ -5,7 +5,7 @@
 --   minus-..     == the difference of two numbers, a sum, a product, and the same difference of other numbers
 --   cross-minus  == the law; positive-is, negative-is the two tests by it
 use Prim.Native.Nat.{ℕ, zero, suc, _+_, _-_, _*_}
-use mathlib.Core.Path.{_≡_, refl, sym, _∙_}
+use mathlib.Core.Path.{_≡_, refl, sym}
 use mathlib.Core.Bool.{Bool, true, false, cond}
 use native.Mathlib.Omega.{arith}
 use borrow.Author.Tests.{ltb-true, ltb-false, le-ltb, lt-ltb}

@@ -70,13 +70,10 @@ uprightOpen f x j = not (blocked f x (suc j) && blocked f (suc x) (suc j))
 unfoldable pub levelOpen : Floor → ℕ → ℕ → Bool
 levelOpen f i y = not (blocked f (suc i) y && blocked f (suc i) (suc y))
 
--- The line's coordinate is written as the lesser of two equal ones, so that swapping the ends changes nothing.
 unfoldable pub noStepShut : Floor → Segment → Bool
 noStepShut f s =
-    (not (eqb (s .x0) (s .x1))
-    || every (f .high) (λ j. not (between (s .y0) (s .y1) j) || uprightOpen f (min (s .x0) (s .x1)) j))
-    && (not (eqb (s .y0) (s .y1))
-    || every (f .wide) (λ i. not (between (s .x0) (s .x1) i) || levelOpen f i (min (s .y0) (s .y1))))
+    (not (eqb (s .x0) (s .x1)) || every (f .high) (λ j. not (between (s .y0) (s .y1) j) || uprightOpen f (s .x0) j))
+    && (not (eqb (s .y0) (s .y1)) || every (f .wide) (λ i. not (between (s .x0) (s .x1) i) || levelOpen f i (s .y0)))
 
 unfoldable pub unblocked : Floor → Segment → Bool
 unblocked f s = noCellEntered f s && noStepShut f s
