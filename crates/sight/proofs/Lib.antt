@@ -7,6 +7,7 @@ pub mod Corners
 pub mod First
 pub mod Obstacles
 pub mod Runs
+pub mod Rows
 pub mod Named
 mod Unit
 mod Common
