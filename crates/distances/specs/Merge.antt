@@ -31,9 +31,9 @@ use Rattle.offsets.specs.declared.Class.{Class}
 use Rattle.moves.specs.declared.Rows.{Rows}
 use Rattle.offsets.specs.Classes.{classCount, Member, CostClass, Classes, classOf, classAt}
 use Rattle.paths.specs.Graph.{Graph, Lawful}
+use Rattle.paths.specs.Walk.{HasWalk}
 use Rattle.paths.specs.Distance.{unreachable}
 use Rattle.paths.specs.Local.{entry}
-use Rattle.paths.proofs.Listing.{HasWalk}
 use Rattle.workspace.specs.Regions.{Ordered, Masked}
 
 -- ---- one vertex
