@@ -1,5 +1,5 @@
--- The ordered merge: what its functions promise each other. Nobody has to believe these: they stand in contracts of
--- private functions and in loop invariants.
+-- Used by contracts between functions; nobody has to believe it: laws tie it to the definitions.
+-- The ordered merge: what its functions promise each other, and the invariants of its loops.
 --
 --   costGiven c key          == the cost c after key was offered: the key where there was none
 --   countGiven c             == how many vertices that adds to the settled

@@ -64,7 +64,8 @@ unfoldable pub listed : Graph → ℕ → ℕ → ℕ → ℕ → List (List ℕ
 listed g zero k u t = still k u t
 listed g (suc f) k u t =
     still k u t
-    ++ gather (g .moves) (λ m. onward (g .step m u) (λ w. onward (less k (g .cost m)) (λ r. map (λ l. u ∷ l) (listed g f r w t))))
+    ++ gather (g .moves)
+    (λ m. onward (g .step m u) (λ w. onward (less k (g .cost m)) (λ r. map (λ l. u ∷ l) (listed g f r w t))))
 
 unfoldable pub walks : Graph → ℕ → ℕ → ℕ → List (List ℕ)
 walks g k u t = listed g k k u t

@@ -105,6 +105,6 @@ sees f s = unblocked f s && (still s || noPinchPassed f s)
 
 -- Named on an `unfolding` line, this opens all of the above, for a theorem that is computed.
 unfoldable pub sight-opened : ℕ
-unfolding segment cross positive negative between corner enters noCellEntered uprightOpen levelOpen noStepShut unblocked pinch
-    spans passes noPinchPassed sees
+unfolding segment cross positive negative between corner enters noCellEntered uprightOpen levelOpen noStepShut unblocked
+    pinch spans passes noPinchPassed sees
 sight-opened = 0
