@@ -7,7 +7,7 @@ use lib.Dec.{eqb}
 use Rattle.basics.specs.Bounded.{pick}
 use Rattle.floor.specs.Refusals.{refusalNumber}
 use Rattle.floor.specs.declared.Refusal.{Refusal}
-use Rattle.sight.specs.Question.{sightNumber}
+use Rattle.sight.specs.Question.{sightNumber, obstacleNumber, obstaclePlace}
 use Rattle.sight.specs.declared.Obstacle.{Obstacle}
 use Rattle.sight.specs.declared.Obstacle.the-variants.{Clear, Cell, Step, Pinch}
 use Rattle.sight.specs.declared.Sight.{Sight}
@@ -27,7 +27,7 @@ use Rattle.stored_closures.specs.Stored.{PostsIn, StrikesIn, WritesFrom}
 use Rattle.replay.specs.Replay.{ReplaySlices, Replays, replayNumber}
 use Rattle.replay.specs.Replay.{replayRead, replayCost, replayUnfollowed, replayBad, replayCheapest}
 use Rattle.replay.specs.declared.Replayed.{Replayed}
-use Rattle.capi.specs.Results.{obstacleNumber, obstaclePlace, obstacleResult, planResult, thinResult, postResult}
+use Rattle.capi.specs.Results.{obstacleResult, planResult, thinResult, postResult}
 use Rattle.capi.specs.Results.{FillsTo, FinishesTo, ThinsTo, PostsTo, StrikesTo, WritesTo}
 use Rattle.capi.specs.Results.{replayResult, ReplaysTo}
 

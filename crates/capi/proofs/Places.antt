@@ -14,7 +14,7 @@ use Rattle.floor.proofs.Numbers.{vertices-le, column-le, row-le, number-lt, cel
 use Rattle.sight.specs.Sight.{Segment, segmentOf, segment, enters, uprightOpen, levelOpen, pinch, passes, still}
 use Rattle.sight.specs.Obstacle.{cellAt, stepAt, pinchAt, span, cellOn, startOn, orElse, first, obstacle}
 use Rattle.sight.specs.Obstacle.{blockedCell, uprightStep, levelStep, blockage, passedPinch, nearestPinch}
-use Rattle.sight.specs.Question.{orRefused, sightAnswer}
+use Rattle.sight.specs.Question.{orRefused, sightAnswer, obstaclePlace}
 use Rattle.sight.specs.Travel.{Ends}
 use Rattle.sight.specs.declared.Obstacle.{Obstacle}
 use Rattle.sight.specs.declared.Obstacle.the-variants.{Clear, Cell, Step, Pinch}
@@ -25,7 +25,6 @@ use Rattle.sight.proofs.Question.{Asked, question, asked}
 use Rattle.closures.specs.Plain.{Plain, lowestFree, postShape, postingOf, postAnswer, postSlot}
 use Rattle.closures.specs.declared.Rectangle.{Rectangle}
 use Rattle.closures.proofs.Shapes.{good-post}
-use Rattle.capi.specs.Results.{obstaclePlace}
 
 -- An answer that is no refusal comes from a question of good shape.
 answered-good : (s : Shape) (x o : Obstacle) → Answered o ≡ orRefused s (Answered x) → (s ≡ Good) × (x ≡ o)

@@ -1,8 +1,5 @@
 -- The answers of the C interface: the operations' own, as numbers with their values beside them.
 --
---   obstacleNumber o == what is in the way: 0 nothing, 101 a blocked cell that is entered, 102 a shut step, 103 a pinch
---   obstaclePlace o  == the cell's number, or that of the vertex where the step begins or which is the pinch; 0 where
---                       nothing is in the way
 --   obstacleResult s == an answer to the sight question, with what is in the way; at a refusal its number and place 0
 --   planResult p     == an answer of the planner's second operation
 --   thinResult t     == an answer of the thinning
@@ -19,11 +16,8 @@ use mathlib.Core.Path.{_≡_}
 use mathlib.Core.List.{List}
 use lib.ListN.{length}
 use Rattle.basics.specs.Bounded.{pick}
-use Rattle.floor.specs.Refusals.{refusalNumber}
-use Rattle.sight.specs.declared.Obstacle.{Obstacle}
-use Rattle.sight.specs.declared.Obstacle.the-variants.{Clear, Cell, Step, Pinch}
+use Rattle.sight.specs.Question.{sightCase, sightPlace}
 use Rattle.sight.specs.declared.Sight.{Sight}
-use Rattle.sight.specs.declared.Sight.the-variants.{Answered, Unasked}
 use Rattle.planner.specs.Plan.{CostSlices, costsAnswer, costsLeft, costedNumber}
 use Rattle.planner.specs.Plan.{Slices, finishAnswer, finishLeft, planNumber, planCost, planTotal, planPoints}
 use Rattle.planner.specs.declared.Planned.{Planned}
@@ -43,21 +37,8 @@ use Rattle.capi.specs.declared.ThinResult.{ThinResult}
 use Rattle.capi.specs.declared.PostResult.{PostResult}
 use Rattle.capi.specs.declared.ReplayResult.{ReplayResult}
 
-abbrev pub obstacleNumber : Obstacle → ℕ
-obstacleNumber Clear = 0
-obstacleNumber (Cell c) = 101
-obstacleNumber (Step v) = 102
-obstacleNumber (Pinch v) = 103
-
-abbrev pub obstaclePlace : Obstacle → ℕ
-obstaclePlace Clear = 0
-obstaclePlace (Cell c) = c .0
-obstaclePlace (Step v) = v .0
-obstaclePlace (Pinch v) = v .0
-
 abbrev pub obstacleResult : Sight → ObstacleResult
-obstacleResult (Answered o) = record { place = obstaclePlace o; answer = obstacleNumber o }
-obstacleResult (Unasked r) = record { place = 0; answer = refusalNumber r }
+obstacleResult s = record { place = sightPlace s; answer = sightCase s }
 
 abbrev pub planResult : Planned → PlanResult
 planResult p = record { total = planTotal p; points = planPoints p; cost = planCost p; answer = planNumber p }

@@ -3,13 +3,13 @@
 // no number is cut down on its way in.
 ghost use mathlib.Core.Path.{_≡_};
 ghost use Rattle.basics.specs.Bounded.{pick};
-ghost use Rattle.sight.specs.Question.{sightAnswer, sightNumber};
+ghost use Rattle.sight.specs.Question.{sightAnswer, sightNumber, obstacleNumber, obstaclePlace};
 ghost use Rattle.paths.specs.Sheet.{sheetOf};
 ghost use Rattle.planner.specs.Plan.{costSlicesOf, slicesOf};
 ghost use Rattle.checker.specs.Answer.{checkAnswer, checkNumber};
 ghost use Rattle.stored_closures.specs.Stored.{rectangleOf};
 ghost use Rattle.replay.specs.Replay.{replaySlicesOf};
-ghost use Rattle.capi.specs.Results.{obstacleNumber, obstaclePlace, obstacleResult};
+ghost use Rattle.capi.specs.Results.{obstacleResult};
 ghost use Rattle.capi.specs.Results.{FillsTo, FinishesTo, ThinsTo, PostsTo, StrikesTo, WritesTo, ReplaysTo};
 use sight::Obstacle;
 use sight::Sight;

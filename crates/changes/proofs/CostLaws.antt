@@ -28,8 +28,8 @@ use Rattle.moves.specs.declared.Rows.{Rows}
 use Rattle.moves.specs.Table.{Listed}
 use Rattle.moves.proofs.Table.{listed-lawful}
 use Rattle.paths.specs.Graph.{Graph}
+use Rattle.paths.specs.Walk.{HasWalk}
 use Rattle.paths.specs.Distance.{unreachable, distance}
-use Rattle.paths.proofs.Listing.{HasWalk}
 use Rattle.paths.proofs.Distance.{distance-le}
 use Rattle.paths.proofs.Bound.{reached-exact, unreachable-exact}
 use Rattle.grid.specs.Grid.{floorGraph}

@@ -1,5 +1,5 @@
--- What the code knows at its steps. Nobody has to believe these: they stand in contracts of private functions, and laws
--- in proofs/ tie them to specs/Changes.antt.
+-- Used by contracts between functions; nobody has to believe it: laws tie it to the definitions.
+-- What the code knows at its steps.
 --
 --   closesBit, opensBit, differsBit == `closes`, `opens` and `differs`, by the bits of the two maps
 --   MapsOf map map' n               == the two maps have n cells or more, and n is small

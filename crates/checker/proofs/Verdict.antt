@@ -19,10 +19,10 @@ use Rattle.floor.specs.Floor.{floorOf, vertices}
 use Rattle.floor.specs.declared.Refusal.the-variants.{FalseSheet}
 use Rattle.moves.specs.declared.Rows.{Rows}
 use Rattle.paths.specs.Graph.{Graph, Lawful}
+use Rattle.paths.specs.Walk.{HasWalk}
 use Rattle.paths.specs.Distance.{pathCount}
 use Rattle.paths.specs.Sheet.{Sheet, joined, fits, routeSheet, noRouteSheet, TrueRoute, TrueNoRoute, sameSheet}
 use Rattle.paths.specs.Local.{entry, Shaped, localRoute, localNoRoute}
-use Rattle.paths.proofs.Listing.{HasWalk}
 use Rattle.paths.proofs.Sheets.{sameSheet-exact, joined-exact, fits-total, total-fits}
 use Rattle.paths.proofs.SheetTest.{localRoute-exact, localNoRoute-exact}
 use Rattle.grid.specs.Grid.{floorGraph, jobOf}

@@ -1,5 +1,5 @@
--- The tests that the checker runs, in the order in which it runs them. Nobody has to believe these: laws in proofs/
--- show that they say the same as `verdict`.
+-- Used by contracts between functions; nobody has to believe it: laws tie it to the definitions.
+-- The tests that the checker runs, in the order in which it runs them. They say the same as `verdict`.
 --
 --   numbersOf d e f b        == a sheet of these costs and counts, for what looks at nothing else
 --   blankOf e f b r x        == a sheet of these slices, for what does not look at its costs from a

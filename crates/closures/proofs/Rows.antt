@@ -14,7 +14,8 @@ use borrow.Author.Tests.{le-leb, lt-leb, lt-ltb, le-ltb, eq-eqb, ne-eqb}
 use lib.Dec.{leb, ltb}
 use lib.ListN.{length}
 use Rattle.basics.proofs.Order.{le-or-lt, eq-or-ne}
-use Rattle.floor.specs.Floor.{cellNumber, floorOf, mapOf, withBlocked, blockedFrom}
+use Rattle.floor.specs.Floor.{cellNumber, floorOf, mapOf, withBlocked}
+use Rattle.floor.specs.Known.{blockedFrom}
 use Rattle.floor.specs.Refusals.{floorShape}
 use Rattle.floor.specs.declared.Shape.the-variants.{Good}
 use Rattle.floor.proofs.Packed.{Bytes}

@@ -1,4 +1,5 @@
--- What the code knows at its steps. Nobody has to believe these: the contracts of the parts of `working_map` cite them.
+-- Used by contracts between functions; nobody has to believe it: laws tie it to the definitions.
+-- What the code knows at the steps of `working_map`.
 --
 --   MapsLent t base work     == the base map is good for the table's floor, and the working slice is as long
 --   Marked s w h l left  == left is the map l, of a floor of width w and height h, blocked also where s covers the cell

@@ -1,5 +1,5 @@
+-- Used by contracts between functions; nobody has to believe it: laws tie it to the definitions.
 -- The counting passes over the vertices on the way, by their cost to b: what they are handed, and what they leave.
--- Nobody has to believe these: the planner's contract is stated by the definitions of paths.
 --
 --   turnPlace n i rev      == the place in an order of n that a pass comes to at turn i: from the front, or, reversed,
 --                             from the back

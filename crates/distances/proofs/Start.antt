@@ -27,9 +27,9 @@ use Rattle.moves.specs.Table.{lawfulRows}
 use Rattle.moves.proofs.Table.{lawful-move}
 use Rattle.offsets.specs.Classes.{classCount, Member, CostClass, Classes, classOf, classAt}
 use Rattle.paths.specs.Graph.{Graph}
+use Rattle.paths.specs.Walk.{HasWalk, stop}
 use Rattle.paths.specs.Distance.{unreachable}
 use Rattle.paths.specs.Local.{entry}
-use Rattle.paths.proofs.Listing.{HasWalk, stop}
 use Rattle.workspace.proofs.Regions.{masked-kept}
 use Rattle.distances.specs.Costs.{SettledCosts}
 use Rattle.distances.specs.Merge.{reached, Settled, Merging, Mergeable}

@@ -20,9 +20,9 @@ use Rattle.basics.specs.Bounded.{pick}
 use Rattle.basics.proofs.Order.{le-or-lt, eq-or-ne}
 use Rattle.basics.proofs.Bounded.{pick-yes, pick-no}
 use Rattle.paths.specs.Graph.{Graph}
+use Rattle.paths.specs.Walk.{HasWalk}
 use Rattle.paths.specs.Distance.{unreachable}
 use Rattle.paths.specs.Local.{entry}
-use Rattle.paths.proofs.Listing.{HasWalk}
 use Rattle.workspace.specs.Regions.{Ordered}
 use Rattle.distances.specs.Merge.{reached, Settled, Ready, Grown}
 

@@ -1,5 +1,5 @@
--- The costs from one vertex, and what stands in the working slice beside them. Nobody has to believe these: the planner's
--- contract is stated by the definitions of paths.
+-- Used by contracts between functions; nobody has to believe it: laws tie it to the definitions.
+-- The costs from one vertex, and what stands in the working slice beside them.
 --
 --   SettledCosts ..        == d holds the distances from a, and the working slice begins with the n vertices that have
 --                             one, in order; past the order it is as it was

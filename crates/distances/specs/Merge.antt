@@ -1,5 +1,5 @@
--- The ordered merge: what its functions promise each other. Nobody has to believe these: they stand in contracts of
--- private functions and in loop invariants.
+-- Used by contracts between functions; nobody has to believe it: laws tie it to the definitions.
+-- The ordered merge: what its functions promise each other, and the invariants of its loops.
 --
 --   costGiven c key          == the cost c after key was offered: the key where there was none
 --   countGiven c             == how many vertices that adds to the settled
@@ -31,9 +31,9 @@ use Rattle.offsets.specs.declared.Class.{Class}
 use Rattle.moves.specs.declared.Rows.{Rows}
 use Rattle.offsets.specs.Classes.{classCount, Member, CostClass, Classes, classOf, classAt}
 use Rattle.paths.specs.Graph.{Graph, Lawful}
+use Rattle.paths.specs.Walk.{HasWalk}
 use Rattle.paths.specs.Distance.{unreachable}
 use Rattle.paths.specs.Local.{entry}
-use Rattle.paths.proofs.Listing.{HasWalk}
 use Rattle.workspace.specs.Regions.{Ordered, Masked}
 
 -- ---- one vertex

@@ -22,7 +22,8 @@ use Rattle.basics.specs.Bits.{bit}
 use Rattle.basics.proofs.Order.{le-or-lt, eq-or-ne}
 use Rattle.basics.proofs.Bounded.{every-at}
 use Rattle.basics.proofs.Bits.{bit-or, pow-bit}
-use Rattle.floor.specs.Floor.{bitAt, bitBytes, blockedFrom}
+use Rattle.floor.specs.Floor.{bitAt, bitBytes}
+use Rattle.floor.specs.Known.{blockedFrom}
 use Rattle.floor.proofs.Packed.{Bytes, bytes-length, bytes-bit, bytes-same, bytes-cong}
 
 abbrev pub inSpan : ℕ → ℕ → ℕ → Bool

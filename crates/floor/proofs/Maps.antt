@@ -29,8 +29,8 @@ use Rattle.floor.specs.Floor.{
   cellNumbered,
   mapOf,
   withBlocked,
-  blockedFrom,
 }
+use Rattle.floor.specs.Known.{blockedFrom}
 use Rattle.floor.specs.Refusals.{sidesShape, floorShape}
 use Rattle.floor.specs.declared.Shape.the-variants.{Good}
 use Rattle.floor.proofs.Numbers.{cells-le, cell-lt}

@@ -6,7 +6,8 @@ use native.Mathlib.Omega.{arith}
 use native.Mathlib.Nat.{mod-lt, div-add-mod', div-lt-iff-lt-mul, mul-le-mul}
 use lib.ListN.{length}
 use lib.Arith.{digits-lt, digits-div, digits-mod}
-use Rattle.floor.specs.Floor.{Sized, vertices, number, column, row}
+use Rattle.floor.specs.Floor.{vertices, number, column, row}
+use Rattle.floor.specs.Known.{Sized}
 
 pub vertices-le : {w h : ℕ} → w ≤ 127 → h ≤ 127 → vertices w h ≤ 16384
 vertices-le {w} {h} p q = mul-le-mul {n₁ = suc h} {m₁ = suc w} {n₂ = 128} {m₂ = 128} (omega arith) (omega arith)

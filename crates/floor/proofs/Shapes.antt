@@ -10,7 +10,8 @@ use lib.Dec.{leb, ltb, eqb}
 use lib.ListN.{length}
 use Rattle.basics.specs.Bounded.{pick}
 use Rattle.basics.proofs.Bools.{and-left, and-right}
-use Rattle.floor.specs.Floor.{Sized, mapLength, vertices}
+use Rattle.floor.specs.Floor.{mapLength, vertices}
+use Rattle.floor.specs.Known.{Sized}
 use Rattle.floor.specs.Refusals.{side, unusedClear, sidesShape, floorShape, endShape, andThen}
 use Rattle.floor.specs.declared.Refusal.{Refusal}
 use Rattle.floor.specs.declared.Refusal.the-variants.{Size, MapLength, UnusedBit, End}

@@ -17,7 +17,8 @@ use Rattle.basics.specs.Bits.{bit}
 use Rattle.basics.proofs.Order.{le-or-lt, eq-or-ne}
 use Rattle.basics.proofs.Lists.{getD-zeros}
 use Rattle.basics.proofs.Bits.{bit-zero}
-use Rattle.floor.specs.Floor.{bitAt, bitBytes, mapLength, packed, byteBlocked, storedCells, blockedFrom}
+use Rattle.floor.specs.Floor.{bitAt, bitBytes, mapLength, packed, byteBlocked, storedCells}
+use Rattle.floor.specs.Known.{blockedFrom}
 use Rattle.floor.proofs.Packed.{bytes-same, bytes-cong, packed-bit, packed-length, packed-cong}
 use Rattle.floor.proofs.Blocking.{inSpan, span-one}
 

@@ -16,19 +16,16 @@
 --   mapOf f          == the map of floor f
 --   cellBytes f      == the cells of floor f, a byte for each, 1 where it is blocked and 0 where it is open
 --   withBlocked f p  == the floor f, blocked also where p holds
---   blockedFrom a n l == the map l, with the n cells from number a on blocked
 --   blocked f x y    == the cell that has the vertex (x, y) as its lower right corner, cell (x - 1, y - 1), is blocked;
 --                       everything outside the map is. So cell (i, j) is `blocked f (suc i) (suc j)`, and the four
 --                       cells at the vertex (x, y) are `blocked f` at (x, y), (suc x, y), (x, suc y) and (suc x, suc y)
 --   vertices w h     == the number of vertices, V
 --   number w x y     == the number of the vertex in column x and row y
 --   column w v, row w v == the column and the row of vertex v
---   Sized w h l      == what the code knows of a floor that was not refused
-use Prim.Native.Nat.{ℕ, zero, suc, _+_, _*_, _/_, _%_, _≤_}
-use mathlib.Core.Path.{_≡_}
-use mathlib.Core.Bool.{Bool, true, false, _&&_, _||_, not}
+use Prim.Native.Nat.{ℕ, zero, suc, _+_, _*_, _/_, _%_}
+use mathlib.Core.Bool.{Bool, true, _&&_, _||_, not}
 use mathlib.Core.List.{List}
-use lib.Dec.{leb, ltb, eqb}
+use lib.Dec.{ltb, eqb}
 use lib.ListN.{length, getD}
 use Rattle.basics.specs.Bounded.{pick}
 use Rattle.basics.specs.Lists.{tabulate}
@@ -82,9 +79,6 @@ cellBytes f = tabulate (f .wide * f .high) (λ c. pick (cellNumbered f c) 1 0)
 abbrev pub withBlocked : Floor → (ℕ → ℕ → Bool) → Floor
 withBlocked f p = record { wide = f .wide; high = f .high; cell = λ i j. f .cell i j || p i j }
 
-unfoldable pub blockedFrom : ℕ → ℕ → List ℕ → List ℕ
-blockedFrom a n l = bitBytes (length l) (λ c. bitAt l c || (leb a c && ltb c (a + n)))
-
 unfoldable pub blocked : Floor → ℕ → ℕ → Bool
 blocked f zero y = true
 blocked f (suc i) zero = true
@@ -102,12 +96,7 @@ column w v = v % suc w
 abbrev pub row : ℕ → ℕ → ℕ
 row w v = v / suc w
 
-pub record Sized (w h : ℕ) (l : List ℕ) : Type 0 where
-  pub wide : w ≤ 127
-  pub high : h ≤ 127
-  pub size : length l ≡ mapLength (w * h)
-
 -- Named on an `unfolding` line, this opens all of the above, for a theorem that is computed.
 unfoldable pub floor-opened : ℕ
-unfolding bitsOf bitBytes storedCells cellOf mapOf cellBytes blockedFrom blocked
+unfolding bitsOf bitBytes storedCells cellOf mapOf cellBytes blocked
 floor-opened = 0

@@ -1,3 +1,4 @@
 pub mod Floor
+pub mod Known
 pub mod Window
 pub mod Refusals

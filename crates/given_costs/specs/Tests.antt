@@ -1,5 +1,5 @@
--- The tests of handed-in costs, in the order in which they are run. Nobody has to believe these: a law in proofs/ shows
--- that they say the same as `costsTrue`.
+-- Used by contracts between functions; nobody has to believe it: laws tie it to the definitions.
+-- The tests of handed-in costs, in the order in which they are run. They say the same as `costsTrue`.
 --
 --   columnTest g a d w y x   == the cost of the vertex in column x and row y, on a floor of width w, is right by its
 --                               neighbours

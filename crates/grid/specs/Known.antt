@@ -1,12 +1,13 @@
--- What planner and checker know of a job whose shape is good. Nobody has to believe these: they stand in contracts of
--- functions that only the operations call, and `job-fit` shows that such a job has them.
+-- Used by contracts between functions; nobody has to believe it: laws tie it to the definitions.
+-- What planner and checker know of a job whose shape is good, by the law `job-fit`.
 --
 --   GoodJob w h map rows a b == the floor, the rows of the neighbourhood and both ends are good; no end is a pinch
 use Prim.Native.Nat.{ℕ, _<_}
 use mathlib.Core.Path.{_≡_}
 use mathlib.Core.Bool.{false}
 use mathlib.Core.List.{List}
-use Rattle.floor.specs.Floor.{Sized, floorOf, vertices, column, row}
+use Rattle.floor.specs.Floor.{floorOf, vertices, column, row}
+use Rattle.floor.specs.Known.{Sized}
 use Rattle.sight.specs.Sight.{pinch}
 use Rattle.moves.specs.declared.Rows.{Rows}
 use Rattle.moves.specs.Table.{Listed}

@@ -1,5 +1,6 @@
--- A floor's graph with a test of the segment in place of `sees`. Nobody has to believe these: `graphIf sees` is
--- `floorGraph`, and laws of neighbours show what the graph of the moves that leave a vertex has to do with it.
+-- Used by contracts between functions; nobody has to believe it: laws tie it to the definitions.
+-- A floor's graph with a test of the segment in place of `sees`: `graphIf sees` is `floorGraph`, and laws of neighbours
+-- say what the graph of the moves that leave a vertex has to do with it.
 --
 --   graphIf S f r      == the graph of floor f with the neighbourhood whose rows are r, of the moves where S holds
 --   leavingGraph f r   == so it is of the moves that leave their first end

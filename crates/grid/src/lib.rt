@@ -2,7 +2,8 @@
 // shape of a job.
 ghost use mathlib.Core.Path.{_≡_};
 ghost use Prim.Native.Nat.{_<_};
-ghost use Rattle.floor.specs.Floor.{Sized, floorOf, vertices};
+ghost use Rattle.floor.specs.Floor.{floorOf, vertices};
+ghost use Rattle.floor.specs.Known.{Sized};
 ghost use Rattle.grid.specs.Grid.{pinchShape, endsShape, jobOf};
 use floor::Refusal;
 use floor::Shape;

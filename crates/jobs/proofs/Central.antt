@@ -29,9 +29,9 @@ use Rattle.moves.specs.declared.Rows.{Rows}
 use Rattle.moves.specs.Moves.{moveAt}
 use Rattle.moves.specs.Steps.{thenAt, farEndAt, endIf, openEndAt, openEnd}
 use Rattle.paths.specs.Graph.{Graph, Lawful}
+use Rattle.paths.specs.Walk.{Walk, stop, go}
 use Rattle.paths.specs.Distance.{unreachable, distance}
 use Rattle.paths.specs.Route.{centralRoute}
-use Rattle.paths.proofs.Listing.{Walk, stop, go}
 use Rattle.paths.proofs.Route.{route-walk, route-pos, route-length, route-inside}
 use Rattle.grid.specs.Grid.{floorGraph, jobOf}
 use Rattle.grid.specs.declared.Job.the-variants.{Fit}

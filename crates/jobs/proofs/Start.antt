@@ -6,7 +6,7 @@ use native.Mathlib.Omega.{arith}
 use native.Mathlib.Nat.{zero-add}
 use lib.ListN.{length, take}
 use lib.Seq.{take-at}
-use Rattle.records.specs.Lines.{Written}
+use Rattle.records.specs.Known.{Written}
 use Rattle.records.proofs.Writing.{written-length}
 
 module _ {out text out' : List ℕ} {n : ℕ} (w : Written out 0 text out' n) where

@@ -32,7 +32,8 @@ use Rattle.planner.specs.Plan.{Slices}
 use Rattle.planner.specs.declared.Planned.{Planned}
 use Rattle.planner.specs.declared.Planned.the-variants.{Found, Refused}
 use Rattle.thinning.specs.Thinning.{keptPositions, joinedList}
-use Rattle.records.specs.Lines.{refusedLine, Written}
+use Rattle.records.specs.Lines.{refusedLine}
+use Rattle.records.specs.Known.{Written}
 use Rattle.records.specs.declared.stream.JobRecord.{JobRecord}
 use Rattle.records.proofs.Writing.{written-as}
 use Rattle.jobs.specs.Text.{routeText, answerText, answerOf, pointsOf, jobText}

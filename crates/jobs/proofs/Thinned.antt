@@ -19,7 +19,8 @@ use Rattle.thinning.specs.declared.Thinned.{Thinned}
 use Rattle.thinning.specs.declared.Thinned.the-variants.{Kept as KeptAnswer}
 use Rattle.thinning.proofs.Shapes.{shape-good}
 use Rattle.thinning.proofs.Answered.{Answered, answered}
-use Rattle.records.specs.Lines.{routeLine, atLine, keptOf, Kept, Written}
+use Rattle.records.specs.Lines.{routeLine, atLine, keptOf}
+use Rattle.records.specs.Known.{Kept, Written}
 use Rattle.records.proofs.Decimal.{decimal-u64}
 use Rattle.records.proofs.Writing.{written-more, written-as}
 use Rattle.jobs.specs.Contract.{Routable, RouteTold}

@@ -5,7 +5,8 @@ use mathlib.Core.Path.{_≡_, sym, ap, _∙_}
 use mathlib.Core.List.{List, _++_}
 use native.Mathlib.Omega.{arith}
 use Rattle.records.specs.Format.{recordAt}
-use Rattle.records.specs.Lines.{badLine, Written}
+use Rattle.records.specs.Lines.{badLine}
+use Rattle.records.specs.Known.{Written}
 use Rattle.records.specs.declared.stream.Cursor.{Cursor}
 use Rattle.records.specs.declared.stream.MapRecord.{MapRecord}
 use Rattle.records.specs.declared.stream.JobRecord.{JobRecord}

@@ -1,3 +1,4 @@
+-- Used by contracts between functions; nobody has to believe it: laws tie it to the definitions.
 -- What the functions of this crate are handed, and what they leave.
 --
 --   SmallFloor w h map   == a floor of good shape with sides of at most 31 cells
@@ -38,7 +39,7 @@ use Rattle.planner.specs.declared.Planned.{Planned}
 use Rattle.planner.specs.declared.Planned.the-variants.{Found, Refused}
 use Rattle.thinning.specs.Thinning.{keptPositions, joinedList}
 use Rattle.records.specs.Format.{streamFrom}
-use Rattle.records.specs.Lines.{Written}
+use Rattle.records.specs.Known.{Written}
 use Rattle.records.specs.declared.stream.Cursor.{Cursor}
 use Rattle.records.specs.declared.stream.MapRecord.{MapRecord}
 use Rattle.records.specs.declared.stream.JobRecord.{JobRecord}

@@ -1,5 +1,5 @@
--- What the code knows at each of its steps. Nobody has to believe these: the contracts of the parts of `check` and
--- `propose` cite them.
+-- Used by contracts between functions; nobody has to believe it: laws tie it to the definitions.
+-- What the code knows at the steps of `check` and `propose`.
 --
 --   sightOn w h map list    == which positions of the list see each other, on the floor with this map
 --   JoinedOn w h map list n == the floor is good, and the first n numbers of the list, which is not too long, are
@@ -17,7 +17,8 @@ use mathlib.Core.Bool.{Bool, true}
 use mathlib.Core.List.{List}
 use lib.ListN.{length, getD}
 use Rattle.basics.specs.Lists.{tabulate, padded}
-use Rattle.floor.specs.Floor.{Sized, floorOf}
+use Rattle.floor.specs.Floor.{floorOf}
+use Rattle.floor.specs.Known.{Sized}
 use Rattle.thinning.specs.Thinning.{seen}
 use Rattle.thinning.specs.Known.{VertexList}
 use Rattle.legs.specs.Choices.{Leg, fewestLegs}

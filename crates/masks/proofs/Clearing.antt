@@ -37,10 +37,10 @@ use Rattle.moves.specs.declared.Move.{Move}
 use Rattle.moves.specs.declared.Step.the-variants.{To, Off}
 use Rattle.moves.specs.declared.Rows.{Rows}
 use Rattle.moves.specs.Moves.{moveOf, rowMove, rowAt, moveAt}
-use Rattle.moves.specs.Steps.{shifted, thenAt, farEndAt, endIf, isSome, stepOf}
+use Rattle.moves.specs.Steps.{shifted, thenAt, farEndAt, endIf, stepOf}
 use Rattle.moves.proofs.Steps.{shifted-is}
 use Rattle.moves.specs.Leaving.{leaves}
-use Rattle.moves.specs.Table.{Listed, Within, oppositeOf}
+use Rattle.moves.specs.Table.{isSome, Listed, Within, oppositeOf}
 use Rattle.moves.proofs.Table.{LawfulMove, lawful-move, listed-lawful, each-listed}
 use Rattle.moves.proofs.Steps.{goes-end}
 use Rattle.moves.proofs.Opposites.{goes, goes-back}

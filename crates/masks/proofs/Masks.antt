@@ -19,7 +19,8 @@ use Rattle.floor.proofs.Numbers.{column-number, row-number}
 use Rattle.sight.specs.Sight.{segment, unblocked, pinch}
 use Rattle.moves.specs.declared.Rows.{Rows}
 use Rattle.moves.specs.Moves.{rowMove}
-use Rattle.moves.specs.Steps.{thenAt, farEndAt, endIf, isSome}
+use Rattle.moves.specs.Steps.{thenAt, farEndAt, endIf}
+use Rattle.moves.specs.Table.{isSome}
 use Rattle.moves.specs.Leaving.{leaves}
 use Rattle.masks.specs.Masks.{rowIf, MaskAt, Leaving, LeavingRow, LeavingTo}
 

@@ -42,10 +42,10 @@ use Rattle.sight.specs.Sight.{unblocked, pinch}
 use Rattle.moves.specs.declared.Move.{Move}
 use Rattle.moves.specs.declared.Rows.{Rows}
 use Rattle.moves.specs.Moves.{rowCount, rowMove, rowAt, moveAt}
-use Rattle.moves.specs.Steps.{up, down, endIf, isSome}
+use Rattle.moves.specs.Steps.{up, down, endIf}
 use Rattle.moves.specs.Leaving.{leaves}
 use Rattle.moves.specs.Cells.{beside, windowBlocked, centre}
-use Rattle.moves.specs.Table.{Listed, sixteenRows, Within, Short, narrow, lawfulRows}
+use Rattle.moves.specs.Table.{isSome, Listed, sixteenRows, Within, Short, narrow, lawfulRows}
 use Rattle.moves.proofs.Table.{lawful-move, listed-lawful, same-row, each-listed}
 use Rattle.moves.proofs.Cells.{cells-tell}
 use Rattle.masks.specs.Masks.{rowIf, pinchBit, pinchMask, Leaving, LeavingRow}

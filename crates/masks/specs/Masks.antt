@@ -1,5 +1,5 @@
--- Masks of a vertex's moves: a bit for each row of the tables. Nobody has to believe these: laws in proofs/ tie them to
--- `openEnd`.
+-- Used by contracts between functions; nobody has to believe it: laws tie it to the definitions.
+-- Masks of a vertex's moves: a bit for each row of the tables. They say the same as `openEnd`.
 --
 --   rowIf S f x y k         == the move of row k leads from (x, y) to a vertex of the floor, and S holds of the segment
 --                              between the two
@@ -33,9 +33,9 @@ use Rattle.floor.specs.Floor.{Floor, vertices, number, column, row}
 use Rattle.sight.specs.Sight.{Segment, pinch, sees}
 use Rattle.moves.specs.declared.Rows.{Rows}
 use Rattle.moves.specs.Moves.{rowMove, rowAt}
-use Rattle.moves.specs.Steps.{farEndAt, endIf, isSome}
+use Rattle.moves.specs.Steps.{farEndAt, endIf}
 use Rattle.moves.specs.Leaving.{leaves}
-use Rattle.moves.specs.Table.{oppositeOf}
+use Rattle.moves.specs.Table.{isSome, oppositeOf}
 
 abbrev pub rowIf : (Floor → Segment → Bool) → Floor → ℕ → ℕ → ℕ → Bool
 rowIf S f x y k = isSome (endIf S f (rowMove k) x y)

@@ -1,5 +1,5 @@
--- The masks of the sixteen ways in which the four cells at a vertex can be blocked. Nobody has to believe these: laws in
--- proofs/ tie them to `Leaving`.
+-- Used by contracts between functions; nobody has to believe it: laws tie it to the definitions.
+-- The masks of the sixteen ways in which the four cells at a vertex can be blocked. They say the same as `Leaving`.
 --
 --   pairAt f x y     == the two cells to the left of column line x at row line y: 1 where the upper is blocked, and 4 where
 --                       the lower is

@@ -1,5 +1,5 @@
--- What the code knows at its steps. Nobody has to believe these: they stand in contracts of private functions, and laws
--- in proofs/ tie them to specs/Mending.antt.
+-- Used by contracts between functions; nobody has to believe it: laws tie it to the definitions.
+-- What the code knows at its steps.
 --
 --   answerBy k n c         == the answer where the planner's has the number k and n points, and the differences are c
 --   AlikeSheets s t        == each slice of the sheet s is as long as that of the sheet t

@@ -18,8 +18,8 @@ use Rattle.sight.specs.Obstacle.{span}
 use Rattle.sight.specs.Travel.{Ends}
 use Rattle.sight.proofs.Corners.{axisBlocked, narrow-unblocked}
 use Rattle.moves.specs.declared.Move.{Move}
-use Rattle.moves.specs.Steps.{up, down, shifted, endIf, isSome}
-use Rattle.moves.specs.Table.{Short, narrow}
+use Rattle.moves.specs.Steps.{up, down, shifted, endIf}
+use Rattle.moves.specs.Table.{isSome, Short, narrow}
 use Rattle.moves.proofs.Signs.{narrow-one}
 use Rattle.moves.specs.Cells.{beside, windowBlocked, centre}
 use Rattle.moves.proofs.Steps.{

@@ -25,8 +25,8 @@ use Rattle.moves.specs.declared.Move.{Move}
 use Rattle.moves.specs.declared.Place.the-variants.{Is, Past}
 use Rattle.moves.specs.declared.Spot.the-variants.{At, Outside}
 use Rattle.moves.specs.declared.Step.the-variants.{To, Off}
-use Rattle.moves.specs.Steps.{up, down, shifted, thenAt, farEndAt, endIf, isSome, stepOf}
-use Rattle.moves.specs.Table.{OnFloor, Reaches, placeOf, spotOf}
+use Rattle.moves.specs.Steps.{up, down, shifted, thenAt, farEndAt, endIf, stepOf}
+use Rattle.moves.specs.Table.{isSome, OnFloor, Reaches, placeOf, spotOf}
 
 -- ---- one coordinate
 

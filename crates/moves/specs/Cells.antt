@@ -1,5 +1,5 @@
--- A move by the four cells in its middle. Nobody has to believe these: a law in proofs/ shows that they tell whether a
--- cell or a step is in the way of a move.
+-- Used by contracts between functions; nobody has to believe it: laws tie it to the definitions.
+-- A move by the four cells in its middle: they tell whether a cell or a step is in its way.
 --
 --   beside d l r  == an offset d is shut by the cells l before and r after a line, true where blocked
 --   windowBlocked dx dy ul ur ll lr == a move by dx and dy is shut by the four cells at a vertex: upper left, upper

@@ -1,5 +1,6 @@
--- The test of a move that looks at the pinch of its first end alone. Nobody has to believe these: a law in proofs/ shows
--- that a move is open exactly when it passes this test from both of its ends.
+-- Used by contracts between functions; nobody has to believe it: laws tie it to the definitions.
+-- The test of a move that looks at the pinch of its first end alone. A move is open exactly when it passes this test
+-- from both of its ends.
 --
 --   leaves f s         == no cell and no step is in the way of s, and its first end is no pinch
 --   leavingEnd f m v   == the vertex to which move m leads from vertex v, where it is on the floor and v can be left so

@@ -5,7 +5,6 @@
 --   endIf S f m x y     == the same where S holds of the segment between the two ends
 --   openEndAt f m x y   == the same where the two ends see each other: where the move is open
 --   openEnd f m v       == the same from the vertex with number v
---   openAt f m x y      == move m is open from (x, y)
 --   stepOf o            == the far end o, a vertex or off the floor, as the code answers it
 use Prim.Native.Nat.{ℕ, suc, _+_, _-_}
 use mathlib.Core.Bool.{Bool, true, false, _&&_}
@@ -50,18 +49,11 @@ openEndAt = endIf sees
 abbrev pub openEnd : Floor → Move → ℕ → Option ℕ
 openEnd f m v = openEndAt f m (column (f .wide) v) (row (f .wide) v)
 
-unfoldable pub isSome : Option ℕ → Bool
-isSome none = false
-isSome (some w) = true
-
-abbrev pub openAt : Floor → Move → ℕ → ℕ → Bool
-openAt f m x y = isSome (openEndAt f m x y)
-
 unfoldable pub stepOf : Option ℕ → Step
 stepOf none = Off
 stepOf (some v) = To (record { 0 = v })
 
 -- Named on an `unfolding` line, this opens all of the above, for a theorem that is computed.
 unfoldable pub steps-opened : ℕ
-unfolding up down shifted thenAt farEndAt endIf isSome stepOf
+unfolding up down shifted thenAt farEndAt endIf stepOf
 steps-opened = 0

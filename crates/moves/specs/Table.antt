@@ -1,5 +1,6 @@
--- The test of a neighbourhood's rows that gives the laws of its moves, and the parts of a step. Nobody has to believe
--- these: the test is computed in proofs/, and the parts stand in contracts of private functions.
+-- Used by contracts between functions; nobody has to believe it: laws tie it to the definitions.
+-- The test of a neighbourhood's rows that gives the laws of its moves, which is computed in proofs/, and the parts of a
+-- step.
 --
 --   Listed r       == r are the rows of a neighbourhood
 --   eightRows, sixteenRows == the rows of the table of eight, and of the table of sixteen
@@ -11,12 +12,13 @@
 --   Short m        == move m goes at most 2 columns and 2 rows: what a step takes
 --   OnFloor ..     == the vertex (x, y) is on a floor whose sides are not refused
 --   Reaches ..     == move m leads from (x, y) to (i, j), which is on the floor
+--   isSome o       == the far end o is there
 --   partsOf d      == the signed offset d as how far up and how far down
 --   placeOf a      == one coordinate where it is there, as the code answers it
 --   spotOf a b     == the column a and the row b, where both are there
 use Prim.Native.Nat.{ℕ, _+_, _/_, _%_, _≤_, _<_}
 use mathlib.Core.Path.{_≡_}
-use mathlib.Core.Bool.{Bool, true, _&&_, _||_, not}
+use mathlib.Core.Bool.{Bool, true, false, _&&_, _||_, not}
 use mathlib.Core.List.{List, [], _∷_}
 use mathlib.Core.Option.{Option, none, some}
 use lib.Dec.{leb, ltb, eqb}
@@ -100,6 +102,10 @@ pub record OnFloor (w h x y : ℕ) : Type 0 where
 pub record Reaches (w h : ℕ) (m : Move) (x y i j : ℕ) : Type 0 where
   pub columns : shifted w x (m .dx) ≡ some i
   pub rows : shifted h y (m .dy) ≡ some j
+
+unfoldable pub isSome : Option ℕ → Bool
+isSome none = false
+isSome (some w) = true
 
 abbrev pub partsOf : ℤ → Offset
 partsOf d = record { up = up d; down = down d }

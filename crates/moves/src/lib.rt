@@ -4,10 +4,12 @@ ghost use mathlib.Core.Bool.{true};
 ghost use Prim.Native.Nat.{_+_, _-_, _<_, _≤_};
 ghost use lib.IntN.{natAbs};
 ghost use lib.ListN.{getD};
-ghost use Rattle.floor.specs.Floor.{Sized, floorOf};
+ghost use Rattle.floor.specs.Floor.{floorOf};
+ghost use Rattle.floor.specs.Known.{Sized};
 ghost use Rattle.sight.specs.Sight.{segmentOf, unblocked};
 ghost use Rattle.moves.specs.Moves.{moves, sixteen, noMove, moveOf, rowCount, neighbourhoodOf, rowMove, rowAt, moveAt};
-ghost use Rattle.moves.specs.Steps.{up, down, shifted, farEndAt, endIf, isSome, stepOf};
+ghost use Rattle.moves.specs.Steps.{up, down, shifted, farEndAt, endIf, stepOf};
+ghost use Rattle.moves.specs.Table.{isSome};
 ghost use Rattle.moves.specs.Table.{lawfulRows, Short, narrow, OnFloor, Reaches, partsOf, placeOf, spotOf};
 use floor::Vertex;
 

@@ -1,5 +1,5 @@
--- The next vertex of the central route, as the code reads it from slices of costs and counts. Nobody has to believe
--- these.
+-- Used by contracts between functions; nobody has to believe it: laws tie it to the definitions.
+-- The next vertex of the central route, as the code reads it from slices of costs and counts.
 --
 --   Choosing r s mask d e goal v   == the moves from v can be read, and the slices of costs have v and the goal
 --   Counted n f b                  == the slices of counts have n places, and the traversal counts fit 64 bits

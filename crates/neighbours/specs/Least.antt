@@ -1,5 +1,6 @@
+-- Used by contracts between functions; nobody has to believe it: laws tie it to the definitions.
 -- The test of a cost by the least that an open move gives it. The moves of a vertex are read by class: four far ends at
--- one cost. Nobody has to believe these: `costs-in` ties the test to `rightCost`, and `least-right` the classes to it.
+-- one cost. The law `costs-in` ties the test to `rightCost`, and `least-right` the classes to it.
 --
 --   relaxedBy g D v m        == v costs no more than the far end of move m and that move
 --   relaxedIn g D v          == so it is of every open move; `relaxed` says it of the far end

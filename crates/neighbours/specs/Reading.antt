@@ -1,6 +1,7 @@
+-- Used by contracts between functions; nobody has to believe it: laws tie it to the definitions.
 -- The moves of a vertex as the inner loops read them: the rows of the neighbourhood, by how much the move of each row
--- changes a vertex number, and the mask of the vertex's open moves. Nobody has to believe these: what a loop finds is
--- stated by the definitions of paths, over the graph `maskGraph`, whose steps are those that the mask lets through.
+-- changes a vertex number, and the mask of the vertex's open moves. What a loop finds is stated by the definitions of
+-- paths, over the graph `maskGraph`, whose steps are those that the mask lets through.
 --
 --   readStep r s mask v m     == the far end of move m of the rows r from v, by its mask and the shifts s, if it is open
 --   maskGraph n r s mask      == the graph of n vertices with these steps, and with the costs of the rows r

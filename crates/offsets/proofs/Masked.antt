@@ -26,8 +26,8 @@ use Rattle.moves.specs.declared.Move.{Move}
 use Rattle.moves.specs.declared.Offset.{Offset}
 use Rattle.moves.specs.declared.Rows.{Rows}
 use Rattle.moves.specs.Moves.{rowCount, rowMove, rowAt, moveAt}
-use Rattle.moves.specs.Steps.{up, down, endIf, isSome}
-use Rattle.moves.specs.Table.{Within, Short, lawfulRows, partsOf}
+use Rattle.moves.specs.Steps.{up, down, endIf}
+use Rattle.moves.specs.Table.{isSome, Within, Short, lawfulRows, partsOf}
 use Rattle.basics.specs.Bits.{bit}
 use Rattle.masks.specs.Masks.{MaskAt}
 use Rattle.offsets.specs.Offsets.{offsetOf, maskedEnd, Movable}

@@ -1,4 +1,5 @@
--- A neighbourhood's moves by cost. Nobody has to believe these: the laws of a table are tested by computing.
+-- Used by contracts between functions; nobody has to believe it: laws tie it to the definitions.
+-- A neighbourhood's moves by cost. The laws of a table are tested by computing.
 --
 --   classCount     == how many classes a neighbourhood has; one of no move stands for a class that it lacks
 --   quarter        == how many rows make a quarter turn

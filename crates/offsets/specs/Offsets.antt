@@ -1,5 +1,5 @@
--- A move as a change of a vertex number, and a step by it. Nobody has to believe these: laws in proofs/ tie them to
--- `openEnd`.
+-- Used by contracts between functions; nobody has to believe it: laws tie it to the definitions.
+-- A move as a change of a vertex number, and a step by it. It leads where `openEnd` does.
 --
 --   offsetOf w m           == by how much move m changes a vertex number: by `up` less `down`
 --   maskedEnd n v k o      == v moved by o where bit k of n is set

@@ -22,8 +22,8 @@ use Rattle.basics.proofs.Order.{le-or-lt, eq-or-ne}
 use Rattle.basics.proofs.Bounded.{pick-yes, pick-no}
 use Rattle.basics.proofs.Sums.{sum-lt, sum-ones}
 use Rattle.paths.specs.Graph.{Graph, Lawful}
+use Rattle.paths.specs.Walk.{Walk, stop, go, HasWalk}
 use Rattle.paths.specs.Distance.{unreachable, distance}
-use Rattle.paths.proofs.Listing.{Walk, stop, go, HasWalk}
 use Rattle.paths.proofs.Distance.{distance-le, distance-walk, distance-least, distance-self}
 use Rattle.paths.proofs.Costs.{Tight, distance-stable, distance-tight}
 

@@ -15,8 +15,9 @@ use mathlib.Core.List.{List}
 use native.Mathlib.Omega.{arith}
 use Rattle.basics.proofs.Order.{le-or-lt, eq-or-ne}
 use Rattle.paths.specs.Graph.{Graph, Lawful}
+use Rattle.paths.specs.Walk.{Walk, stop, go, HasWalk}
 use Rattle.paths.specs.Distance.{unreachable, distance}
-use Rattle.paths.proofs.Listing.{Walk, stop, go, HasWalk, at-cost}
+use Rattle.paths.proofs.Listing.{at-cost}
 use Rattle.paths.proofs.Distance.{LastMove, snoc, unsnoc, walk-inside, distance-le, distance-walk}
 use Rattle.paths.proofs.Distance.{distance-least, distance-self, distance-move}
 

@@ -19,9 +19,9 @@ use Rattle.basics.proofs.Order.{le-or-lt, eq-or-ne}
 use Rattle.basics.proofs.Sums.{sum-cong, sum-zero}
 use Rattle.basics.proofs.Lists.{member, length-pos}
 use Rattle.paths.specs.Graph.{Graph}
-use Rattle.paths.specs.Walk.{gather, onward, less, still, listed, walks}
+use Rattle.paths.specs.Walk.{HasWalk, gather, onward, less, still, listed, walks}
 use Rattle.paths.specs.Local.{given}
-use Rattle.paths.proofs.Listing.{HasWalk, less-some, less-no, still-cases, walks-sound, walks-whole}
+use Rattle.paths.proofs.Listing.{less-some, less-no, still-cases, walks-sound, walks-whole}
 use Rattle.paths.proofs.Neighbours.{given-cong, given-zero}
 
 module _ {A : Type 0} where

@@ -17,10 +17,10 @@ use Rattle.basics.specs.Bounded.{sum}
 use Rattle.basics.proofs.Order.{le-or-lt, eq-or-ne}
 use Rattle.basics.proofs.Sums.{sum-cong}
 use Rattle.paths.specs.Graph.{Graph, Lawful}
-use Rattle.paths.specs.Walk.{less}
+use Rattle.paths.specs.Walk.{go, less}
 use Rattle.paths.specs.Distance.{unreachable, distance, pathCount}
 use Rattle.paths.specs.Local.{given, when-eq, inflow}
-use Rattle.paths.proofs.Listing.{go, less-some, less-yes}
+use Rattle.paths.proofs.Listing.{less-some, less-yes}
 use Rattle.paths.proofs.Distance.{distance-walk, distance-least, distance-self}
 use Rattle.paths.proofs.Neighbours.{given-cong, given-zero, when-yes, when-no, inflow-cong, inflow-costs}
 use Rattle.paths.proofs.Neighbours.{inflow-mul}

@@ -16,9 +16,9 @@ use mathlib.Core.List.{List, [], _∷_, _++_, List·Memᴰ, List·Memᴰ·head, 
 use native.Mathlib.Omega.{arith}
 use Rattle.basics.proofs.Bounded.{seek-le, seek-found, seek-least}
 use Rattle.paths.specs.Graph.{Graph, Lawful}
-use Rattle.paths.specs.Walk.{walks}
+use Rattle.paths.specs.Walk.{Walk, stop, go, HasWalk, walks}
 use Rattle.paths.specs.Distance.{unreachable, nonempty, distance}
-use Rattle.paths.proofs.Listing.{Walk, stop, go, HasWalk, go-at, at-cost, walks-sound, walks-whole}
+use Rattle.paths.proofs.Listing.{go-at, at-cost, walks-sound, walks-whole}
 
 -- The largest number of 32 bits.
 pub unreachable-is : suc unreachable ≡ 2 ^ 32

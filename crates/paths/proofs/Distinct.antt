@@ -1,7 +1,6 @@
 -- No walk is listed twice.
 --
---   Distinct l       == no two places of the list l hold the same
---   walks-distinct   == so it is of `walks g k u t`: its length counts different walks
+--   walks-distinct   == no two places of `walks g k u t` hold the same: its length counts different walks
 use Prim.Native.Nat.{ℕ, zero, suc, _<_}
 use mathlib.Core.Path.{_≡_, refl, sym, ap, _∙_, subst}
 use mathlib.Core.Logic.{⊎-elim}
@@ -12,14 +11,10 @@ use mathlib.Core.List.{List·Memᴰ·append-cases, Memᴰ·of-map, tail-eq-of-co
 use native.Mathlib.Omega.{arith}
 use lib.Dec.{eqb}
 use Rattle.paths.specs.Graph.{Graph, Lawful}
-use Rattle.paths.specs.Walk.{gather, onward, less, still, listed, walks}
+use Rattle.paths.specs.Walk.{Distinct, gather, onward, less, still, listed, walks}
 use Rattle.paths.proofs.Listing.{walk-begins, listedBy, listed-by, listed-sound, gather-cases, still-cases}
 
 module _ {A : Type 0} where
-  abbrev pub Distinct : List A → Type 0
-  Distinct [] = Unit {0}
-  Distinct (x ∷ l) = (List·Memᴰ x l → ⊥) × Distinct l
-
   distinct-append : (s t : List A) → Distinct s → Distinct t → ((x : A) → List·Memᴰ x s → List·Memᴰ x t → ⊥)
       → Distinct (s ++ t)
   distinct-append [] t a b h = b

@@ -1,9 +1,6 @@
 -- The listing holds the open walks of the given cost, and no others: nobody has to trust its recursion.
 --
---   Walk g k u t l   == the list l is an open walk from u to t that costs k: a list of vertices, each joined to the next
---                       by an open move, and k the sum of the moves' costs
---   HasWalk g k u t  == there is one
---   walks-sound      == what `walks g k u t` lists is such a walk
+--   walks-sound      == what `walks g k u t` lists is an open walk from u to t that costs k
 --   walks-whole      == each such walk is listed
 --   walks-exact      == the two together
 use Prim.Native.Nat.{ℕ, zero, suc, _+_, _-_, _≤_, _<_}
@@ -18,15 +15,7 @@ use borrow.Author.Tests.{eqb-true, eq-eqb, leb-true, le-leb, lt-leb}
 use lib.Dec.{leb, eqb}
 use Rattle.basics.proofs.Order.{le-or-lt}
 use Rattle.paths.specs.Graph.{Graph, Lawful}
-use Rattle.paths.specs.Walk.{gather, onward, less, still, listed, walks}
-
-pub data Walk (g : Graph) : ℕ → ℕ → ℕ → List ℕ → Type 0 where
-  stop : {t : ℕ} → Walk g 0 t t (t ∷ [])
-  go : {k u t : ℕ} {l : List ℕ} (m w : ℕ) → m < g .moves → g .step m u ≡ some w → Walk g k w t l
-      → Walk g (g .cost m + k) u t (u ∷ l)
-
-abbrev pub HasWalk : Graph → ℕ → ℕ → ℕ → Type 0
-HasWalk g k u t = (l : List ℕ) × Walk g k u t l
+use Rattle.paths.specs.Walk.{Walk, stop, go, gather, onward, less, still, listed, walks}
 
 -- ---- members of the parts of a listing
 

@@ -14,9 +14,10 @@ use native.Mathlib.Omega.{arith}
 use lib.ListN.{length, getD}
 use Rattle.basics.proofs.Order.{eq-or-ne}
 use Rattle.paths.specs.Graph.{Graph, Lawful}
+use Rattle.paths.specs.Walk.{Walk, stop}
 use Rattle.paths.specs.Distance.{unreachable, distance, pathCount}
 use Rattle.paths.specs.Route.{onWay, countFrom, countTo, traversals, candidate, nextVertex, follow, centralRoute}
-use Rattle.paths.proofs.Listing.{Walk, stop, go-at, at-cost}
+use Rattle.paths.proofs.Listing.{go-at, at-cost}
 use Rattle.paths.proofs.Distance.{distance-self}
 use Rattle.paths.proofs.Bound.{nearer, nearer-falls, nearer-lt}
 use Rattle.paths.proofs.Reverse.{distance-sym}

@@ -37,12 +37,12 @@ use Rattle.basics.proofs.Lists.{
   same-eq,
 }
 use Rattle.paths.specs.Graph.{Graph, Lawful}
+use Rattle.paths.specs.Walk.{HasWalk}
 use Rattle.paths.specs.Distance.{unreachable, distance, pathCount}
 use Rattle.paths.specs.Route.{onWay, countFrom, countTo, traversals, centralRoute, nextNumber}
 use Rattle.paths.specs.Sheet.{Sheet, sheetOf, joined, fits, routeSheet, noRouteSheet}
 use Rattle.paths.specs.Sheet.{TrueRoute, TrueNoRoute, sameSheet}
 use Rattle.paths.specs.Local.{Shaped, entry}
-use Rattle.paths.proofs.Listing.{HasWalk}
 use Rattle.paths.proofs.Distance.{distance-le}
 use Rattle.paths.proofs.Bound.{reached-exact, distance-bound}
 use Rattle.paths.proofs.Reverse.{distance-sym}

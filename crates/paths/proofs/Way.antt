@@ -24,9 +24,9 @@ use lib.Dec.{ltb}
 use Rattle.basics.proofs.Bools.{and-intro, and-both, iff-eq, true-or-false}
 use Rattle.basics.proofs.Bounded.{pick-yes, pick-no}
 use Rattle.paths.specs.Graph.{Graph, Lawful}
+use Rattle.paths.specs.Walk.{go}
 use Rattle.paths.specs.Distance.{unreachable, distance, pathCount}
 use Rattle.paths.specs.Route.{onShortest, onWay, countFrom, countTo, traversals}
-use Rattle.paths.proofs.Listing.{go}
 use Rattle.paths.proofs.Distance.{distance-walk, distance-least, distance-self, triangle, distance-move}
 use Rattle.paths.proofs.Reverse.{distance-sym}
 use Rattle.paths.proofs.Counts.{pathCount-pos}

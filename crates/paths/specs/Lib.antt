@@ -1,6 +1,7 @@
 pub mod Graph
 pub mod Walk
 pub mod Distance
+pub mod Faithful
 pub mod Route
 pub mod Sheet
 pub mod Local

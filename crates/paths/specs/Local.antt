@@ -1,5 +1,6 @@
--- Tests of a sheet vertex by vertex, in terms of a vertex and its neighbours alone. Nobody has to believe these: laws in
--- proofs/ show that they pass on the true numbers and on no others. The checker runs them; the planner establishes them.
+-- Used by contracts between functions; nobody has to believe it: laws tie it to the definitions.
+-- Tests of a sheet vertex by vertex, in terms of a vertex and its neighbours alone. They pass on the true numbers and
+-- on no others. The checker runs them; the planner establishes them.
 --
 --   inflow g D F v          == the sum of F over the neighbours w of v with D w + cost = D v
 --   relaxed g D v           == no neighbour of v costs more than v and the move to it

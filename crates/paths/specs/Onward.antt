@@ -1,5 +1,5 @@
--- What the choice of a next vertex is handed: that there is one. Nobody has to believe these: the law `sheet-leads` shows
--- that they hold of the true numbers.
+-- Used by contracts between functions; nobody has to believe it: laws tie it to the definitions.
+-- What the choice of a next vertex is handed: that there is one. By the law `sheet-leads` it holds of the true numbers.
 --
 --   Onward g on D T v  == a move leads on from v: to a candidate for the next vertex, with a positive count T
 --   Leads g on D T b v == so it is where v is on the way and not b

@@ -1,6 +1,6 @@
+-- Used by contracts between functions; nobody has to believe it: laws tie it to the definitions.
 -- The parts of the planner: what the choice of next vertices, the walk of the route and the finishing of a job from
--- known costs are handed, and what they leave. Nobody has to believe these: they stand in contracts of functions that
--- the planner alone calls.
+-- known costs are handed, and what they leave.
 --
 --   numberOf r s mask b d e f back v == `nextNumber`, by the slices and the mask of v
 --   numberAt r s b d e f back work v == the same, by the mask of v in the working slice

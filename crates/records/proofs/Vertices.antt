@@ -6,7 +6,8 @@ use native.Mathlib.Omega.{arith}
 use native.Mathlib.Numerals.{add-one}
 use lib.ListN.{length, getD}
 use Rattle.basics.specs.Lists.{tabulate}
-use Rattle.records.specs.Lines.{field, fields, keptOf, Written}
+use Rattle.records.specs.Lines.{field, fields, keptOf}
+use Rattle.records.specs.Known.{Written}
 use Rattle.records.proofs.Writing.{written-length, written-more, written-none, written-as}
 
 fields-last : (vs : List ℕ) (v : ℕ) → fields vs ++ field " " v ≡ fields (vs ++ (v ∷ []))

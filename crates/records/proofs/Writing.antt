@@ -7,7 +7,7 @@ use native.Mathlib.Numerals.{add-one}
 use native.Mathlib.Nat.{add-zero}
 use lib.ListN.{length, take, drop, getD, set, length-append, length-drop, length-set, take-append-drop}
 use lib.Seq.{length-take-le, take-at, take-all, take-suc, drop-append-add, drop-drop, set-split, append-snoc}
-use Rattle.records.specs.Lines.{Written}
+use Rattle.records.specs.Known.{Written}
 
 -- What stands before the place after a text.
 head-length : (b t : List ℕ) (at : ℕ) → at + length t ≤ length b → length (take at b ++ t) ≡ at + length t

@@ -8,17 +8,15 @@
 --   atLine vs      == at V1 V2 .., the vertices vs with one space between and none at the end
 --   badLine        == bad record at K
 --   keptOf k ps vs == of the list vs, what stands at the first k positions of ps
---   Written        == what a function that writes into a lent buffer leaves there
 --
 -- Each line ends with the byte 0A hex, "\n".
-use Prim.Native.Nat.{ℕ, zero, suc, _+_, _/_, _%_, _≤_, _<_}
+use Prim.Native.Nat.{ℕ, zero, suc, _+_, _/_, _%_}
 use Prim.Native.String.{String, [] as []ˢ, _∷_ as _∷ˢ_}
 use Prim.Native.Char.{code}
-use mathlib.Core.Path.{_≡_}
 use mathlib.Core.Bool.{true, false}
 use mathlib.Core.List.{List, [], _∷_, _++_}
 use lib.Dec.{ltb}
-use lib.ListN.{length, getD, take, drop}
+use lib.ListN.{getD}
 use Rattle.basics.specs.Lists.{tabulate}
 
 abbrev pub ascii : String → List ℕ
@@ -56,14 +54,3 @@ badLine k = field "bad record at " k ++ ascii "\n"
 
 abbrev pub keptOf : ℕ → List ℕ → List ℕ → List ℕ
 keptOf k ps vs = tabulate k (λ i. getD vs (getD ps i 0) 0)
-
--- The first k positions of ps are there, and lie in vs.
-pub record Kept (k : ℕ) (ps vs : List ℕ) : Type 0 where
-  pub count : k ≤ length ps
-  pub inside : (i : ℕ) → i < k → getD ps i 0 < length vs
-
--- The text stands in the buffer from `at` on and fits there, all else is as it was, and `next` is the place after it.
-pub record Written (before : List ℕ) (at : ℕ) (text after : List ℕ) (next : ℕ) : Type 0 where
-  pub room : at + length text ≤ length before
-  pub holds : after ≡ take at before ++ text ++ drop (at + length text) before
-  pub place : next ≡ at + length text

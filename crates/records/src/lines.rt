@@ -5,7 +5,8 @@ ghost use Prim.Native.Nat.{_+_, _*_, _≤_};
 ghost use mathlib.Core.List.{_++_};
 ghost use lib.ListN.{length};
 ghost use Rattle.records.specs.Lines.{decimal, field, fields, refusedLine, routeLine, atLine, badLine};
-ghost use Rattle.records.specs.Lines.{keptOf, Kept, Written};
+ghost use Rattle.records.specs.Lines.{keptOf};
+ghost use Rattle.records.specs.Known.{Kept, Written};
 
 // Copies `text`.
 pub fn put_text(buf: &mut [u8], at: usize, text: &[u8]) -> usize

@@ -18,7 +18,8 @@ use lib.Dec.{ltb, eqb}
 use Rattle.basics.specs.Bounded.{seek}
 use Rattle.basics.proofs.Bools.{true-or-false, not-both}
 use Rattle.basics.proofs.Bounded.{pick-yes, pick-no, seek-found, seek-least}
-use Rattle.floor.specs.Floor.{Floor, Sized, column, row}
+use Rattle.floor.specs.Floor.{Floor, column, row}
+use Rattle.floor.specs.Known.{Sized}
 use Rattle.floor.specs.declared.Vertex.{Vertex}
 use Rattle.floor.proofs.Numbers.{number-of}
 use Rattle.sight.specs.Sight.{segment, sees}

@@ -23,9 +23,9 @@ use Rattle.basics.proofs.Bools.{true-or-false, not-both, and-left, and-right}
 use Rattle.basics.proofs.Bounded.{pick-yes, pick-no, seek-found}
 use Rattle.basics.proofs.Options.{none-some}
 use Rattle.paths.specs.Graph.{Graph, Lawful}
+use Rattle.paths.specs.Walk.{HasWalk, stop, go}
 use Rattle.paths.specs.Distance.{distance}
 use Rattle.paths.proofs.Distance.{distance-least}
-use Rattle.paths.proofs.Listing.{HasWalk, stop, go}
 use Rattle.logs.specs.Log.{Log, closed, logOf}
 use Rattle.logs.proofs.Steps.{stops-few}
 use Rattle.replay.specs.Replay.{

@@ -1,5 +1,5 @@
--- What the code knows at its steps. Nobody has to believe these: they stand in contracts of private functions, and laws
--- in proofs/ tie them to specs/Replay.antt.
+-- Used by contracts between functions; nobody has to believe it: laws tie it to the definitions.
+-- What the code knows at its steps.
 --
 --   legOf o                  == the cost o at which a record follows, as the code answers it
 --   Drivable w h map rows    == the floor and the rows of the neighbourhood are good
@@ -25,7 +25,8 @@ use lib.Dec.{leb, eqb}
 use lib.ListN.{length}
 use Rattle.basics.specs.Bounded.{pick}
 use Rattle.basics.specs.Lists.{zeros}
-use Rattle.floor.specs.Floor.{Sized, floorOf, vertices}
+use Rattle.floor.specs.Floor.{floorOf, vertices}
+use Rattle.floor.specs.Known.{Sized}
 use Rattle.moves.specs.declared.Rows.{Rows}
 use Rattle.moves.specs.Table.{Listed}
 use Rattle.paths.specs.Graph.{Graph}

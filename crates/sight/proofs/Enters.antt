@@ -3,7 +3,6 @@
 -- first end lies on one side where dy * p < dx * q and on the other where dx * q < dy * p; of a cell's four corners the
 -- extreme ones are (c, r + 1) and (c + 1, r).
 --
---   less, more          == the two sums that `positive` and `negative` compare
 --   low, high           == those two sides of a corner
 --   Sides s P Q a b     == of the corner (P, Q), a says whether it is positive and b whether it is negative
 --   Up a b d k z        == b is d above a, and z is k above a; Down the same below
@@ -22,17 +21,12 @@ use Rattle.basics.proofs.Bools.{and-left, and-right, and-comm, ltb-shift}
 use Rattle.sight.specs.Sight.{Segment, segmentOf, positive, negative, between, corner, enters}
 use Rattle.sight.specs.Obstacle.{span, cellOn}
 use Rattle.sight.specs.Travel.{touches}
+use Rattle.sight.proofs.Cross.{less, more, positive-is, negative-is}
 use Rattle.sight.proofs.Travel.{span-up, span-down, cellOn-up, cellOn-down, cellOn-between}
 
 -- ---- the sides of a corner
 
-abbrev pub less : ℕ → ℕ → ℕ → ℕ → ℕ → ℕ → ℕ
-less x0 y0 x1 y1 p q = x1 * y0 + x0 * q + y1 * p
-
-abbrev pub more : ℕ → ℕ → ℕ → ℕ → ℕ → ℕ → ℕ
-more x0 y0 x1 y1 p q = x1 * q + x0 * y1 + y0 * p
-
--- Their difference is that of dx * q and dy * p, one way round or the other, in each of the four directions.
+-- The cross product, the difference of the two sums `more` and `less`, is that of dx * q and dy * p, one way round or the other, in each of the four directions.
 sums-up-up : (x y dx dy p q : ℕ)
     → less x y (x + dx) (y + dy) (x + p) (y + q) + dx * q ≡ more x y (x + dx) (y + dy) (x + p) (y + q) + dy * p
 sums-up-up x y dx dy p q = omega arith
@@ -73,18 +67,24 @@ module _ (x0 y0 x1 y1 dx dy p q P Q : ℕ) where
 
   same-way : less x0 y0 x1 y1 P Q + dx * q ≡ more x0 y0 x1 y1 P Q + dy * p
       → Sides s P Q (low dx dy p q) (high dx dy p q)
-  unfolding positive negative
   same-way e = record {
-    positives = ltb-shift (less x0 y0 x1 y1 P Q) (more x0 y0 x1 y1 P Q) (dy * p) (dx * q) e;
-    negatives = ltb-shift (more x0 y0 x1 y1 P Q) (less x0 y0 x1 y1 P Q) (dx * q) (dy * p) (sym e);
+    positives =
+        positive-is s P Q
+        ∙ ltb-shift (less x0 y0 x1 y1 P Q) (more x0 y0 x1 y1 P Q) (dy * p) (dx * q) e;
+    negatives =
+        negative-is s P Q
+        ∙ ltb-shift (more x0 y0 x1 y1 P Q) (less x0 y0 x1 y1 P Q) (dx * q) (dy * p) (sym e);
   }
 
   other-way : less x0 y0 x1 y1 P Q + dy * p ≡ more x0 y0 x1 y1 P Q + dx * q
       → Sides s P Q (high dx dy p q) (low dx dy p q)
-  unfolding positive negative
   other-way e = record {
-    positives = ltb-shift (less x0 y0 x1 y1 P Q) (more x0 y0 x1 y1 P Q) (dx * q) (dy * p) e;
-    negatives = ltb-shift (more x0 y0 x1 y1 P Q) (less x0 y0 x1 y1 P Q) (dy * p) (dx * q) (sym e);
+    positives =
+        positive-is s P Q
+        ∙ ltb-shift (less x0 y0 x1 y1 P Q) (more x0 y0 x1 y1 P Q) (dx * q) (dy * p) e;
+    negatives =
+        negative-is s P Q
+        ∙ ltb-shift (more x0 y0 x1 y1 P Q) (less x0 y0 x1 y1 P Q) (dy * p) (dx * q) (sym e);
   }
 
   pub up-up : Up x0 x1 dx p P → Up y0 y1 dy q Q → Sides s P Q (low dx dy p q) (high dx dy p q)

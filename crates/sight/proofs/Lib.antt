@@ -1,4 +1,5 @@
 pub mod Travel
+pub mod Cross
 pub mod Enters
 pub mod Sees
 pub mod Symmetry
@@ -6,6 +7,7 @@ pub mod Corners
 pub mod First
 pub mod Obstacles
 pub mod Runs
+pub mod Rows
 pub mod Named
 mod Unit
 mod Common

@@ -8,7 +8,8 @@ use Prim.Native.Nat.{ℕ, _<_}
 use mathlib.Core.Path.{_≡_, sym, ap, _∙_}
 use mathlib.Core.List.{List}
 use Rattle.basics.specs.Bounded.{pick}
-use Rattle.floor.specs.Floor.{Sized, floorOf, vertices}
+use Rattle.floor.specs.Floor.{floorOf, vertices}
+use Rattle.floor.specs.Known.{Sized}
 use Rattle.floor.specs.Refusals.{refusalNumber, floorShape, endShape, andThen}
 use Rattle.floor.specs.declared.Refusal.{Refusal}
 use Rattle.floor.specs.declared.Shape.{Shape}

@@ -4,11 +4,10 @@
 --   upright-sees, level-sees == along a grid line no cell is entered, and a step is free or shut
 --   slanted-sees             == a slanted segment has no steps, and enters cells of its box alone
 --   not-and-.., free-..      == a step, from the one or two readings that the code makes; a cell, from one
-use Prim.Native.Nat.{ℕ, suc, _≤_, _<_, min}
+use Prim.Native.Nat.{ℕ, suc, _≤_, _<_}
 use mathlib.Core.Path.{_≡_, refl, sym, _∙_}
 use mathlib.Core.Bool.{Bool, true, false, _&&_, _||_, not, or-true, and-true, and-false}
 use mathlib.Core.Logic.{_≢_}
-use native.Mathlib.Omega.{arith}
 use borrow.Author.Tests.{eq-eqb, ne-eqb}
 use lib.Dec.{eqb}
 use Rattle.basics.specs.Bounded.{every}
@@ -55,12 +54,10 @@ upright-same : (f : Floor) (x y0 y1 : ℕ) → y0 ≤ f .high → y1 ≤ f .high
     → unblocked f (segmentOf x y0 x y1) ≡ every (span y0 y1) (uprightFree f x y0 y1)
 unfolding unblocked noStepShut uprightFree
 upright-same f x y0 y1 p q =
-    let m : min x x ≡ x = omega arith in
     rw (
       none-entered f (segmentOf x y0 x y1) (upright-enters x y0 y1),
       eq-eqb x x refl,
-      m,
-      none-between (f .wide) x (λ i. levelOpen f i (min y0 y1)),
+      none-between (f .wide) x (λ i. levelOpen f i y0),
       or-true (not (eqb y0 y1)),
     )
     (and-true (every (f .high) (λ j. not (between y0 y1 j) || uprightOpen f x j))
@@ -70,12 +67,10 @@ level-same : (f : Floor) (y x0 x1 : ℕ) → x0 ≤ f .wide → x1 ≤ f .wide
     → unblocked f (segmentOf x0 y x1 y) ≡ every (span x0 x1) (levelFree f y x0 x1)
 unfolding unblocked noStepShut levelFree
 level-same f y x0 x1 p q =
-    let m : min y y ≡ y = omega arith in
     rw (
       none-entered f (segmentOf x0 y x1 y) (level-enters x0 x1 y),
       eq-eqb y y refl,
-      m,
-      none-between (f .high) y (uprightOpen f (min x0 x1)),
+      none-between (f .high) y (uprightOpen f x0),
       or-true (not (eqb x0 x1)),
     )
     (every-on (f .wide) x0 x1 (λ i. levelOpen f i y) p q)

@@ -6,11 +6,14 @@
 --   sees-same  == the law for two floors
 --   unblocked-back, -self, -same == the same of cells and steps alone; passes-back of the vertices passed
 use Prim.Native.Nat.{ℕ, suc, _<_, min, max}
-use mathlib.Core.Path.{_≡_, refl, ap₂, _∙_}
+use mathlib.Core.Path.{_≡_, refl, sym, ap₂, _∙_}
 use mathlib.Core.Bool.{Bool, true, _&&_, _||_, not}
+use mathlib.Core.Logic.{⊎-elim}
 use native.Mathlib.Omega.{arith}
-use borrow.Author.Tests.{eq-eqb}
-use lib.Dec.{ltb}
+use borrow.Author.Tests.{eq-eqb, ne-eqb}
+use lib.Dec.{ltb, eqb}
+use Rattle.basics.specs.Bounded.{every}
+use Rattle.basics.proofs.Order.{eq-or-ne}
 use Rattle.basics.proofs.Bools.{and-comm, eqb-sym}
 use Rattle.floor.specs.Floor.{Floor, column, row}
 use Rattle.floor.proofs.Cells.{blocked-same}
@@ -20,6 +23,7 @@ use Rattle.sight.specs.Sight.{
   segment,
   positive,
   negative,
+  between,
   corner,
   enters,
   noCellEntered,
@@ -34,7 +38,7 @@ use Rattle.sight.specs.Sight.{
   sees,
 }
 use Rattle.sight.proofs.Travel.{between-back}
-use Rattle.sight.proofs.Enters.{less, more}
+use Rattle.sight.proofs.Cross.{less, more, positive-is, negative-is}
 use Rattle.sight.proofs.Sees.{none-entered, none-between, upright-enters}
 
 abbrev pub back : Segment → Segment
@@ -49,12 +53,10 @@ module _ (s : Segment) (p q : ℕ) where
   more-back = omega arith
 
   pub positive-back : positive (back s) p q ≡ negative s p q
-  unfolding positive negative
-  positive-back = ap₂ ltb less-back more-back
+  positive-back = positive-is (back s) p q ∙ ap₂ ltb less-back more-back ∙ sym (negative-is s p q)
 
   pub negative-back : negative (back s) p q ≡ positive s p q
-  unfolding positive negative
-  negative-back = ap₂ ltb more-back less-back
+  negative-back = negative-is (back s) p q ∙ ap₂ ltb more-back less-back ∙ sym (positive-is s p q)
 
 corner-same : (p q : ℕ → ℕ → Bool) (i j : ℕ) → ((x y : ℕ) → p x y ≡ q x y) → corner p i j ≡ corner q i j
 unfolding corner
@@ -68,32 +70,34 @@ enters-back s i j =
     (corner-same (negative (back s)) (positive s) i j (negative-back s))
     ∙ and-comm (corner (negative s) i j) (corner (positive s) i j))
 
+cells-back : (f : Floor) (s : Segment) → noCellEntered f (back s) ≡ noCellEntered f s
+unfolding noCellEntered
+cells-back f s = simp (enters-back s)
+
+-- What holds of a segment's line, where its ends are on one, by one end or the other.
+either-end : (a b : ℕ) (P : ℕ → Bool) → (not (eqb b a) || P b) ≡ (not (eqb a b) || P a)
+either-end a b P =
+    ⊎-elim (λ e. rw e) (λ n. rw (ne-eqb b a (λ e. n (sym e)), ne-eqb a b n)) (eq-or-ne a b)
+
+steps-back : (f : Floor) (s : Segment) → noStepShut f (back s) ≡ noStepShut f s
+unfolding noStepShut
+steps-back f s =
+    simp (between-back (s .x1) (s .x0), between-back (s .y1) (s .y0))
+    (ap₂ _&&_
+    (either-end (s .x0) (s .x1) (λ x. every (f .high) (λ j. not (between (s .y0) (s .y1) j) || uprightOpen f x j)))
+    (either-end (s .y0) (s .y1) (λ y. every (f .wide) (λ i. not (between (s .x0) (s .x1) i) || levelOpen f i y))))
+
 pub unblocked-back : (f : Floor) (s : Segment) → unblocked f (back s) ≡ unblocked f s
-unfolding unblocked noCellEntered noStepShut
-unblocked-back f s =
-    let px : min (s .x1) (s .x0) ≡ min (s .x0) (s .x1) = omega arith in
-    let py : min (s .y1) (s .y0) ≡ min (s .y0) (s .y1) = omega arith in
-    simp (
-      enters-back s,
-      between-back (s .x1) (s .x0),
-      between-back (s .y1) (s .y0),
-      px,
-      py,
-      eqb-sym (s .x1) (s .x0),
-      eqb-sym (s .y1) (s .y0),
-    )
+unfolding unblocked
+unblocked-back f s = ap₂ _&&_ (cells-back f s) (steps-back f s)
 
 pub unblocked-self : (f : Floor) (x y : ℕ) → unblocked f (segmentOf x y x y) ≡ true
 unfolding unblocked noStepShut
 unblocked-self f x y =
-    let mx : min x x ≡ x = omega arith in
-    let my : min y y ≡ y = omega arith in
     rw (
       none-entered f (segmentOf x y x y) (upright-enters x y y),
       eq-eqb x x refl,
       eq-eqb y y refl,
-      mx,
-      my,
       none-between (f .high) y (uprightOpen f x),
       none-between (f .wide) x (λ i. levelOpen f i y),
     )

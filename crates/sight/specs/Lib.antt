@@ -1,4 +1,5 @@
 pub mod Sight
 pub mod Obstacle
+pub mod Rows
 pub mod Question
 pub mod Travel

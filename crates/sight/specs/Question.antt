@@ -1,7 +1,15 @@
--- Document 01, "The sight question uses 1, 2, 3, 5, then yes or no"; by request 2 it says what is in the way.
+-- Document 01, "The sight question uses 1, 2, 3, 5, then yes or no"; by request 2 it says what is in the way. The
+-- number and the values of each answer.
 --
 --   sightAnswer w h l a b == the answer for a floor's width, height and map and two vertex numbers
---   sightNumber r         == an answer as a number: the refusal's own; 0, yes, for clear, and 100, no, for an obstacle
+--   sightNumber s         == yes or no, as the firmware gets it: 0 for clear, 100 for an obstacle; at a refusal its
+--                            number
+--   obstacleNumber o      == what is in the way: 0 nothing, 101 a blocked cell that is entered, 102 a shut step, 103 a
+--                            pinch
+--   obstaclePlace o       == the cell's number, or that of the vertex where the step begins or which is the pinch; 0
+--                            where nothing is in the way
+--   sightCase s           == the answer with what is in the way: its number; at a refusal that of the refusal
+--   sightPlace s          == where that is; 0 at a refusal
 use Prim.Native.Nat.{ℕ}
 use mathlib.Core.List.{List}
 use Rattle.basics.specs.Bounded.{pick}
@@ -11,6 +19,8 @@ use Rattle.floor.specs.declared.Shape.{Shape}
 use Rattle.floor.specs.declared.Shape.the-variants.{Good, Refused}
 use Rattle.sight.specs.Sight.{segment}
 use Rattle.sight.specs.Obstacle.{isClear, obstacle}
+use Rattle.sight.specs.declared.Obstacle.{Obstacle}
+use Rattle.sight.specs.declared.Obstacle.the-variants.{Clear, Cell, Step, Pinch}
 use Rattle.sight.specs.declared.Sight.{Sight}
 use Rattle.sight.specs.declared.Sight.the-variants.{Answered, Unasked}
 
@@ -27,3 +37,23 @@ sightAnswer w h l a b =
 abbrev pub sightNumber : Sight → ℕ
 sightNumber (Answered o) = pick (isClear o) 0 100
 sightNumber (Unasked r) = refusalNumber r
+
+abbrev pub obstacleNumber : Obstacle → ℕ
+obstacleNumber Clear = 0
+obstacleNumber (Cell c) = 101
+obstacleNumber (Step v) = 102
+obstacleNumber (Pinch v) = 103
+
+abbrev pub obstaclePlace : Obstacle → ℕ
+obstaclePlace Clear = 0
+obstaclePlace (Cell c) = c .0
+obstaclePlace (Step v) = v .0
+obstaclePlace (Pinch v) = v .0
+
+abbrev pub sightCase : Sight → ℕ
+sightCase (Answered o) = obstacleNumber o
+sightCase (Unasked r) = refusalNumber r
+
+abbrev pub sightPlace : Sight → ℕ
+sightPlace (Answered o) = obstaclePlace o
+sightPlace (Unasked r) = 0

@@ -2,6 +2,8 @@
 -- corners": no segment longer than zero may start, end at or pass through a pinch.
 --
 --   Segment           == from the vertex (x0, y0) to the vertex (x1, y1)
+--   cross s p q       == the cross product (x1-x0)(q-y0) - (y1-y0)(p-x0); `pos n` is the number n of ℕ in ℤ
+--   positive, negative == it is above 0, it is below 0
 --   enters s i j      == the segment enters cell (i, j)
 --   noCellEntered f s == no blocked cell is entered
 --   noStepShut f s    == along a grid line, no unit step has a blocked cell on both sides, outside counted
@@ -15,9 +17,11 @@
 --   between a b k     == min a b ≤ k and k + 1 ≤ max a b
 --   spans a b p       == min a b ≤ p and p ≤ max a b
 --   segment w a b     == the segment between two vertices by their numbers
-use Prim.Native.Nat.{ℕ, suc, _+_, _*_, min, max}
+use Prim.Native.Nat.{ℕ, suc, min, max}
 use mathlib.Core.Bool.{Bool, _&&_, _||_, not}
 use lib.Dec.{leb, ltb, eqb}
+use lib.IntN.{ℤ, pos, _-ℤ_, _*ℤ_}
+use lib.Signed.{ltZ}
 use Rattle.basics.specs.Bounded.{every}
 use Rattle.floor.specs.Floor.{Floor, blocked, column, row}
 
@@ -33,13 +37,16 @@ segmentOf a b c d = record { x0 = a; y0 = b; x1 = c; y1 = d }
 unfoldable pub segment : ℕ → ℕ → ℕ → Segment
 segment w a b = segmentOf (column w a) (row w a) (column w b) (row w b)
 
--- (x1-x0)(q-y0) - (y1-y0)(p-x0) is positive: multiplied out, with each product on the side where it is added.
-unfoldable pub positive : Segment → ℕ → ℕ → Bool
-positive s p q = ltb (s .x1 * s .y0 + s .x0 * q + s .y1 * p) (s .x1 * q + s .x0 * s .y1 + s .y0 * p)
+-- Which side of the segment's line the point (p, q) lies on; it is 0 on the line.
+unfoldable pub cross : Segment → ℕ → ℕ → ℤ
+cross s p q =
+    (pos (s .x1) -ℤ pos (s .x0)) *ℤ (pos q -ℤ pos (s .y0)) -ℤ (pos (s .y1) -ℤ pos (s .y0)) *ℤ (pos p -ℤ pos (s .x0))
 
--- The same is negative.
+unfoldable pub positive : Segment → ℕ → ℕ → Bool
+positive s p q = ltZ (pos 0) (cross s p q)
+
 unfoldable pub negative : Segment → ℕ → ℕ → Bool
-negative s p q = ltb (s .x1 * q + s .x0 * s .y1 + s .y0 * p) (s .x1 * s .y0 + s .x0 * q + s .y1 * p)
+negative s p q = ltZ (cross s p q) (pos 0)
 
 unfoldable pub between : ℕ → ℕ → ℕ → Bool
 between a b k = leb (min a b) k && ltb k (max a b)
@@ -63,13 +70,10 @@ uprightOpen f x j = not (blocked f x (suc j) && blocked f (suc x) (suc j))
 unfoldable pub levelOpen : Floor → ℕ → ℕ → Bool
 levelOpen f i y = not (blocked f (suc i) y && blocked f (suc i) (suc y))
 
--- The line's coordinate is written as the lesser of two equal ones, so that swapping the ends changes nothing.
 unfoldable pub noStepShut : Floor → Segment → Bool
 noStepShut f s =
-    (not (eqb (s .x0) (s .x1))
-    || every (f .high) (λ j. not (between (s .y0) (s .y1) j) || uprightOpen f (min (s .x0) (s .x1)) j))
-    && (not (eqb (s .y0) (s .y1))
-    || every (f .wide) (λ i. not (between (s .x0) (s .x1) i) || levelOpen f i (min (s .y0) (s .y1))))
+    (not (eqb (s .x0) (s .x1)) || every (f .high) (λ j. not (between (s .y0) (s .y1) j) || uprightOpen f (s .x0) j))
+    && (not (eqb (s .y0) (s .y1)) || every (f .wide) (λ i. not (between (s .x0) (s .x1) i) || levelOpen f i (s .y0)))
 
 unfoldable pub unblocked : Floor → Segment → Bool
 unblocked f s = noCellEntered f s && noStepShut f s
@@ -101,6 +105,6 @@ sees f s = unblocked f s && (still s || noPinchPassed f s)
 
 -- Named on an `unfolding` line, this opens all of the above, for a theorem that is computed.
 unfoldable pub sight-opened : ℕ
-unfolding segment positive negative between corner enters noCellEntered uprightOpen levelOpen noStepShut unblocked pinch
-    spans passes noPinchPassed sees
+unfolding segment cross positive negative between corner enters noCellEntered uprightOpen levelOpen noStepShut unblocked
+    pinch spans passes noPinchPassed sees
 sight-opened = 0

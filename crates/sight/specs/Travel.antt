@@ -1,5 +1,6 @@
--- Columns and rows counted from a segment's first end towards the other, whichever way it goes. Nobody has to believe
--- these: contracts of the scans cite them, and the laws in proofs/ tie them to `unblocked` and `obstacle`.
+-- Used by contracts between functions; nobody has to believe it: laws tie it to the definitions.
+-- Columns and rows counted from a segment's first end towards the other, whichever way it goes, as the scans count
+-- them.
 --
 --   Ends w h x0 y0 x1 y1  == both ends of a segment lie on the floor
 --   Apart x0 y0 x1 y1 c r == they are c columns and r rows apart

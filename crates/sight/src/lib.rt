@@ -1,7 +1,8 @@
 // Line of sight between two vertices of a floor, and the sight question.
 ghost use mathlib.Core.Path.{_≡_};
 ghost use Prim.Native.Nat.{_+_, _<_, _≤_, max};
-ghost use Rattle.floor.specs.Floor.{Sized, floorOf, vertices};
+ghost use Rattle.floor.specs.Floor.{floorOf, vertices};
+ghost use Rattle.floor.specs.Known.{Sized};
 ghost use Rattle.floor.specs.Refusals.{floorShape, endShape, andThen};
 ghost use Rattle.sight.specs.Sight.{segmentOf, segment, unblocked, pinch, sees};
 ghost use Rattle.sight.specs.Obstacle.{isClear, blockage, obstacle};

@@ -1,7 +1,8 @@
 // The pinches that a segment passes, looked at in turn from the first end.
 ghost use mathlib.Core.Path.{_≡_};
 ghost use Prim.Native.Nat.{_+_, _≤_};
-ghost use Rattle.floor.specs.Floor.{Sized, floorOf};
+ghost use Rattle.floor.specs.Floor.{floorOf};
+ghost use Rattle.floor.specs.Known.{Sized};
 ghost use Rattle.sight.specs.Sight.{segmentOf, pinch};
 ghost use Rattle.sight.specs.Obstacle.{span, startOn, orElse, nearestPinch};
 ghost use Rattle.sight.specs.Travel.{Ends, Apart, Common, pinchHere, pinchThere};

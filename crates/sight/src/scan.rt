@@ -2,7 +2,8 @@
 // the first end towards the other.
 ghost use mathlib.Core.Path.{_≡_};
 ghost use Prim.Native.Nat.{suc, _*_, _<_, _≤_};
-ghost use Rattle.floor.specs.Floor.{Sized, floorOf};
+ghost use Rattle.floor.specs.Floor.{floorOf};
+ghost use Rattle.floor.specs.Known.{Sized};
 ghost use Rattle.sight.specs.Sight.{segmentOf};
 ghost use Rattle.sight.specs.Obstacle.{span, cellOn, startOn, first, uprightStep, levelStep, blockage};
 ghost use Rattle.sight.specs.Travel.{Ends, uprightTo, levelTo, rowObstacle, cellThere, RowRun};

@@ -1,5 +1,5 @@
--- What the code knows of the table that it makes of the numbers. Nobody has to believe this: the contract of a part of
--- the operations cites it.
+-- Used by contracts between functions; nobody has to believe it: laws tie it to the definitions.
+-- What the code knows of the table that it makes of the numbers.
 --
 --   Stands w h l t == t is a table for a floor of width w and height h, and holds what the numbers l stand for
 use Prim.Native.Nat.{ℕ}

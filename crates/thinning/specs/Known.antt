@@ -1,5 +1,5 @@
--- What the code knows at each of its steps. Nobody has to believe these: the contracts of the parts of `thin` cite
--- them.
+-- Used by contracts between functions; nobody has to believe it: laws tie it to the definitions.
+-- What the code knows at the steps of `thin`.
 --
 --   VertexList w h l n               == l has n places or more, and its first n numbers are vertices
 --   Leg f l n i                  == position i of the n is followed by one that it sees

@@ -1,5 +1,5 @@
--- The planner's working slice: the vertices that have a cost, in order, and the masks of the open moves of all. Nobody has
--- to believe these: the planner's contract is stated by the definitions of paths.
+-- Used by contracts between functions; nobody has to believe it: laws tie it to the definitions.
+-- The planner's working slice: the vertices that have a cost, in order, and the masks of the open moves of all.
 --
 --   maskAt v work u        == the mask of vertex u, where there are v vertices
 --   Ordered v n D O        == O 0, .. O (n - 1) are the vertices below v that have a cost, by rising cost D

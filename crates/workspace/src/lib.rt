@@ -4,7 +4,8 @@
 ghost use mathlib.Core.Path.{_≡_};
 ghost use Prim.Native.Nat.{_*_, _<_, _≤_};
 ghost use lib.ListN.{length, set};
-ghost use Rattle.floor.specs.Floor.{Sized, floorOf, vertices};
+ghost use Rattle.floor.specs.Floor.{floorOf, vertices};
+ghost use Rattle.floor.specs.Known.{Sized};
 ghost use Rattle.moves.specs.Table.{Listed};
 ghost use Rattle.paths.specs.Local.{entry};
 ghost use Rattle.workspace.specs.Regions.{maskAt, MasksFilled};

@@ -22,7 +22,8 @@ use Rattle.floor.specs.declared.Shape.{Shape}
 use Rattle.floor.specs.declared.Shape.the-variants.{Good, Refused}
 use Rattle.writer.specs.Records.{Job}
 use Rattle.writer.specs.Writing.{Call, putMap, putJob, callBytes, givenShape, mapShape, inTurn, callShape}
-use Rattle.writer.specs.Calls.{fresh, afterOne, after, taken, bytesOf, holding, jobCalls}
+use Rattle.writer.specs.Calls.{fresh, afterOne, after, taken, jobCalls}
+use Rattle.writer.proofs.Holding.{bytesOf, holding}
 use Rattle.writer.proofs.Shapes.{accepted, not-refused}
 
 pub data Ordered : List Call → Type 0 where

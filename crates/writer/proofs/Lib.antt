@@ -1,6 +1,7 @@
 pub mod Shapes
 pub mod Cells
 pub mod Outcome
+pub mod Holding
 pub mod Reading
 pub mod Calls
 pub mod Rewriting

@@ -8,7 +8,7 @@ use mathlib.Core.List.{List}
 use lib.ListN.{length}
 use Rattle.floor.specs.declared.Refusal.{Refusal}
 use Rattle.floor.specs.declared.Shape.the-variants.{Good, Refused}
-use Rattle.records.specs.Lines.{Written}
+use Rattle.records.specs.Known.{Written}
 use Rattle.writer.specs.Writing.{Call, callBytes, callShape, Writes}
 use Rattle.writer.specs.Known.{pastRecord}
 use Rattle.writer.specs.declared.Writer.{Writer}

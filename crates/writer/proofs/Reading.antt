@@ -21,7 +21,8 @@ use Rattle.records.specs.declared.stream.Cursor.{Cursor}
 use Rattle.records.proofs.Found.{GoodMap, GoodJob, map-found, job-found, map-due, input-ends, job-due}
 use Rattle.records.proofs.Streams.{stream-first, stream-map, stream-job, stream-end}
 use Rattle.writer.specs.Records.{Job, mapBytes, jobBytes}
-use Rattle.writer.specs.Calls.{bytesOf, jobCalls, numberedJob, numbered, mapRead, streamRead}
+use Rattle.writer.specs.Calls.{jobCalls, numberedJob, numbered, mapRead, streamRead}
+use Rattle.writer.proofs.Holding.{bytesOf}
 
 abbrev cursor : ℕ → ℕ → Cursor
 cursor p k = record { at = p; due = k }

@@ -31,7 +31,8 @@ use Rattle.records.proofs.Found.{Finding, found-map, no-map, at-end, found-job,
 use Rattle.records.proofs.Streams.{stream-first, stream-map, stream-job, stream-end, stream-bad}
 use Rattle.writer.specs.Records.{mapBytes, jobBytes}
 use Rattle.writer.specs.Writing.{Call, putMap, putJob, callBytes, mapShape}
-use Rattle.writer.specs.Calls.{bytesOf, jobCalls, bareJob, endIn, readEnd, callsRead, Given}
+use Rattle.writer.specs.Calls.{jobCalls, bareJob, endIn, readEnd, callsRead, Given}
+use Rattle.writer.proofs.Holding.{bytesOf}
 use Rattle.writer.proofs.Shapes.{map-good}
 use Rattle.writer.proofs.Cells.{stored-bytes}
 use Rattle.writer.proofs.Calls.{Ordered, none-made, map-first}

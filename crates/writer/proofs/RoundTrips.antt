@@ -16,8 +16,9 @@ use Rattle.floor.proofs.Packed.{Bytes}
 use Rattle.floor.proofs.Stored.{cells-length, read-stored}
 use Rattle.records.specs.Format.{streamOf, cellsOf}
 use Rattle.writer.specs.Writing.{Call}
-use Rattle.writer.specs.Calls.{fresh, after, taken, written, bytesOf, holding, jobCalls, mapRead}
+use Rattle.writer.specs.Calls.{fresh, after, taken, written, jobCalls, mapRead}
 use Rattle.writer.specs.Calls.{ReadBack, readEnd, callsRead, WrittenBack}
+use Rattle.writer.proofs.Holding.{bytesOf, holding}
 use Rattle.writer.proofs.Shapes.{good-map}
 use Rattle.writer.proofs.Cells.{cells-small}
 use Rattle.writer.proofs.Reading.{read-records, cells-read}

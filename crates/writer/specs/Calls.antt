@@ -8,9 +8,6 @@
 --   after s xs        == the state after the calls xs, one after the other
 --   taken s xs        == those of the calls xs, made from the state s on, that are not refused
 --   written s         == what was written: the buffer up to the writer's place
---   bytesOf xs        == the bytes of the records of the calls xs, one after the other
---   holding buf xs    == the state in which the buffer buf has the records of the calls xs at its start and all else as
---                        it was
 --   jobCalls js       == the calls that write the jobs js
 --   numberedJob k j   == the job j as the reader gives it, being job k
 --   numbered k js     == the jobs js as the reader gives them, the first being job k
@@ -38,7 +35,7 @@ use Rattle.records.specs.Format.{Stream, streamOf, cellsOf}
 use Rattle.records.specs.declared.stream.MapRecord.{MapRecord}
 use Rattle.records.specs.declared.stream.JobRecord.{JobRecord}
 use Rattle.writer.specs.Records.{Job, jobOf}
-use Rattle.writer.specs.Writing.{Call, putMap, putJob, callBytes, callShape, freshWriter, writerLeft, bufferLeft}
+use Rattle.writer.specs.Writing.{Call, putMap, putJob, callShape, freshWriter, writerLeft, bufferLeft}
 use Rattle.writer.specs.declared.Writer.{Writer}
 
 -- ---- any calls
@@ -67,16 +64,6 @@ taken s (x ∷ xs) =
 
 abbrev pub written : State → List ℕ
 written s = take (s .writer .at) (s .buffer)
-
-unfoldable pub bytesOf : List Call → List ℕ
-bytesOf [] = []
-bytesOf (x ∷ xs) = callBytes x ++ bytesOf xs
-
-abbrev pub holding : List ℕ → List Call → State
-holding buf xs = record {
-  writer = record { at = length (bytesOf xs); due = length xs };
-  buffer = bytesOf xs ++ drop (length (bytesOf xs)) buf;
-}
 
 -- ---- what was written, read
 

@@ -1,4 +1,5 @@
--- What the code knows at its steps. Nobody has to believe these: they stand in contracts of private functions.
+-- Used by contracts between functions; nobody has to believe it: laws tie it to the definitions.
+-- What the code knows at its steps.
 --
 --   MapFits w h l at buf == the floor of width w and height h with the map l is good for a map record, and the record
 --                           fits whole in the buffer from place `at` on

@@ -5,7 +5,7 @@ ghost use Prim.Native.Nat.{_+_, _*_, _/_, _%_, _≤_, _<_};
 ghost use lib.ListN.{length};
 ghost use Rattle.basics.specs.Lists.{tabulate};
 ghost use Rattle.floor.specs.Floor.{floorOf, cellBytes};
-ghost use Rattle.records.specs.Lines.{Written};
+ghost use Rattle.records.specs.Known.{Written};
 ghost use Rattle.writer.specs.Records.{Job, jobOf, mapBytes, jobBytes};
 ghost use Rattle.writer.specs.Writing.{putMap, putJob, mapShape, roomShape, callShape, freshWriter};
 ghost use Rattle.writer.specs.Writing.{Writes, writingNumber};

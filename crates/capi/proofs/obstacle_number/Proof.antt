@@ -1,7 +1,7 @@
 -- `capi::obstacle_number` meets its contract: each arm is one case of the definition. Assumes nothing.
 use mathlib.Core.Path.{sym, ap}
 use borrow.Author.Needs.{needs}
-use Rattle.capi.specs.Results.{obstacleNumber}
+use Rattle.sight.specs.Question.{obstacleNumber}
 use Rattle.capi.proofs.obstacle_number.Statement.{statement}
 use Rattle.capi.proofs.obstacle_number.Tie as tie
 

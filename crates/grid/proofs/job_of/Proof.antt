@@ -1,6 +1,6 @@
 -- `grid::job_of` meets its contract: each return is one case of `jobOf`. Assumes nothing.
 use mathlib.Core.Path.{_≡_, sym, _∙_}
-use Rattle.floor.specs.Floor.{Sized}
+use Rattle.floor.specs.Known.{Sized}
 use Rattle.floor.specs.Refusals.{floorShape}
 use Rattle.floor.specs.declared.Shape.the-variants.{Good}
 use Rattle.floor.proofs.Shapes.{good-floor}

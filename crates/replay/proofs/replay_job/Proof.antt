@@ -1,7 +1,8 @@
 -- `replay::replay_job` meets its contract: each return is one case of `replayJob`. Assumes nothing.
 use mathlib.Core.Path.{_≡_, sym, ap, _∙_}
 use native.Mathlib.Omega.{arith}
-use Rattle.floor.specs.Floor.{Sized, vertices}
+use Rattle.floor.specs.Floor.{vertices}
+use Rattle.floor.specs.Known.{Sized}
 use Rattle.floor.specs.Refusals.{floorShape}
 use Rattle.floor.specs.declared.Shape.the-variants.{Good}
 use Rattle.floor.proofs.Shapes.{good-floor}

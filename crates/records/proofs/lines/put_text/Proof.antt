@@ -3,7 +3,7 @@ use Prim.Native.Nat.{_+_, _-_, _≤_}
 use native.Mathlib.Omega.{arith}
 use borrow.Author.Needs.{needs}
 use lib.ListN.{length, take}
-use Rattle.records.specs.Lines.{Written}
+use Rattle.records.specs.Known.{Written}
 use Rattle.records.proofs.Writing.{Copying, copying-none, copying-more, copying-done}
 use Rattle.records.proofs.lines.put_text.Statement.{statement}
 use Rattle.records.proofs.lines.put_text.Tie as tie
