@@ -16,10 +16,10 @@ use lib.ListN.{length}
 use Rattle.basics.proofs.Order.{le-or-lt}
 use Rattle.paths.specs.Graph.{Graph, Lawful}
 use Rattle.paths.specs.Distance.{unreachable, distance, pathCount}
-use Rattle.paths.proofs.Listing.{Walk, HasWalk}
-use Rattle.paths.proofs.Distinct.{Distinct}
+use Rattle.paths.specs.Walk.{Walk, HasWalk, Distinct}
 use Rattle.paths.proofs.Distance.{distance-le}
-use Rattle.paths.proofs.Faithful.{Faithful, faithful}
+use Rattle.paths.specs.Faithful.{Faithful}
+use Rattle.paths.proofs.Faithful.{faithful}
 use Rattle.demands.specs.Demands.{Joins, Cheapest, least, none, Number}
 
 -- ---- lists with the same members
@@ -101,8 +101,8 @@ module _ (g : Graph) (L : Lawful g) (small : g .size ≤ 16384) (u v : ℕ) (in-
     cost = distance g u v;
     cheapest = cheapest-is;
     walks = true-numbers .cheapest;
-    exactly = true-numbers .exactly;
-    each-once = true-numbers .each-once;
+    exactly = true-numbers .listed .exactly;
+    each-once = true-numbers .listed .each-once;
     counted = true-numbers .counted;
   }
 
@@ -111,7 +111,7 @@ module _ (g : Graph) (L : Lawful g) (small : g .size ≤ 16384) (u v : ℕ) (in-
       let F = true-numbers in
       let e = cheapest-one (N .cheapest) in
       let same : (l : List ℕ) → List·Memᴰ l (N .walks) ↔ List·Memᴰ l (F .cheapest) = λ l. (
-        λ m. F .exactly l .1 (subst (λ k. Walk g k u v l) e (N .exactly l .0 m)),
-        λ m. N .exactly l .1 (subst (λ k. Walk g k u v l) (sym e) (F .exactly l .0 m)),
+        λ m. F .listed .exactly l .1 (subst (λ k. Walk g k u v l) e (N .exactly l .0 m)),
+        λ m. N .exactly l .1 (subst (λ k. Walk g k u v l) (sym e) (F .listed .exactly l .0 m)),
       ) in
-      sym (N .counted) ∙ same-length (N .walks) (F .cheapest) (N .each-once) (F .each-once) same ∙ F .counted
+      sym (N .counted) ∙ same-length (N .walks) (F .cheapest) (N .each-once) (F .listed .each-once) same ∙ F .counted

@@ -47,8 +47,7 @@ use Rattle.paths.specs.Route.{onShortest, centralRoute}
 use Rattle.paths.specs.Sheet.{Sheet, sheetOf, joined, fits, routeSheet, noRouteSheet, sameSheet}
 use Rattle.paths.specs.Local.{entry}
 use Rattle.paths.specs.Flow.{Flow}
-use Rattle.paths.proofs.Listing.{Walk, HasWalk}
-use Rattle.paths.proofs.Distinct.{Distinct}
+use Rattle.paths.specs.Walk.{Walk, HasWalk, Distinct}
 use Rattle.grid.specs.Grid.{floorGraph}
 use Rattle.given_costs.specs.Given.{costsTrue}
 use Rattle.planner.specs.Plan.{CostSlices, costSlicesOf, Slices, costsSized, slicesSized, sheetSlices, costsAlone}
