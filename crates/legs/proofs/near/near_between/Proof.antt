@@ -1,4 +1,4 @@
--- `legs::near::near_between` meets its contract: it returns the cap, or what was found at one position. Assumes nothing.
+-- `legs::near::near_between` meets its contract: it returns the cap, or what was found at a position. Assumes nothing.
 use Prim.Native.Nat.{_-_, _<_}
 use native.Mathlib.Omega.{arith}
 use borrow.Author.Needs.{needs}
