@@ -115,10 +115,21 @@ fn lists() -> Vec<List> {
 
 // ---- The same loops as the library's, with the sight question handed in. ----
 
-/// The least of `cap` and the numbers of the later positions that position i sees, from the nearest on. It sees the
-/// next.
-fn least_ahead(sees: &mut impl FnMut(usize, usize) -> bool, legs: &[u16], n: usize, i: usize, cap: u16) -> u16 {
+/// Two vertices are near: at most 24 columns apart, and their numbers at most as far as 24 rows.
+fn is_near(a: u16, b: u16) -> bool {
+    let column = |v: u16| usize::from(v) % COLUMNS;
+    usize::from(a.abs_diff(b)) <= 24 * COLUMNS && column(a).abs_diff(column(b)) <= 24
+}
+
+/// The least of `cap` and the numbers of the later positions that position i sees. It sees the next. A near position
+/// with one leg fewer left is sought first.
+fn least_ahead(
+    sees: &mut impl FnMut(usize, usize) -> bool, list: &[u16], legs: &[u16], n: usize, i: usize, cap: u16,
+) -> u16 {
     let mut least = cap.min(legs[i + 1]);
+    if (i + 2..n).any(|j| legs[j] + 1 == least && is_near(list[i], list[j]) && sees(i, j)) {
+        least -= 1;
+    }
     for j in i + 2..n {
         if legs[j] < least && sees(i, j) {
             least = legs[j];
@@ -144,7 +155,7 @@ pub fn check(mut sees: impl FnMut(usize, usize) -> bool, list: &[u16], n: usize,
     if kept[count..].iter().chain(&legs[n..]).any(|&number| number != 0) {
         return false;
     }
-    legs[n - 1] == 0 && (0..n - 1).rev().all(|i| least_ahead(&mut sees, legs, n, i, legs[i]) + 1 == legs[i])
+    legs[n - 1] == 0 && (0..n - 1).rev().all(|i| least_ahead(&mut sees, list, legs, n, i, legs[i]) + 1 == legs[i])
 }
 
 pub fn propose(
@@ -155,7 +166,7 @@ pub fn propose(
     }
     legs.fill(0);
     for i in (0..n - 1).rev() {
-        legs[i] = least_ahead(&mut sees, legs, n, i, n as u16) + 1;
+        legs[i] = least_ahead(&mut sees, list, legs, n, i, n as u16) + 1;
     }
     kept.fill(0);
     let (mut i, mut count) = (0, 1);

@@ -8,6 +8,8 @@
 --   least-then    == the least over two runs of positions, one after the other
 --   least-within  == what is least over some positions is so over the first of them
 --   least-next    == the least over the next position alone
+--   reached-cap, reached-seen == the cap, and the number at a position that is seen
+--   least-reached == what is least over some positions, or a lesser number at another position to which i has a leg
 --   least-right, least-wrong == where all later numbers are right, that at i is right just where it is one more than
 --                    the least, capped by it
 --   least-fewest  == with a cap that no number meets, one more than the least is the fewest legs
@@ -22,7 +24,7 @@ use lib.ListN.{getD}
 use Rattle.basics.proofs.Order.{le-or-lt}
 use Rattle.basics.proofs.Bools.{not-both}
 use Rattle.legs.specs.Choices.{Leg, isLeg, fewestLegs}
-use Rattle.legs.specs.Known.{RightFrom, AtMost, Least}
+use Rattle.legs.specs.Known.{RightFrom, AtMost, Least, Reached}
 use Rattle.legs.proofs.Fewest.{fewest-short, fewest-leg, fewest-witness}
 
 pub leg-seen : (s : ℕ → ℕ → Bool) (n i j : ℕ) → i < j → j < n → isLeg s n i j ≡ s i j
@@ -91,6 +93,19 @@ module _ (s : ℕ → ℕ → Bool) (n : ℕ) (l : List ℕ) (i : ℕ) where
     below = λ j _ x y. let q : j ≡ suc i = omega arith in rw q (omega arith);
     found = ⊎-elim (λ (a : cap ≤ getD l (suc i) 0). inl (omega arith))
         (λ (a : getD l (suc i) 0 < cap). inr (suc i, g, omega arith)) (le-or-lt cap (getD l (suc i) 0));
+  }
+
+  pub reached-cap : (cap : ℕ) → Reached s n l i cap cap
+  reached-cap cap = record { capped = omega arith; found = inl refl }
+
+  pub reached-seen : (j cap : ℕ) → Leg s n i j → getD l j 0 ≤ cap → Reached s n l i cap (getD l j 0)
+  reached-seen j cap g c = record { capped = c; found = inr (j, g, refl) }
+
+  pub least-reached : (a b cap m r : ℕ) → Least s n l i a b cap m → Reached s n l i m r → Least s n l i a b cap r
+  least-reached a b cap m r h t = record {
+    capped = omega (arith, h .capped, t .capped);
+    below = λ j g x y. omega (arith, h .below j g x y, t .capped);
+    found = ⊎-elim (λ (e : r ≡ m). rw e (h .found)) (λ w. inr w) (t .found);
   }
 
   module _ (steady : (k : ℕ) → suc k < n → s k (suc k) ≡ true) (a : suc i < n) (right : RightFrom s n l (suc i)) where

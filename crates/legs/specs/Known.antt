@@ -8,6 +8,7 @@
 --   AtMost l a b m          == m is at most each of the numbers l from place a to before b
 --   Least s n l i a b cap m == m is the least of `cap` and the numbers l at the positions from a to before b to which i
 --                              has a leg
+--   Reached s n l i cap m   == m is `cap`, or the number at a position to which i has a leg, and not more than `cap`
 --   Filled s n l l'         == the slice l' is l once it holds the fewest legs from each position, then 0
 --   Recorded s n l c l'     == c is how many positions are proposed, and the slice l' is l once it holds them, then 0
 use Prim.Native.Nat.{ℕ, suc, _≤_, _<_}
@@ -43,6 +44,10 @@ pub record AtMost (l : List ℕ) (a b m : ℕ) : Type 0 where
 pub record Least (s : ℕ → ℕ → Bool) (n : ℕ) (l : List ℕ) (i a b cap m : ℕ) : Type 0 where
   pub capped : m ≤ cap
   pub below : (j : ℕ) → Leg s n i j → a ≤ j → j < b → m ≤ getD l j 0
+  pub found : (m ≡ cap) ⊎ ((j : ℕ) × Leg s n i j × (m ≡ getD l j 0))
+
+pub record Reached (s : ℕ → ℕ → Bool) (n : ℕ) (l : List ℕ) (i cap m : ℕ) : Type 0 where
+  pub capped : m ≤ cap
   pub found : (m ≡ cap) ⊎ ((j : ℕ) × Leg s n i j × (m ≡ getD l j 0))
 
 pub record Filled (s : ℕ → ℕ → Bool) (n : ℕ) (l l' : List ℕ) : Type 0 where

@@ -1,50 +1,9 @@
 // The fewest legs left at a position to which one leg leads.
-ghost use mathlib.Core.Path.{_≡_};
-ghost use Prim.Native.Nat.{suc, min, _+_, _≤_, _<_};
-ghost use lib.ListN.{length, getD};
-ghost use Rattle.legs.specs.Known.{sightOn, JoinedOn, AtMost, Least};
-
-// The number at position k.
-pub fn number_at(numbers: &[u16], k: usize) -> usize
-    requires { ⌜ k < length (now numbers) ⌝ }
-    ensures { λ r. ⌜ (r ≡ getD (now (numbers .entry)) k 0) × (r < 65536) ⌝ }
-{
-    numbers[k] as usize
-}
-
-// The lesser of two numbers.
-fn lesser(a: usize, b: usize) -> usize
-    ensures { λ r. ⌜ r ≡ min a b ⌝ }
-{
-    if a < b {
-        return a;
-    }
-    b
-}
-
-// The least of two numbers, from position k on.
-fn least_of_two(numbers: &[u16], k: usize) -> usize
-    requires { ⌜ k + 2 ≤ length (now numbers) ⌝ }
-    ensures { λ r. ⌜ AtMost (now (numbers .entry)) k (k + 2) r ⌝ }
-{
-    lesser(number_at(numbers, k), number_at(numbers, k + 1))
-}
-
-// The least of four numbers, from position k on.
-fn least_of_four(numbers: &[u16], k: usize) -> usize
-    requires { ⌜ k + 4 ≤ length (now numbers) ⌝ }
-    ensures { λ r. ⌜ AtMost (now (numbers .entry)) k (k + 4) r ⌝ }
-{
-    lesser(least_of_two(numbers, k), least_of_two(numbers, k + 2))
-}
-
-// The least of eight numbers, from position k on. No comparison waits for more than two others.
-fn least_of_eight(numbers: &[u16], k: usize) -> usize
-    requires { ⌜ k + 8 ≤ length (now numbers) ⌝ }
-    ensures { λ r. ⌜ AtMost (now (numbers .entry)) k (k + 8) r ⌝ }
-{
-    lesser(least_of_four(numbers, k), least_of_four(numbers, k + 4))
-}
+ghost use Prim.Native.Nat.{suc, _+_, _≤_, _<_};
+ghost use lib.ListN.{length};
+ghost use Rattle.legs.specs.Known.{sightOn, JoinedOn, Least};
+use crate::near;
+use crate::numbers;
 
 // The lesser of `cap` and the number at position j, where i has a leg to j, else `cap`. Sight is asked only where the
 // number at j is the lesser.
@@ -63,7 +22,7 @@ fn least_at(
     ensures { λ r. ⌜ Least (sightOn w h (now (map .entry)) (now (list .entry))) n (now (legs .entry)) i
         j (j + 1) cap r ⌝ }
 {
-    let there = number_at(legs, j);
+    let there = numbers::number_at(legs, j);
     if cap <= there {
         return cap;
     }
@@ -73,7 +32,7 @@ fn least_at(
     cap
 }
 
-// The least of `cap` and the numbers at the positions from a to before b to which i has a leg, the nearest first.
+// The least of `cap` and the numbers at the positions from a to before b to which i has a leg, in their order.
 fn least_between(
     w: usize,
     h: usize,
@@ -115,14 +74,14 @@ fn least_in_eight(
     ensures { λ r. ⌜ Least (sightOn w h (now (map .entry)) (now (list .entry))) n (now (legs .entry)) i
         a (a + 8) cap r ⌝ }
 {
-    if cap <= least_of_eight(legs, a) {
+    if cap <= numbers::least_of_eight(legs, a) {
         return cap;
     }
     least_between(w, h, map, list, legs, n, i, a, a + 8, cap)
 }
 
 // The least of `cap` and the numbers at the positions to which i has a leg. There is one to the next position, since
-// each sees the next.
+// each sees the next. A near position with one leg fewer left is sought first.
 pub fn least_ahead(
     w: usize,
     h: usize,
@@ -137,7 +96,8 @@ pub fn least_ahead(
     ensures { λ r. ⌜ Least (sightOn w h (now (map .entry)) (now (list .entry))) n (now (legs .entry)) i
         (suc i) n cap r ⌝ }
 {
-    let mut least = lesser(cap, number_at(legs, i + 1));
+    let next = numbers::lesser(cap, numbers::number_at(legs, i + 1));
+    let mut least = near::near_ahead(w, h, map, list, legs, n, i, next);
     let mut j = i + 2;
     while j + 8 <= n {
         least = least_in_eight(w, h, map, list, legs, n, i, j, least);

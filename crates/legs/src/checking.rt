@@ -7,6 +7,7 @@ ghost use Rattle.legs.specs.Choices.{isLeg};
 ghost use Rattle.legs.specs.Answer.{keptRight, numbersRight, zeroFrom, trueChoice};
 ghost use Rattle.legs.specs.Known.{sightOn, JoinedOn};
 use crate::ahead;
+use crate::numbers;
 
 // Every number is the fewest legs from its position, tested from the last position on: 0 there, and at each other
 // position one more than the fewest legs left after one leg.
@@ -15,12 +16,12 @@ fn numbers_right(w: usize, h: usize, map: &[u8], list: &[u16], legs: &[u16], n: 
     ensures { λ r. ⌜ r ≡ numbersRight (sightOn w h (now (map .entry)) (now (list .entry))) n (now (legs .entry)) ⌝ }
 {
     let mut i = n - 1;
-    if ahead::number_at(legs, i) != 0 {
+    if numbers::number_at(legs, i) != 0 {
         return false;
     }
     while 0 < i {
         i -= 1;
-        let here = ahead::number_at(legs, i);
+        let here = numbers::number_at(legs, i);
         if ahead::least_ahead(w, h, map, list, legs, n, i, here) + 1 != here {
             return false;
         }
@@ -73,8 +74,8 @@ fn legs_open(
 {
     let mut k: usize = 0;
     while k + 1 < count {
-        let i = ahead::number_at(kept, k);
-        let j = ahead::number_at(kept, k + 1);
+        let i = numbers::number_at(kept, k);
+        let j = numbers::number_at(kept, k + 1);
         if !is_leg(w, h, map, list, n, i, j) {
             return false;
         }
@@ -102,10 +103,10 @@ fn kept_right(
     if kept.len() < count {
         return false;
     }
-    if ahead::number_at(kept, 0) != 0 {
+    if numbers::number_at(kept, 0) != 0 {
         return false;
     }
-    if ahead::number_at(kept, count - 1) + 1 != n {
+    if numbers::number_at(kept, count - 1) + 1 != n {
         return false;
     }
     legs_open(w, h, map, list, n, kept, count)
@@ -129,7 +130,7 @@ pub fn true_choice(
     if !kept_right(w, h, map, list, n, kept, count) {
         return false;
     }
-    if count != ahead::number_at(legs, 0) + 1 {
+    if count != numbers::number_at(legs, 0) + 1 {
         return false;
     }
     if !zero_from(kept, count) {

@@ -3,9 +3,9 @@
 //
 // Both go through the pairs of positions, so their cost is quadratic at worst: with 16,384 positions 134 million pairs.
 // The numbers of legs of a pair are compared before sight is asked. Of positions i < j it is asked only where j has
-// fewer legs left than any position that i was found to see, the nearest first. These are the pairs that any method by
-// sight must ask, where a leg to j would leave i with fewer legs than its number says, and for each i the nearest
-// positions that have one leg fewer left, until one is seen.
+// fewer legs left than any position that i was found to see. These are the pairs that any method by sight must ask,
+// where a leg to j would leave i with fewer legs than its number says, and for each i some positions that have one leg
+// fewer left, until one is seen: first those whose vertices are near, then all, in the order of the list.
 ghost use mathlib.Core.Path.{_≡_};
 ghost use Rattle.legs.specs.Answer.{legsShape, checkAnswer, checkNumber, Proposes};
 use floor::Refusal;
@@ -14,6 +14,8 @@ use thinning::Thinned;
 
 mod ahead; // ahead.rt: the fewest legs left at a position to which one leg leads
 mod checking; // checking.rt: the tests of a proposal
+mod near; // near.rt: one leg fewer, sought near a position
+mod numbers; // numbers.rt: the numbers of a slice, and the least of some
 mod proposing; // proposing.rt: our own proposal
 
 // The checker's answer.

@@ -8,6 +8,7 @@ ghost use Rattle.legs.specs.Choices.{isLeg};
 ghost use Rattle.legs.specs.Answer.{farthestNext};
 ghost use Rattle.legs.specs.Known.{sightOn, JoinedOn, RightFrom, Filled, Recorded};
 use crate::ahead;
+use crate::numbers;
 
 // Fills the slice with the fewest legs from each position, from the last on, then 0.
 pub fn fill_legs(w: usize, h: usize, map: &[u8], list: &[u16], legs: &mut [u16], n: usize)
@@ -39,7 +40,7 @@ fn goes_on(
     ensures { λ r. ⌜ r ≡ (isLeg (sightOn w h (now (map .entry)) (now (list .entry))) n i j
         && eqb (getD (now (legs .entry)) i 0) (suc (getD (now (legs .entry)) j 0))) ⌝ }
 {
-    if ahead::number_at(legs, i) != ahead::number_at(legs, j) + 1 {
+    if numbers::number_at(legs, i) != numbers::number_at(legs, j) + 1 {
         return false;
     }
     thinning::seen_at(w, h, map, list, n, i, j)

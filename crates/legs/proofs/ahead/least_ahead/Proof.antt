@@ -1,4 +1,5 @@
--- `legs::ahead::least_ahead` meets its contract: the loop keeps the least so far. Assumes nothing.
+-- `legs::ahead::least_ahead` meets its contract: the loop keeps the least so far, from what was
+-- found near on. Assumes nothing.
 use Prim.Native.Nat.{ℕ, suc, _+_, _-_, _<_, _≤_}
 use mathlib.Core.Path.{_≡_}
 use mathlib.Core.Bool.{Bool}
@@ -7,16 +8,16 @@ use native.Mathlib.Numerals.{add-one}
 use borrow.Author.Needs.{needs}
 use Rattle.legs.specs.Known.{sightOn, Least}
 use Rattle.legs.proofs.Fewest.{next-leg}
-use Rattle.legs.proofs.Least.{least-then, least-next}
+use Rattle.legs.proofs.Least.{least-then, least-next, least-reached}
 use Rattle.legs.proofs.ahead.least_ahead.Statement.{statement}
 use Rattle.legs.proofs.ahead.least_ahead.Tie as tie
 
 abbrev Inv-loop : tie.InvT-loop
-Inv-loop w h map list legs n i cap least₀ j₀ least j =
+Inv-loop w h map list legs n i cap next least₀ j₀ least j =
     (i < j) × (j ≤ n) × Least (sightOn w h map list) n legs i (suc i) j cap least
 
 abbrev μ-loop : tie.MeasureT-loop
-μ-loop w h map list legs n i cap least₀ j₀ least j = n - j
+μ-loop w h map list legs n i cap next least₀ j₀ least j = n - j
 
 abbrev sight : tie.Start Inv-loop μ-loop → ℕ → ℕ → Bool
 sight s = sightOn (s .args .w) (s .args .h) (s .args .map .now) (s .args .list .now)
@@ -30,20 +31,22 @@ number-at-requires c κs = search needs
 lesser-requires : tie.Need-lesser-requires Inv-loop μ-loop
 lesser-requires c κs = search needs
 
+near-ahead-requires : tie.Need-near-ahead-requires Inv-loop μ-loop
+near-ahead-requires c κs = search needs
+
 add-j : tie.Need-add-j Inv-loop μ-loop
 add-j c = search needs
 
 loop-holds : tie.Need-loop-holds Inv-loop μ-loop
 loop-holds c =
-    let s = c .before .before .before .before .before in
+    let t = c .before in
+    let s = t .before .before .before .before .before in
     let a = s .args in
     let e : a .i + 2 ≡ suc (suc (a .i)) = omega arith in
-    let next = next-leg (sight s) (a .n) (s .pre .0 .sees) (a .i) (s .pre .2) in (
-      omega arith,
-      omega arith,
-      rw e (least-next (sight s) (a .n) (a .legs .now) (a .i) (a .cap) (c .lesser .result) next
-          (rw (← add-one (a .i)) (omega (arith, c .lesser .ensures, c .before .number-at .ensures .0)))),
-    )
+    let leg = next-leg (sight s) (a .n) (s .pre .0 .sees) (a .i) (s .pre .2) in
+    let next = least-next (sight s) (a .n) (a .legs .now) (a .i) (a .cap) (t .lesser .result) leg
+    (rw (← add-one (a .i)) (omega (arith, t .lesser .ensures, t .before .number-at .ensures .0))) in
+    (omega arith, omega arith, rw e (least-reached _ _ _ _ _ _ _ _ _ next (c .near-ahead .ensures)))
 
 add-loop : tie.Need-add-loop Inv-loop μ-loop
 add-loop c = search needs
@@ -77,6 +80,7 @@ least-ahead-spec =
     add-number-at
     number-at-requires
     lesser-requires
+    near-ahead-requires
     add-j
     loop-holds
     add-loop

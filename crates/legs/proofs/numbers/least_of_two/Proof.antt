@@ -1,9 +1,9 @@
--- `legs::ahead::least_of_two` meets its contract: the lesser of two numbers is at most each of them. Assumes nothing.
+-- `legs::numbers::least_of_two` meets its contract: the lesser of two numbers is at most each of them. Assumes nothing.
 use native.Mathlib.Omega.{arith}
 use borrow.Author.Needs.{needs}
 use Rattle.legs.proofs.Least.{at-most-one, at-most-then}
-use Rattle.legs.proofs.ahead.least_of_two.Statement.{statement}
-use Rattle.legs.proofs.ahead.least_of_two.Tie as tie
+use Rattle.legs.proofs.numbers.least_of_two.Statement.{statement}
+use Rattle.legs.proofs.numbers.least_of_two.Tie as tie
 
 number-at-requires : tie.Need-number-at-requires
 number-at-requires c κs = search needs

@@ -1,10 +1,10 @@
--- `legs::ahead::least_of_four` meets its contract: the lesser of two least numbers is at most each of both
+-- `legs::numbers::least_of_four` meets its contract: the lesser of two least numbers is at most each of both
 -- runs. Assumes nothing.
 use native.Mathlib.Omega.{arith}
 use borrow.Author.Needs.{needs}
 use Rattle.legs.proofs.Least.{at-most-then}
-use Rattle.legs.proofs.ahead.least_of_four.Statement.{statement}
-use Rattle.legs.proofs.ahead.least_of_four.Tie as tie
+use Rattle.legs.proofs.numbers.least_of_four.Statement.{statement}
+use Rattle.legs.proofs.numbers.least_of_four.Tie as tie
 
 least-of-two-requires : tie.Need-least-of-two-requires
 least-of-two-requires c κs = search needs

@@ -1,9 +1,9 @@
--- `legs::ahead::number_at` meets its contract: a number of 16 bits is below 65,536. Assumes nothing.
+-- `legs::numbers::number_at` meets its contract: a number of 16 bits is below 65,536. Assumes nothing.
 use mathlib.Core.Path.{refl}
 use native.Mathlib.Omega.{arith}
 use borrow.Author.Needs.{needs}
-use Rattle.legs.proofs.ahead.number_at.Statement.{statement}
-use Rattle.legs.proofs.ahead.number_at.Tie as tie
+use Rattle.legs.proofs.numbers.number_at.Statement.{statement}
+use Rattle.legs.proofs.numbers.number_at.Tie as tie
 
 mul-result : tie.Need-mul-result
 mul-result c = search needs

@@ -1,10 +1,10 @@
--- `legs::ahead::least_of_eight` meets its contract: the lesser of two least numbers is at most each of both
+-- `legs::numbers::least_of_eight` meets its contract: the lesser of two least numbers is at most each of both
 -- runs. Assumes nothing.
 use native.Mathlib.Omega.{arith}
 use borrow.Author.Needs.{needs}
 use Rattle.legs.proofs.Least.{at-most-then}
-use Rattle.legs.proofs.ahead.least_of_eight.Statement.{statement}
-use Rattle.legs.proofs.ahead.least_of_eight.Tie as tie
+use Rattle.legs.proofs.numbers.least_of_eight.Statement.{statement}
+use Rattle.legs.proofs.numbers.least_of_eight.Tie as tie
 
 least-of-four-requires : tie.Need-least-of-four-requires
 least-of-four-requires c κs = search needs
