@@ -1,5 +1,5 @@
--- Request 10, "What changed between two floors": what the two reports answer, and what they leave in every lent slice,
--- for every input. The first floor is the one before the change, the second the one after it.
+-- docs/RULES.md, section 13: what the two reports answer, and what they leave in every lent slice, for every input. The
+-- first floor is the one before the change, the second the one after it.
 --
 --   GivenFloor, givenFloorOf w h map == a floor as it is handed in: its sides, and the bytes of its map
 --   shapeOf p            == refusals 1 to 3 of the given floor p

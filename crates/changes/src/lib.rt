@@ -35,7 +35,7 @@ pub enum CostReport {
     Refused(Refusal),
 }
 
-// The papers' number of the first report's answer.
+// The number of the first report's answer (rule 6.1).
 pub fn cells_number(r: CellReport) -> u8
     ensures { λ n. ⌜ n ≡ cellsNumber r ⌝ }
 {
@@ -65,7 +65,7 @@ pub fn opened_count(r: CellReport) -> usize
     }
 }
 
-// The papers' number of the second report's answer.
+// The number of the second report's answer (rule 6.1).
 pub fn costs_number(r: CostReport) -> u8
     ensures { λ n. ⌜ n ≡ costsNumber r ⌝ }
 {
@@ -162,8 +162,8 @@ fn list_cells(map: &[u8], map2: &[u8], cells: &mut [u16]) -> Tally
     t
 }
 
-// The first report: which cells differ. For every input it gives the answer and leaves the lent slice as the papers
-// say: a refusal of 1 to 3 of either floor, 15 and 6 touches nothing.
+// The first report: which cells differ. For every input it gives the answer of rule 13.3 and leaves the lent slice as
+// rule 6.4 says: a refusal of 1 to 3 of either floor, 15 and 6 touches nothing.
 //
 // Lent is a slice for the numbers of cells, of W * H places.
 pub fn cell_changes(
@@ -296,7 +296,7 @@ fn report_job(
 }
 
 // The second report: how the costs from a start changed. For every input it gives the answer and leaves the lent slices
-// as the papers say: a refusal of 1 to 3 of either floor, 15, 4, 5, 11 and 6 touches nothing.
+// as rule 6.4 says: a refusal of 1 to 3 of either floor, 15, 4, 5, 11 and 6 touches nothing.
 //
 // Lent are slices for the costs on each floor and for their changes, of V places each, and a working slice of 4 * V.
 pub fn cost_changes(

@@ -4,7 +4,7 @@
 --   accepts-route, accepts-noRoute == the two tests of `verdict` say `TrueRoute` and `TrueNoRoute`
 --   verdict-tests     == `verdict` by the tests that the checker runs
 --   verdict-route, verdict-noRoute, verdict-else == the three answers of `verdict`, exactly
---   Exactly g a b s c == c is the answer that demand 3 asks for: with a walk in place of `joined`
+--   Exactly g a b s c == c is the answer that rule 8.2 asks for: with a walk in place of `joined`
 --   check-exact       == so is the checker's answer to every job of good shape, whatever numbers stand on the sheet
 use Prim.Native.Nat.{ℕ, _^_, _≤_, _<_}
 use mathlib.Core.Path.{_≡_, refl, sym, ap, ap₂, _∙_}
@@ -128,7 +128,7 @@ module _ (g : Graph) (a b : ℕ) (s : Sheet) where
       cases false true m n = absurd (n refl)
       cases false false m n = refl
 
--- ---- demand 3
+-- ---- rule 8.2
 
 pub record Exactly (g : Graph) (a b : ℕ) (s : Sheet) (c : Checked) : Type 0 where
   -- A route exactly when an open walk joins the ends, the cheapest routes are not too many, and every number is the

@@ -1,12 +1,11 @@
--- Document 01, "The checker uses 1 to 6 and then .. 0 .. exactly when n and every slice are the true route sheet, 7 ..
--- exactly when they are the true no-route sheet, and 9 .. for every other sheet"; by request 5 of document 02 it uses
--- 11 too, after 5 and before 6, and by request 7 the next vertices are a slice of the sheet.
+-- docs/RULES.md, 8.1 to 8.3: what the checker answers. After the refusals over the shape of the job and of the six
+-- slices it is 0 exactly for the true route sheet, 7 exactly for the true no-route sheet, and 9 for every other sheet.
 --
 --   verdict g a b s      == the answer to the sheet s of the job from a to b on graph g
 --   sheetSized v s       == refusal 6 does not apply: each slice of the sheet s has v places
 --   judged ..            == the answer to a sheet, by the shape of its job
 --   checkAnswer ..       == the answer for every input
---   checkNumber r        == document 01's number of an answer
+--   checkNumber r        == the number of an answer (rule 6.1)
 use Prim.Native.Nat.{ℕ}
 use mathlib.Core.Bool.{Bool, _&&_, not}
 use mathlib.Core.List.{List}

@@ -1,4 +1,4 @@
-// The checker: accepts exactly the true sheets, with no memory to write in. `back` is document 01's slice b.
+// The checker: accepts exactly the true sheets, with no memory to write in. `back` is the slice b of rule 5.1.
 mod nexts; // nexts.rt: the test of the next vertices
 mod route; // route.rt: the test of the route
 mod vertices; // vertices.rt: the tests of costs and counts
@@ -24,7 +24,7 @@ pub enum Checked {
     Refused(Refusal),
 }
 
-// Document 01's number of an answer.
+// The number of an answer (rule 6.1).
 pub fn check_number(c: Checked) -> u8
     ensures { λ r. ⌜ r ≡ checkNumber c ⌝ }
 {

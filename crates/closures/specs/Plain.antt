@@ -1,5 +1,5 @@
--- Request 1, "Closures with a slot each": the table as a plain map from slot to rectangle, and what post, strike and the
--- writing of the working map answer and leave.
+-- docs/RULES.md, 11.1 to 11.5: the table as a plain map from slot to rectangle, and what post, strike and the writing
+-- of the working map answer and leave.
 --
 --   Plain                   == a plain map from slot number to rectangle; a slot with none is free
 --   nothingHeld             == the empty map: every slot is free
@@ -19,7 +19,7 @@
 --   workingMap w h base m   == the map of the base map's floor, blocked also where any closure that m holds covers
 --   workAnswer, workLeft    == what the writing answers, and the slice afterwards; at a refusal the same slice
 --   postingOf, strikingOf, writingOf    == the answer for a shape
---   postNumber, strikeNumber, workNumber == the papers' number of an answer: 0, or that of the refusal
+--   postNumber, strikeNumber, workNumber == the number of an answer (rule 6.1): 0, or that of the refusal
 --   postSlot p              == the slot that post answers; 0 at a refusal
 use Prim.Native.Nat.{ℕ, _+_}
 use mathlib.Core.Bool.{Bool, true, false, _&&_, not}
@@ -130,7 +130,7 @@ workAnswer w h base n = writingOf (workShape w h base n)
 abbrev pub workLeft : ℕ → ℕ → List ℕ → Plain → List ℕ → List ℕ
 workLeft w h base m work = leftBy (workShape w h base (length work)) (workingMap w h base m) work
 
--- ---- the papers' numbers
+-- ---- the numbers of answers
 
 abbrev pub postNumber : Posting → ℕ
 postNumber (In k) = 0

@@ -67,7 +67,7 @@ pub struct AfterStrike {
     pub answer: Striking,
 }
 
-// The papers' number of post's answer.
+// The number of post's answer (rule 6.1).
 pub fn post_number(p: Posting) -> u8
     ensures { λ r. ⌜ r ≡ postNumber p ⌝ }
 {
@@ -87,7 +87,7 @@ pub fn post_slot(p: Posting) -> usize
     }
 }
 
-// The papers' number of strike's answer.
+// The number of strike's answer (rule 6.1).
 pub fn strike_number(s: Striking) -> u8
     ensures { λ r. ⌜ r ≡ strikeNumber s ⌝ }
 {
@@ -97,7 +97,7 @@ pub fn strike_number(s: Striking) -> u8
     }
 }
 
-// The papers' number of what the writing of the working map answers.
+// The number of what the writing of the working map answers (rule 6.1).
 pub fn work_number(s: Writing) -> u8
     ensures { λ r. ⌜ r ≡ workNumber s ⌝ }
 {

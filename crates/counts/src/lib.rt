@@ -1,4 +1,4 @@
-// The counts of cheapest walks on the way from a to b, for every vertex: document 01's f and b.
+// The counts of cheapest walks on the way from a to b, for every vertex: f and b of rule 4.6.
 //
 // The working slice has the vertices that reach b by rising cost to b. Those on the way are kept, at its beginning, and
 // both counts are filled along them: the counts to b from the front, the counts from a from the back, since on the way

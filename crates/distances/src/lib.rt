@@ -1,4 +1,4 @@
-// The costs from one vertex to every vertex of a floor: document 01's d, or e from the other end.
+// The costs from one vertex to every vertex of a floor: d of rule 4.3, or e from the other end.
 ghost use Rattle.floor.specs.Floor.{floorOf};
 ghost use Rattle.grid.specs.Grid.{floorGraph};
 ghost use Rattle.workspace.specs.Regions.{MasksIn};

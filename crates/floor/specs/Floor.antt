@@ -1,4 +1,4 @@
--- Document 01, "The floor", and of document 02 request 6 for how a map is stored: a bit to a cell.
+-- docs/RULES.md, section 1: the floor, and how a map is stored, a bit to a cell.
 --
 --   Floor            == its sides in cells, and whether the cell in column i and row j is blocked
 --   cellNumber w i j == the number of the cell in column i and row j

@@ -1,6 +1,4 @@
--- Document 01, "Answers by number", and of document 02 request 6 for 2 and 3, request 5 for 11, request 1 for 12 to 14,
--- request 10 for 15, request 9 for 16 and 17, request 11 for 18 and 20 and request 12 for 19: each refusal's number,
--- and the refusals over the shape of a floor and of an end.
+-- docs/RULES.md, 6.1: each refusal's number, and the refusals over the shape of a floor and of an end.
 --
 --   refusalNumber r    == the number of refusal r
 --   sidesShape w h     == refusal 1: the sides

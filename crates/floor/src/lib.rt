@@ -15,7 +15,7 @@ pub struct Cell(pub usize);
 // The number of a vertex, a cell corner: column + row * (W + 1).
 pub struct Vertex(pub usize);
 
-// Every refusal of the papers, in the order of its numbers.
+// Every refusal of rule 6.1, in the order of its numbers.
 pub enum Refusal {
     Size,
     MapLength,
@@ -45,7 +45,7 @@ pub enum Shape {
     Refused(Refusal),
 }
 
-// The papers' number of a refusal.
+// The number of a refusal (rule 6.1).
 pub fn refusal_number(r: Refusal) -> u8
     ensures { λ n. ⌜ n ≡ refusalNumber r ⌝ }
 {

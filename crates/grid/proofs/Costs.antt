@@ -2,7 +2,7 @@
 --
 --   cost-bound       == so it is of every vertex that is reached, with each neighbourhood
 --   cost-small       == with 4 and 8 no cost passes 9,452,991
---   cost-sixteen     == with 16 none passes 36,632,388: request 8 of document 02
+--   cost-sixteen     == with 16 none passes 36,632,388 (rule 4.2)
 use Prim.Native.Nat.{ℕ, _-_, _*_, _≤_, _<_}
 use mathlib.Core.Path.{_≡_, ap, _∙_}
 use native.Mathlib.Omega.{arith}

@@ -2,7 +2,7 @@
 --
 --   tableGraph f n M     == the graph of floor f with the moves M 0, .. M (n - 1)
 --   floorGraph f r       == the same with the moves of the neighbourhood whose rows are r
---   pinchShape f v       == refusal 11 of one end: request 5 of document 02, "when an end is a pinch"
+--   pinchShape f v       == refusal 11 of one end: it is a pinch (rule 6.5)
 --   endsShape w h l a b  == the refusals of both ends: 5 of either, then 11 of either
 --   jobOf w h l nb a b   == `Fit` with the rows of the neighbourhood where floor, neighbourhood and both ends have a
 --                           good shape, else the first refusal that applies, of 1 to 5 and then 11

@@ -1,4 +1,4 @@
--- Document 01, "The program": the text that it writes.
+-- docs/RULES.md, 16.6 to 16.9: the text that the program writes.
 --
 --   routeText n f points .. == the two lines of a route of these points: its cost, total and point count, the number of
 --                              points kept, and the kept vertices

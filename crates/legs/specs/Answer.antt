@@ -1,4 +1,4 @@
--- Request 12, "Fewest stops": what the checker of a proposal and our own proposer answer and leave, for every input.
+-- docs/RULES.md, 10.3 to 10.7: what the checker of a proposal and our own proposer answer and leave, for every input.
 --
 --   legsShape ..        == refusals 1, 2, 3, then 6 for the list slice and two proposed slices of k and m places, then
 --                          10
@@ -11,7 +11,7 @@
 --   checkedBy t         == the checker's answer for the shape t
 --   checkAnswer ..      == the checker's answer: the first refusal that applies, the last 19 for a choice that is not
 --                          true
---   checkNumber a       == the papers' number of an answer
+--   checkNumber a       == the number of an answer (rule 6.1)
 --   lastBelow n p       == the greatest k below n with p k; 0 where there is none
 --   farthestNext s n i  == of the positions to which i has a leg, the farthest with the fewest legs left: these are one
 --                          fewer than i has

@@ -22,7 +22,7 @@ pub enum Checked {
     Unaccepted(Refusal),
 }
 
-// The papers' number of the checker's answer.
+// The number of the checker's answer (rule 6.1).
 pub fn check_number(c: Checked) -> u8
     ensures { λ r. ⌜ r ≡ checkNumber c ⌝ }
 {

@@ -1,5 +1,5 @@
--- What request 14 promises of the outcome, for every input: "at 0 and 7 the checker takes the mended sheet", and the
--- counts tell exactly which slices were damaged.
+-- docs/RULES.md, 14.4, for every input: at 0 and 7 the checker accepts the mended sheet, and the counts tell exactly
+-- which slices were damaged.
 --
 --   takes-route, takes-none == the checker accepts a true route sheet as a route, and a true no-route sheet as no route
 --   Ending ..     == the three ways in which a call ends: with the true route sheet in the second set, with the true

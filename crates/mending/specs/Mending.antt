@@ -1,6 +1,6 @@
--- Document 02, request 14, "Mend a damaged sheet": what the operation answers, and what it leaves in every lent slice.
--- The damaged sheet is only read. The true sheet is written into a second set of slices, and for each slice it is
--- answered at how many places the damaged one and the true one differ.
+-- docs/RULES.md, 14.1 to 14.3: what the operation answers, and what it leaves in every lent slice. The damaged sheet is
+-- only read. The true sheet is written into a second set of slices, and for each slice it is answered at how many
+-- places the damaged one and the true one differ.
 --
 --   MendSlices           == the slices lent to be written: those of the second set, and the working slice
 --   sheetIn s n          == the sheet that stands in the second set of s, with point count n
@@ -16,7 +16,7 @@
 --   mendAnswer ..        == the answer, for every input
 --   mendLeft ..          == the slices afterwards, for every input: untouched at answers 1 to 6 and 11
 --   Mends ..             == both, as the operation promises them
---   mendNumber, mendPoints, mendDifferences == the papers' number and values of an answer
+--   mendNumber, mendPoints, mendDifferences == the number (rule 6.1) and the values (rule 6.4) of an answer
 --
 -- A damaged sheet is a `Sheet` whose point count nothing reads.
 use Prim.Native.Nat.{ℕ, _*_}

@@ -48,7 +48,7 @@ struct Lengths {
     next: usize,
 }
 
-// The papers' number of an answer.
+// The number of an answer (rule 6.1).
 pub fn mend_number(m: Mended) -> u8
     ensures { λ r. ⌜ r ≡ mendNumber m ⌝ }
 {
@@ -266,9 +266,9 @@ fn mend_sheet(
     answer_with(planned, differences)
 }
 
-// Mends a damaged sheet of the job from a to b, which it only reads: the slices old_d, old_e, old_f, old_back (document
-// 01's b), old_route and old_next, of V places each. For every input it gives the papers' answer and leaves every lent
-// slice as they say: answers 1 to 6 and 11 touch nothing.
+// Mends a damaged sheet of the job from a to b, which it only reads: the slices old_d, old_e, old_f, old_back (b of
+// rule 5.1), old_route and old_next, of V places each. For every input it gives the answer of rules 14.2 and 14.3 and
+// leaves every lent slice as rule 6.4 says: answers 1 to 6 and 11 touch nothing.
 //
 // Lent are the second set of slices, d, e, f, back, route and next, of V places each, and a working slice of 4 * V.
 pub fn mend(

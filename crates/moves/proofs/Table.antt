@@ -1,6 +1,6 @@
 -- The laws of the move table, each proved once by a test that antt computes over the rows of a neighbourhood.
 --
---   neighbourhood-8, -4, -16 == their moves: document 01's table, its cardinal rows in the same order, and the sixteen
+--   neighbourhood-8, -4, -16 == their moves: the table of eight, its cardinal rows in the same order, and the sixteen
 --   each-listed          == what holds of the rows of 4, of 8 and of 16 holds of every neighbourhood's
 --   LawfulMove r m       == what the test gives of move m
 --   same-row             == a row is that of one move

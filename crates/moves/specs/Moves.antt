@@ -1,11 +1,11 @@
--- Document 01, "Moves", and request 8 of document 02, "Sixteen ways to move": the tables, and which of their rows a
--- neighbourhood has.
+-- docs/RULES.md, 3.1 to 3.3: the tables of moves, and which of their rows a neighbourhood has.
 --
---   moves               == document 01's table, row by row: signed offsets and cost
---   sixteen             == the table of request 8: the eight moves and, between each two of them, their sum, in order of
---                          angle, with costs of their own
---   rowMove k           == row k of 32, each a sixteenth of a turn after the one before: in rows 0 to 15 document 01's moves,
---                          each at two rows, and in rows 16 to 31 the sixteen; so a quarter turn is four rows in both
+--   moves               == the table of eight moves, row by row: signed offsets and cost
+--   sixteen             == the table of sixteen moves: the eight moves and, between each two of them, their sum, in
+--                          order of angle, with costs of their own
+--   rowMove k           == row k of 32, each a sixteenth of a turn after the one before: in rows 0 to 15 the eight
+--                          moves, each at two rows, and in rows 16 to 31 the sixteen; so a quarter turn is four rows in
+--                          both
 --   rowAt r m           == the row of move m of a neighbourhood whose rows are r
 --   moveAt r m          == the move itself
 --   neighbourhoodOf n   == refusal 4: the rows of neighbourhood n; 8 has the table of eight, 4 its cardinal rows in the

@@ -1,4 +1,4 @@
--- Document 01, "Moves": the far end of a move, and when a move is open.
+-- docs/RULES.md, 3.4 and 3.5: the far end of a move, and when a move is open.
 --
 --   shifted n a d       == a + d, where that is from 0 to n
 --   farEndAt w h m x y  == the number of the vertex to which move m leads from (x, y); none where it leaves the floor

@@ -55,7 +55,7 @@ enum Spot {
     Outside,
 }
 
-// Document 01's table, row by row.
+// The table of eight moves (rule 3.1), row by row.
 const MOVES: [Move; 8] = [
     Move {
         dx: 1,
@@ -99,7 +99,7 @@ const MOVES: [Move; 8] = [
     },
 ];
 
-// The sixteen moves of request 8 of document 02, in order of angle: the eight and, between each two of them, their sum.
+// The sixteen moves of rule 3.1, in order of angle: the eight and, between each two of them, their sum.
 const SIXTEEN: [Move; 16] = [
     Move {
         dx: 1,

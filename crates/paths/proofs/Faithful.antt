@@ -1,5 +1,5 @@
--- Distances and path counts are what document 01 says, in terms of walks alone: one statement for a reader who does not
--- want to look into the listing.
+-- Distances and path counts are what rules 4.2 and 4.4 say, in terms of walks alone: one statement for a reader who
+-- does not want to look into the listing.
 --
 --   Faithful g u t   == the distance is below `unreachable` exactly where a walk joins u to t, it is then the cost of
 --                       one, no walk costs less, and the path count is the length of a list that has each cheapest walk

@@ -1,4 +1,4 @@
--- The open walks of a given cost, listed (document 01: "The definition lists walks; it doesn't run the summing").
+-- The open walks of a given cost, listed (rule 4.1).
 --
 --   walks g k u t   == all open walks from u to t that cost k, each as its list of vertices, each once
 --

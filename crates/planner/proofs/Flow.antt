@@ -1,4 +1,4 @@
--- Request 13 of document 02: whenever the second operation answers 0, the costs d and the slices that it leaves meet
+-- docs/RULES.md, 15.2 to 15.4: whenever the second operation answers 0, the costs d and the slices that it leaves meet
 -- the equations of flow, with the total that it answers.
 --
 --   FlowLeft g a b d s t == by the costs d and the slices s the equations of flow hold on graph g, with the total t

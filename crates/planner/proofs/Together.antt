@@ -1,9 +1,9 @@
--- The two operations together are document 01's planner.
+-- The two operations together are the planner of docs/RULES.md, section 7.
 --
 --   finish-true, -false == the second operation on true costs, and on others, where the job is fit and its slices have
 --                          the right lengths
 --   costs-then-finish   == from slices of the right lengths, whatever stands in them, the second operation on the first
---                          one's d gives the answer of the job; d and the others are left as document 01 says
+--                          one's d gives the answer of the job; d and the others are left as rule 6.4 says
 use Prim.Native.Nat.{ℕ, _*_}
 use mathlib.Core.Path.{_≡_, refl, sym, _∙_}
 use mathlib.Core.Bool.{true, false}

@@ -1,6 +1,6 @@
--- Document 01, "Answers by number", for the planner's two operations: what each answers, and what it leaves in every
--- lent slice. The first fills d with the costs from a start. The second is handed d, which it only reads, and finishes
--- e, f, b, the route and the next vertices.
+-- docs/RULES.md, section 7, 6.3 and 6.4, for the planner's two operations: what each answers, and what it leaves in
+-- every lent slice. The first fills d with the costs from a start. The second is handed d, which it only reads, and
+-- finishes e, f, b, the route and the next vertices.
 --
 --   CostSlices         == the slices lent to the first operation: d and its working slice
 --   Slices             == those lent to the second: the sheet's others, and its working slice
@@ -13,7 +13,8 @@
 --   finishAnswer ..    == the second operation's answer, for every input: 9 where d is not the costs from a
 --   finishLeft ..      == its slices afterwards, for every input: untouched at answers 1 to 6, 9 and 11
 --   Finishes ..        == both, as the second operation promises them
---   costedNumber, planNumber, planCost, planTotal, planPoints == document 01's number and values of an answer
+--   costedNumber, planNumber, planCost, planTotal, planPoints == the number (rule 6.1) and the values (rule 6.4) of an
+--                                                                answer
 use Prim.Native.Nat.{ℕ, _*_}
 use mathlib.Core.Path.{_≡_}
 use mathlib.Core.Bool.{Bool, _&&_}

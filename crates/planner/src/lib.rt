@@ -41,7 +41,7 @@ pub enum Planned {
     Refused(Refusal),
 }
 
-// Document 01's number of the first operation's answer.
+// The number of the first operation's answer (rule 6.1).
 pub fn costed_number(c: Costed) -> u8
     ensures { λ r. ⌜ r ≡ costedNumber c ⌝ }
 {
@@ -51,7 +51,7 @@ pub fn costed_number(c: Costed) -> u8
     }
 }
 
-// Document 01's number of the second operation's answer.
+// The number of the second operation's answer (rule 6.1).
 pub fn plan_number(p: Planned) -> u8
     ensures { λ r. ⌜ r ≡ planNumber p ⌝ }
 {
@@ -220,8 +220,8 @@ fn finish_over_masks(
     found
 }
 
-// Finishes a job of good shape from the true costs d from a: answers 0, 7 or 8, and leaves the other slices as document
-// 01 says. It relies on nothing that stands in them.
+// Finishes a job of good shape from the true costs d from a: answers 0, 7 or 8, and leaves the other slices as rule 6.4
+// says. It relies on nothing that stands in them.
 pub fn finish_job(
     w: usize,
     h: usize,
@@ -273,8 +273,8 @@ fn fill_job(
     Costed::Filled
 }
 
-// The first operation: fills d with the costs from a. For every input it gives document 01's answer for a start alone,
-// and leaves both lent slices as document 01 says: a refusal touches nothing.
+// The first operation: fills d with the costs from a. For every input it gives the answer of rule 7.2, and leaves both
+// lent slices as rule 6.4 says: a refusal touches nothing.
 //
 // Lent are d, of V places, and a working slice of 4 * V.
 pub fn fill_costs(
@@ -339,12 +339,12 @@ fn finish_given(
     finish_job(w, h, map, rows, a, b, d, e, f, back, route, next, work)
 }
 
-// The second operation: finishes the job from a to b from d, which it only reads. For every input it gives document
-// 01's answer, 9 where d is not the costs from a, and leaves every lent slice as document 01 says: answers 1 to 6, 9 and
-// 11 touch nothing.
+// The second operation: finishes the job from a to b from d, which it only reads. For every input it gives the answer
+// of rules 7.3 to 7.5, 9 where d is not the costs from a, and leaves every lent slice as rule 6.4 says: answers 1 to 6,
+// 9 and 11 touch nothing.
 //
-// Lent are the sheet's slices d, e, f, back (document 01's b), route and next, of V places each, and a working slice
-// of 4 * V.
+// Lent are the sheet's slices d, e, f, back (b of rule 5.1), route and next, of V places each, and a working slice of
+// 4 * V.
 pub fn finish(
     w: usize,
     h: usize,

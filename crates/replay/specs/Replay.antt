@@ -1,5 +1,5 @@
--- Request 9, "Replay of a night log": what is driven by a log, what the operation answers, and what it leaves in the
--- two lent slices. A log is the list of its stops in turn and whether a bad record ended the reading (logs/specs/Log.antt).
+-- docs/RULES.md, 12.3 to 12.10: what is driven by a log, what the operation answers, and what it leaves in the two lent
+-- slices. A log is the list of its stops in turn and whether a bad record ended the reading (logs/specs/Log.antt).
 --
 --   goesTo o v            == the far end o is v
 --   moveCost g u v        == the cost of the open move from u to v; none where there is none

@@ -68,7 +68,7 @@ struct Reading {
     broken: bool,
 }
 
-// The papers' number of an answer.
+// The number of an answer (rule 6.1).
 pub fn replay_number(r: Replayed) -> u8
     ensures { λ n. ⌜ n ≡ replayNumber r ⌝ }
 {
@@ -421,8 +421,8 @@ fn replay_job(
     Job::Fit(rows)
 }
 
-// The replay of a log. For every input it gives the answer and leaves the two lent slices as the papers say: a refusal
-// of 1, 2, 3, 4, 16 and 6 touches nothing.
+// The replay of a log. For every input it gives the answer and leaves the two lent slices as rules 12.9 and 6.4 say: a
+// refusal of 1, 2, 3, 4, 16 and 6 touches nothing.
 //
 // Lent are a slice for the costs, of V places, and a working slice of 4 * V.
 pub fn replay(

@@ -101,8 +101,8 @@ fn run_jobs(s: &[u8], m: MapRecord, past: Cursor, map: &mut [u8], d: &mut [u32])
     }
 }
 
-// Lends the arrays for the cells and for the costs. The first is the paper's, of 31 * 31 bytes; the packed map takes its
-// first 121 at most.
+// Lends the arrays for the cells and for the costs. The first is of 31 * 31 bytes; the packed map takes its first 121
+// at most.
 fn lend_map(s: &[u8], m: MapRecord, past: Cursor)
     requires { ⌜ recordAt (now s) startCursor ≡ Map m past ⌝ }
 {

@@ -1,5 +1,4 @@
--- Request 2, "Sight must say what was in the way", and request 5, "the sight answer names the pinch nearest the first
--- end when no cell or step is in the way": what a segment meets first, going from its first end.
+-- docs/RULES.md, 2.8 to 2.10: what a segment meets first, going from its first end.
 --
 --   span a b              == how many cells lie between the grid lines a and b
 --   cellOn a b k          == the k-th of them from a towards b, from 0

@@ -1,4 +1,4 @@
--- Document 01, "The sight question uses 1, 2, 3, 5, then yes or no"; by request 2 it says what is in the way.
+-- docs/RULES.md, 2.12: the answer of the sight question, which says what is in the way.
 --
 --   sightAnswer w h l a b == the answer for a floor's width, height and map and two vertex numbers
 --   sightNumber r         == an answer as a number: the refusal's own; 0, yes, for clear, and 100, no, for an obstacle

@@ -1,5 +1,5 @@
--- Document 01, "Sight": the two faults of a segment between vertices, in whole numbers; and request 5, "Carts have
--- corners": no segment longer than zero may start, end at or pass through a pinch.
+-- docs/RULES.md, 2.1 to 2.7: the three faults of a segment between vertices, in whole numbers: it enters a blocked
+-- cell, it has a shut step, or it is longer than zero and starts at, ends at or passes through a pinch.
 --
 --   Segment           == from the vertex (x0, y0) to the vertex (x1, y1)
 --   enters s i j      == the segment enters cell (i, j)

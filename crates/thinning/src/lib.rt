@@ -17,7 +17,7 @@ pub enum Thinned {
     Unthinned(Refusal),
 }
 
-// Document 01's number of an answer.
+// The number of an answer (rule 6.1).
 pub fn thin_number(t: Thinned) -> u8
     ensures { λ r. ⌜ r ≡ thinNumber t ⌝ }
 {

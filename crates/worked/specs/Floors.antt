@@ -1,16 +1,15 @@
--- Document 01, "Floors worked by hand": the starred floors a to i, with the numbers that it gives; those of floor g by
--- request 5 of document 02, and the next vertices by its request 7.
+-- docs/RULES.md, section 18: the floors a to i, with the numbers that are worked there by hand.
 --
 --   Case             == a job, and a sheet for it
---   routes           == floors a, b, d, e and h, and a and e with neighbourhood 16 (request 8): the job, its true route
---                       sheet, the kept positions
+--   routes           == floors a, b, d, e and h, and a and e with neighbourhood 16: the job, its true route sheet, the
+--                       kept positions
 --   noRoutes         == floors c, f and g, and c with 4 and 16: the job and its true no-route sheet
 --   entered          == floor i: the cells of a 3 by 2 floor, row by row, that the segment from (0, 0) to (3, 2) enters
 --   RouteHolds c     == the job has a good shape, the sheet is its true route sheet, its cost and total are those of the
 --                       case, and thinning keeps the positions of the case
 --   NoRouteHolds c   == the job has a good shape and the sheet is its true no-route sheet
 --   plansA, plansC   == the floors a and c, each with 8, 4 and 16
---   handedIn c k     == the costs of case k, handed in for case c, are true (request 4)
+--   handedIn c k     == the costs of case k, handed in for case c, are true (rule 7.4)
 --   Worked           == the statement: all of this holds; of the nine vertices of floor g the only pinch is 4; on floor a
 --                       the costs with one neighbourhood, handed in for another, are false, and on floor c they are not
 use Prim.Native.Nat.{ℕ, _+_, _*_, _<_}
@@ -139,7 +138,7 @@ floorH =
     (1 ∷ 4 ∷ 5 ∷ 4 ∷ 5 ∷ 8 ∷ 7 ∷ 8 ∷ 8 ∷ []) 5)
     1632 6 (0 ∷ 4 ∷ [])
 
--- Request 8: "Case e with 16 costs 2236 and has total 1".
+-- Floor e with 16: it costs 2236 and has total 1.
 abbrev pub floorE16 : Case
 floorE16 =
     job 2 1 (0 ∷ 0 ∷ []) 16 sixteen 0 5

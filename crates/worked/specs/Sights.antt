@@ -1,9 +1,9 @@
--- Requests 2 and 5, worked by hand: what the sight question answers on a few small floors, asked both ways.
+-- docs/RULES.md, 2.8 and 2.9, worked by hand: what the sight question answers on a few small floors, asked both ways.
 --
 --   Question     == a floor's width, height and map, two vertices, and the answer
---   questions    == the floors: i of document 01 with two of the cells entered blocked, with both that it enters in one
---                   column, and with a cell beside the segment; f along its upper border; g along its diagonals, on
---                   one of which is its pinch, and along its left border; a floor with a blocked cell behind a pinch
+--   questions    == the floors: i with two of the cells entered blocked, with both that it enters in one column, and
+--                   with a cell beside the segment; f along its upper border; g along its diagonals, on one of which is
+--                   its pinch, and along its left border; a floor with a blocked cell behind a pinch
 --   SightsHold   == the statement: each answer is the one given
 use Prim.Native.Nat.{ℕ}
 use mathlib.Core.Path.{_≡_}

@@ -1,4 +1,4 @@
--- Request 11, "Write the input too": the two round trips, by what the operations leave and what the reader reads.
+-- docs/RULES.md, 17.6 and 17.7: the two round trips, by what the operations leave and what the reader reads.
 --
 --   after-calls    == after any calls from a fresh writer on, the buffer has the records of the calls that are not
 --                     refused at its start, and all else as it was

@@ -1,4 +1,4 @@
--- Request 11, "Write the input too": what one call of the writer answers, and the writer and the buffer afterwards.
+-- docs/RULES.md, 17.2 to 17.5: what one call of the writer answers, and the writer and the buffer afterwards.
 --
 --   Call                == a call: a packed floor to be written by its sides and its map, or a job by its numbers
 --   callBytes x         == the bytes of the record that the call x writes; a map's are a byte to a cell
@@ -17,7 +17,7 @@
 --                          was; at a refusal all of it is
 --   writingOf s         == the answer for a shape
 --   Writes c x buf r b' == the promise of both operations: the answer r and the buffer b' afterwards, for every input
---   writingNumber a     == the papers' number of an answer: 0, or that of the refusal
+--   writingNumber a     == the number of an answer (rule 6.1): 0, or that of the refusal
 use Prim.Native.Nat.{ℕ, _+_}
 use mathlib.Core.Path.{_≡_}
 use mathlib.Core.Bool.{Bool, _&&_}

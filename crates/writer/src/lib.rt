@@ -35,7 +35,7 @@ pub struct AfterWrite {
     pub answer: Writing,
 }
 
-// The papers' number of an answer.
+// The number of an answer (rule 6.1).
 pub fn writing_number(w: Writing) -> u8
     ensures { λ r. ⌜ r ≡ writingNumber w ⌝ }
 {
