@@ -41,7 +41,7 @@ pub struct Thinning {
 }
 
 /// The thinning of rule 9.4.
-pub const FARTHEST: Thinning = Thinning { kept: thinned, rule: "by the paper's rule" };
+pub const FARTHEST: Thinning = Thinning { kept: thinned, rule: "by the thinning rule" };
 
 /// The slices of a sheet.
 struct Slices {
