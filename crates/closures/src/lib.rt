@@ -107,7 +107,7 @@ pub fn work_number(s: Writing) -> u8
     }
 }
 
-// The empty table for a floor of w by h cells. Sides that are no floor's are refused by every call on it.
+// The empty table for a floor of w by h cells. Every call on a table with bad sides is refused with 1.
 pub fn empty(w: usize, h: usize) -> Closures
     ensures { λ t. ⌜ t ≡ emptyTable w h ⌝ }
 {

@@ -1,9 +1,10 @@
 // The counts of cheapest walks on the way from a to b, for every vertex: f and b of rule 4.6.
 //
-// The working slice has the vertices that reach b by rising cost to b. Those on the way are kept, at its beginning, and
-// both counts are filled along them: the counts to b from the front, the counts from a from the back, since on the way
-// the cost from a rises as the cost to b falls. A vertex gets its count when all that its count is the sum of have
-// theirs. A sum on the way never passes the total, so a sum that does not fit says that the total does not.
+// The working slice has the vertices that reach b, in order of rising cost to b. Those on the way are kept, at its
+// beginning, and both counts are filled along them: the counts to b from the front, the counts from a from the back,
+// since on the way the cost from a rises as the cost to b falls. A vertex gets its count once every vertex whose count
+// is added to it has its own. A sum on the way never passes the total, so a sum that does not fit says that the total
+// does not.
 ghost use mathlib.Core.Path.{_≡_};
 ghost use Prim.Native.Nat.{ℕ, _<_, _≤_};
 ghost use lib.ListN.{length};

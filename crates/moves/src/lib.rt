@@ -226,8 +226,8 @@ pub fn row_at(rows: Rows, m: usize) -> usize
     first + past
 }
 
-// Move k of the eight. The moves are named one by one: a place of a table that is known when the program is compiled is a
-// number there, and a table by a place that is not would be put together again at each reading.
+// Move k of the eight. The moves are named one by one: indexed by a constant, the table is folded by the compiler;
+// indexed by a variable, it would be built again on the stack at each reading.
 fn eight_move(k: usize) -> Move
     requires { ⌜ k < 8 ⌝ }
     ensures { λ r. ⌜ r ≡ getD moves k noMove ⌝ }
@@ -280,8 +280,8 @@ fn row_move(k: usize) -> Move
     sixteen_move(k - 16)
 }
 
-// The cost of row k. A move costs what the one a quarter turn on costs, so a few moves of the tables tell it, which the
-// compiler can put into a loop.
+// The cost of row k. Moves a quarter turn apart cost the same, so a few moves of the tables decide it, and the compiler
+// can inline this in a loop.
 fn row_cost(k: usize) -> u32
     requires { ⌜ k < rowCount ⌝ }
     ensures { λ r. ⌜ r ≡ rowMove k .cost ⌝ }
@@ -328,8 +328,8 @@ fn up_of(d: i8) -> usize
     d as usize
 }
 
-// A signed offset as how far it goes up and how far down. Each is told on its own, without a choice between two offsets, so
-// that the compiler sees what a constant one comes to before it puts a function in its caller's place.
+// A signed offset as how far it goes up and how far down. Each is worked out on its own, without a choice between two
+// offsets, so that the compiler folds a constant offset before it inlines the function.
 pub fn parts_of(d: i8) -> Offset
     requires { ⌜ natAbs d ≤ 2 ⌝ }
     ensures { λ r. ⌜ r ≡ partsOf d ⌝ }
@@ -402,8 +402,8 @@ fn moved_by(a: usize, d: i8) -> usize
     a + o.up - o.down
 }
 
-// Whether no cell and no step is in the way from (x, y) to (i, j), to which dx and dy lead from there. How far apart they
-// are is read off the offsets: where these are constants, nothing is left to do but to read the cells.
+// Whether no cell and no step is in the way from (x, y) to (i, j), to which dx and dy lead from there. How far apart
+// they are follows from the offsets: where these are constants, only the reading of the cells is left.
 fn ends_unblocked(
     w: usize,
     h: usize,

@@ -143,8 +143,8 @@ fn lengths_good(
 }
 
 // The route of a job whose ends a walk joins, from the costs d from a and the masks: fills e, and then counts, next
-// vertices and route, which are all 0, or refuses and leaves them so. Nothing is said of what it leaves in the working
-// slice.
+// vertices and route, which are all 0, or refuses and leaves them so. What it leaves in the working slice is
+// unspecified.
 fn find_route(
     w: usize,
     h: usize,

@@ -185,7 +185,7 @@ fn look_along(
 // Whether no blocked cell is in the way between two vertices two columns and one row apart, or one column and two rows.
 // The segment enters two cells and goes along no grid line. The last of them, by column and by row, is the one before
 // the higher lines; the other stands before it in its row or in its column. Both are read in any case, so that no
-// branch hangs on a cell.
+// branch depends on a cell.
 fn two_cells_unblocked(
     w: usize,
     h: usize,

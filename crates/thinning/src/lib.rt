@@ -124,7 +124,7 @@ pub fn list_shape(w: usize, h: usize, map: &[u8], list: &[u16], places: usize, n
 }
 
 // The position kept after position i, which sees the next one: one less than the first past i that is not seen from i,
-// or the last. The search ends at `end`: n, or the first position that is not seen once it is found.
+// or the last. The search ends at `end`, which is n until a position is found that is not seen, and then that position.
 fn next_kept(w: usize, h: usize, map: &[u8], list: &[u16], n: usize, i: usize) -> usize
     requires { ⌜ Sized w h (now map) × Leg (floorOf w h (now map)) (now list) n i ⌝ }
     ensures { λ r. ⌜ r ≡ nextKept (seen (floorOf w h (now (map .entry))) (now (list .entry))) n i ⌝ }
