@@ -117,18 +117,23 @@ fn ratio(time: Option<f64>, to: Option<f64>) -> Option<f64> {
     Some(time? / to?)
 }
 
-fn print_row(row: &Row, beside: Option<f64>) {
-    let name = match row.operation.has_neighbourhood() {
+fn name(row: &Row) -> String {
+    match row.operation.has_neighbourhood() {
         true => format!("{} {}", row.kind.name(), row.neighbourhood),
         false => row.kind.name().to_string(),
-    };
-    let (smallest, largest) = (&row.by_side[0], &row.by_side[SIDES.len() - 1]);
-    let ratios = |other: usize| cells(row.by_side.iter().map(move |times| ratio(times[0], times[other])), 2);
-    let all_ratios: String = (1..largest.len()).map(ratios).collect();
-    let to_beside = cells(beside.iter().map(|&time| ratio(largest[0], Some(time))), 2);
-    let times = cells(largest.iter().map(|&time| ratio(time, Some(1000.0))), 2);
-    let growth = cells(largest.iter().zip(smallest).map(|(&most, &least)| ratio(most, least)), 0);
-    println!("| {name} |{all_ratios}{to_beside}{times}{growth}");
+    }
+}
+
+/// A table with a row for each floor that has a value in it.
+fn print_table(title: &str, columns: &[String], rows: &[&Row], values: impl Fn(&Row) -> Vec<Option<f64>>, places: usize) {
+    println!("{title}\n\n| floor | {} |\n|---|{}", columns.join(" | "), "---|".repeat(columns.len()));
+    for row in rows {
+        let values = values(row);
+        if values.iter().any(Option::is_some) {
+            println!("| {} |{}", name(row), cells(values.into_iter(), places));
+        }
+    }
+    println!();
 }
 
 /// What else the library's time at 127 cells a side is divided by.
@@ -159,28 +164,38 @@ fn beside(rows: &[Row], of: &Row) -> Option<f64> {
     }
 }
 
-fn print_heading(operation: Operation) {
-    let names = || operation.programs().iter().map(|program| program.name);
-    let mut columns = vec!["floor".to_string()];
-    columns.extend(names().skip(1).flat_map(|name| SIDES.map(|side| format!("to {name}, {side}"))));
-    columns.extend(beside_name(operation).map(|name| format!("to {name}, 127")));
-    columns.extend(names().map(|name| format!("{name} μs, 127")));
-    columns.extend(names().map(|name| format!("{name} growth")));
+fn largest(row: &Row) -> &Times {
+    &row.by_side[SIDES.len() - 1]
+}
+
+/// The tables of an operation, one comparison in each.
+fn print_operation(operation: Operation, all: &[Row]) {
     println!("### {}\n", title(operation));
     if operation.programs().len() > 1 && LIBRARY.has(operation, 16) && !TUNED.has(operation, 16) {
         println!("The tuned planner is for 4 and 8 alone: its canonical ordering is a law of 8.\n");
     }
-    println!("| {} |\n|{}", columns.join(" | "), "---|".repeat(columns.len()));
+    let rows: Vec<&Row> = all.iter().filter(|row| row.operation == operation).collect();
+    let names: Vec<&str> = operation.programs().iter().map(|program| program.name).collect();
+    for (other, name) in names.iter().enumerate().skip(1) {
+        let ratios = |row: &Row| row.by_side.iter().map(|times| ratio(times[0], times[other])).collect();
+        print_table(&format!("To {name}, by cells a side:"), &SIDES.map(|side| side.to_string()), &rows, ratios, 2);
+    }
+    if let Some(name) = beside_name(operation) {
+        let to_beside = |row: &Row| vec![ratio(largest(row)[0], beside(all, row))];
+        print_table(&format!("To {name}, at 127:"), &["127".to_string()], &rows, to_beside, 2);
+    }
+    let times = |row: &Row| largest(row).iter().map(|&time| ratio(time, Some(1000.0))).collect();
+    let columns: Vec<String> = names.iter().map(|name| format!("{name} μs, 127")).collect();
+    print_table("Microseconds at 127:", &columns, &rows, times, 2);
+    let growth = |row: &Row| largest(row).iter().zip(&row.by_side[0]).map(|(&most, &least)| ratio(most, least)).collect();
+    let columns: Vec<String> = names.iter().map(|name| name.to_string()).collect();
+    print_table("Growth from 16 to 127:", &columns, &rows, growth, 0);
 }
 
 pub fn print(rounds: usize) {
     let rows = rows(rounds);
     for operation in OPERATIONS {
-        print_heading(operation);
-        for row in rows.iter().filter(|row| row.operation == operation) {
-            print_row(row, beside(&rows, row));
-        }
-        println!();
+        print_operation(operation, &rows);
     }
 }
 

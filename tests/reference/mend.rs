@@ -134,7 +134,7 @@ fn told(answer: u8, n: u64, differing: [u64; 6]) -> Mended {
     Mended { answer, n, differing }
 }
 
-/// Document 01, a to d, each mended from another's sheet.
+/// Floors a to d, each mended from another's sheet.
 fn damaged_squares(tally: &mut Tally) {
     let (open, blocked) = (Floor::open(1, 1), Floor::new(1, 1, vec![1]));
     let zeros = Sheet::zeros(4);
@@ -162,7 +162,7 @@ fn damaged_squares(tally: &mut Tally) {
     }
 }
 
-/// Document 01, e: its sheet with 8 handed in with 16, and the other way round.
+/// Floor e: its sheet with 8 handed in with 16, and the other way round.
 fn from_eight_to_sixteen(tally: &mut Tally) {
     let floor = Floor::open(2, 1);
     let with_8 = vectors::sheet_of(

@@ -59,8 +59,8 @@ fn naturals(tally: &mut Tally) {
     }
 }
 
-/// Whether the segment enters the cell by the rule of document 01: the cell lies
-/// within the segment's bounds, and corners of it lie on both sides of the line.
+/// Whether the segment enters the cell by rule 2.2: the cell lies within the segment's bounds, and corners of it lie on
+/// both sides of the line.
 fn enters_by_corners(from: (i64, i64), to: (i64, i64), i: i64, j: i64) -> bool {
     let ((x0, y0), (x1, y1)) = (from, to);
     let within = x0.min(x1) <= i && i < x0.max(x1) && y0.min(y1) <= j && j < y0.max(y1);

@@ -1,4 +1,4 @@
-//! Neighbourhood 16 (document 02, request 8): known answers, and what the program has of it by other methods.
+//! Neighbourhood 16 (rule 3.1): known answers, and what the program has of it by other methods.
 
 use crate::boundary;
 use crate::count;
@@ -30,8 +30,8 @@ pub fn run(tally: &mut Tally) {
     distances_on_random_floors(tally);
 }
 
-/// Request 8: case e costs 2236 and has total 1. Beside it a and h, and three cells in a row and two rows of them,
-/// where the second of two equals is a new move and where the first is.
+/// Floor e costs 2236 and has total 1. Beside it a and h, and three cells in a row and two rows of them, where the
+/// second of two equals is a new move and where the first is.
 fn worked_floors(tally: &mut Tally) {
     let (d, ends) = ([0, 1000, 1000, 1414], [1, 0, 0, 1]);
     let a = sheet_of(&d, &[1414, 1000, 1000, 0], &ends, &ends, &[0, 3], &[3, 0, 0, 3]);
@@ -192,8 +192,8 @@ fn ties_by_angle(tally: &mut Tally) {
     }
 }
 
-/// As j and k of document 01. From corner to corner of 100 by 33 cells go 33 new moves and 34 cardinal ones in any
-/// order, of 100 by 67 cells as many new and 34 diagonal ones, of 102 by 34 cells 34 of each.
+/// As floors j and k. From corner to corner of 100 by 33 cells go 33 new moves and 34 cardinal ones in any order, of
+/// 100 by 67 cells as many new and 34 diagonal ones, of 102 by 34 cells 34 of each.
 fn large_totals(tally: &mut Tally) {
     let corners = |width: u64, height: u64| plan(&Floor::open(width, height), 16, 0, (width + 1) * (height + 1) - 1);
     let (wide, square) = (corners(100, 33), corners(100, 67));

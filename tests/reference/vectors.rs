@@ -1,5 +1,5 @@
-//! Known answers: the worked floors of document 01 and the worked numbers of
-//! the source documents 000, 002 and 003, each with its place there.
+//! Known answers: the worked floors of docs/RULES.md, section 18, and the worked numbers of the source documents 000,
+//! 002 and 003, each with its place there.
 
 use crate::closures::{Rectangle, Table};
 use crate::floor::Floor;
@@ -142,8 +142,8 @@ pub fn no_route_sheet(d: &[u32]) -> Sheet {
     Sheet { d: d.to_vec(), ..Sheet::zeros(d.len()) }
 }
 
-/// Request 4, on floors e, f and j: jobs from one start share its costs, and any other costs give 9, after 6 and before
-/// 7 and 8.
+/// Rules 7.1 and 7.4, on floors e, f and j: jobs from one start share its costs, and any other costs give 9, after 6
+/// and before 7 and 8.
 fn costs_handed_in(tally: &mut Tally) {
     let (open, wall) = (Floor::open(2, 1), Floor::new(2, 1, vec![0, 1]));
     let job = |neighbourhood, start, goal| Request { neighbourhood, start, goal };
@@ -171,9 +171,8 @@ fn costs_handed_in(tally: &mut Tally) {
     tally.equal("9 before 8", finish_from(&many, job(4, 0, 1224), &far, 1225), refusal(9));
 }
 
-/// Document 02, request 7, on floors of document 01: at each vertex on the way the next by the central rule, at the
-/// goal the goal, elsewhere 0. On the floor of three cells in a row the traversal counts of 2 and 5 are equal, where f
-/// is 1 and 2.
+/// Rule 5.3, on worked floors: at each vertex on the way the next by the central rule, at the goal the goal, elsewhere
+/// 0. On the floor of three cells in a row the traversal counts of 2 and 5 are equal, where f is 1 and 2.
 fn next_vertices(tally: &mut Tally) {
     let (open, shut) = (Floor::open(2, 1), Floor::new(2, 1, vec![0, 1]));
     let g = Floor::new(2, 2, vec![1, 0, 0, 1]);
@@ -204,7 +203,7 @@ fn next_vertices(tally: &mut Tally) {
     }
 }
 
-/// Document 01, "Floors worked by hand", a to h.
+/// Floors a to h of docs/RULES.md, section 18.
 fn small_floors(tally: &mut Tally) {
     let a = plan(&Floor::open(1, 1), 8, 0, 3);
     tally.equal("a", a.answer, route(577, 1, 2));
@@ -229,7 +228,7 @@ fn small_floors(tally: &mut Tally) {
     tally.equal("h route", h.points(), &[0, 1, 4, 5, 8]);
 }
 
-/// Document 01, c, d and f, and the sheets that they leave.
+/// Floors c, d and f, and the sheets that they leave.
 fn blocked_floors(tally: &mut Tally) {
     let blocked = Floor::new(1, 1, vec![1]);
     let c = plan(&blocked, 8, 0, 3);
@@ -245,7 +244,7 @@ fn blocked_floors(tally: &mut Tally) {
     let costs = [0, 408, NO_WALK, 408, 577, NO_WALK];
     tally.equal("f sheet", f.sheet.clone(), no_route_sheet(&costs));
     tally.equal("f checked", check(&half, 8, 0, 5, &f.sheet), 7);
-    // As request 5 has it: 4 is the only pinch, so that no move joins the two open cells.
+    // 4 is the only pinch, so that no move joins the two open cells.
     let touching = Floor::new(2, 2, vec![1, 0, 0, 1]);
     let pinches: Vec<usize> = (0..9).filter(|&v| sight::is_pinch(&touching, touching.point(v))).collect();
     tally.equal("g pinches", pinches, vec![4]);
@@ -256,8 +255,8 @@ fn blocked_floors(tally: &mut Tally) {
     tally.equal("g checked", check(&touching, 8, 2, 6, &g.sheet), 7);
 }
 
-/// Document 02, request 5, on floor g: an end that is a pinch is refused after 5, before 6 and 9, equal ends included,
-/// by both of the planner's operations and by the checker.
+/// Rule 6.5, on floor g: an end that is a pinch is refused after 5, before 6 and 9, equal ends included, by both of the
+/// planner's operations and by the checker.
 fn pinched_ends(tally: &mut Tally) {
     let floor = Floor::new(2, 2, vec![1, 0, 0, 1]);
     let jobs = [(8, 2, 4, 11), (8, 4, 2, 11), (4, 4, 4, 11), (8, 4, 9, 5), (8, 9, 4, 5), (5, 4, 4, 4)];
@@ -279,7 +278,7 @@ fn pinched_ends(tally: &mut Tally) {
     tally.equal("11 before 6 of the costs", (answer, lent), (11, ([9; 8], [9; 36])));
 }
 
-/// Document 01, i.
+/// Floor i.
 fn small_sight(tally: &mut Tally) {
     let mut entered = Vec::new();
     for j in 0..2 {
@@ -292,8 +291,7 @@ fn small_sight(tally: &mut Tally) {
     tally.equal("i", entered, vec![(0, 0), (1, 0), (1, 1), (2, 1)]);
 }
 
-/// Document 02, requests 2 and 5, on floors i, f and g of document 01: from (0, 0) to
-/// (3, 2) cells 0, 1, 4 and 5 are entered.
+/// Rules 2.8 and 2.9, on floors i, f and g: from (0, 0) to (3, 2) cells 0, 1, 4 and 5 are entered.
 fn named_obstacles(tally: &mut Tally) {
     let cell = |number| Ok(Obstacle::Cell(number));
     let step = |number| Ok(Obstacle::Step(number));
@@ -333,8 +331,8 @@ fn named_obstacles(tally: &mut Tally) {
     }
 }
 
-/// Document 02, request 5. On a floor of 4 by 4 cells with 1, 6, 9 and 14 blocked the pinches are 7, 12 and 17, at
-/// (2, 1), (2, 2) and (2, 3); on floors of 6 by 3 cells with 2 and 9 blocked vertex 10 is one, at (3, 1).
+/// Rules 2.4 to 2.8. On a floor of 4 by 4 cells with 1, 6, 9 and 14 blocked the pinches are 7, 12 and 17, at (2, 1),
+/// (2, 2) and (2, 3); on floors of 6 by 3 cells with 2 and 9 blocked vertex 10 is one, at (3, 1).
 fn pinches_on_segments(tally: &mut Tally) {
     let floor = |width: u64, height: u64, blocked: &[usize]| {
         let mut floor = Floor::open(width, height);
@@ -378,7 +376,7 @@ fn pinches_on_segments(tally: &mut Tally) {
     tally.equal("a pinch and another vertex", thin::thin(&g, &[4, 4, 5], &mut [9; 3], 3), (10, 0));
 }
 
-/// Document 02, request 1, on a floor of 3 by 2 cells with cell 5 blocked.
+/// Section 11, on a floor of 3 by 2 cells with cell 5 blocked.
 fn posted_closures(tally: &mut Tally) {
     let base = Floor::new(3, 2, vec![0, 0, 0, 0, 0, 1]);
     let mut table = Table::empty();
@@ -411,7 +409,7 @@ fn posted_closures(tally: &mut Tally) {
     }
 }
 
-/// Document 02, request 6: cell c in byte c/8, at bit c mod 8 from the low end, the unused high bits 0.
+/// Rules 1.6 and 1.7: cell c in byte c/8, at bit c mod 8 from the low end, the unused high bits 0.
 fn packed_maps(tally: &mut Tally) {
     let map = |width: u64, height: u64, blocked: &[usize]| {
         let mut floor = Floor::open(width, height);
@@ -472,7 +470,7 @@ fn packed_closures(tally: &mut Tally) {
     tally.equal("request 6, 6", working(&table, &[0, 1], 9), Err(6));
 }
 
-/// Document 01, j and k.
+/// Floors j and k.
 fn large_totals(tally: &mut Tally) {
     let total = plan(&Floor::open(33, 34), 4, 0, 34 * 35 - 1).answer.total;
     tally.equal("j 33x34", total, 14_226_520_737_620_288_370);
@@ -505,7 +503,7 @@ fn totals_at_the_boundary(tally: &mut Tally) {
     tally.equal("above 2^64", answer(boundary::product(17)), refusal(8));
 }
 
-/// Document 01, l, and the order of the refusals.
+/// Floors l, and the order of the refusals.
 fn bad_shapes(tally: &mut Tally) {
     for (width, height) in [(0, 1), (1, 0), (128, 1), (1, 128)] {
         tally.equal("l sizes", plan(&Floor::open(width, height), 4, 0, 0).answer, refusal(1));
@@ -627,9 +625,8 @@ fn mirrored_counts(tally: &mut Tally) {
     }
 }
 
-/// Document 002, "Path planning problem and notation": not through the interior of
-/// blocked cells, not between blocked cells that share an edge. It lets a path
-/// between diagonally touching blocked cells, which request 5 does not.
+/// Document 002, "Path planning problem and notation": not through the interior of blocked cells, not between blocked
+/// cells that share an edge. It lets a path between diagonally touching blocked cells, which rule 2.6 does not.
 fn source_002_sight(tally: &mut Tally) {
     let touching = Floor::new(2, 2, vec![1, 0, 0, 1]);
     tally.holds("request 5, between touching cells", !sight::sees(&touching, (2, 0), (0, 2)));
@@ -674,7 +671,7 @@ fn source_003(tally: &mut Tally) {
     tally.equal("003 240 paths", planned.traversal_count(middle), Natural::from_u64(240));
 }
 
-/// Document 01, "The program".
+/// Section 16: the program.
 fn programs(tally: &mut Tally) {
     let example = "job 1: cost 816 routes 2 points 3 kept 2\nat 0 3\n";
     let bytes = [0x4D, 0x50, 1, 1, 0, 0x4A, 0x42, 4, 0, 0, 3, 0];
@@ -710,10 +707,10 @@ fn programs(tally: &mut Tally) {
         "bad record at 0\n",
         "job 1: cost 17887 routes 1 points 32 kept 2\nat 0 1023\njob 2: refused 5\n",
         "job 1: refused 4\njob 2: refused 5\njob 3: refused 5\njob 4: cost 0 routes 1 points 1 kept 1\nat 2\n",
-        // Request 5: 4, then 5 for either end, then 11.
+        // Rule 6.5: 4, then 5 for either end, then 11.
         "job 1: refused 7\njob 2: refused 11\njob 3: refused 11\njob 4: refused 11\njob 5: refused 5\n\
          job 6: refused 5\njob 7: refused 4\njob 8: cost 408 routes 1 points 2 kept 2\nat 2 5\n",
-        // Request 8: case e with 16; e with each in turn, and 4 for what is none; c, and d on its floor; a pinch.
+        // Floor e with 16; e with each in turn, and 4 for what is none; c, and d on its floor; a pinch.
         case_e,
         &(e_in_turn + &e_refused),
         &(jobs(1, &["refused 7"; 8]) + &jobs(9, &[alone; 8])),

@@ -82,7 +82,7 @@ fn call(mut writer: Writer, call: &Call, mut buffer: Vec<u8>) -> (u8, Writer, Ve
     (answer, writer, buffer)
 }
 
-/// The whole example of document 01, and bytes past each record that stay 9.
+/// The example of section 16, and bytes past each record that stay 9.
 fn written_bytes(tally: &mut Tally) {
     let (answer, writer, buffer) = call(Writer::FRESH, &Call::Map(1, 1, &[0]), vec![9; 14]);
     tally.equal("request 11, the example's map", (answer, writer), (0, Writer { at: 5, due: 1 }));

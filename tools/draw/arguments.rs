@@ -25,7 +25,7 @@ x,y: the cell corner in column x, row y, from 0,0 at the upper left.
                        draws nothing without -o or --text
 
 The planner's sheet is checked before it is drawn. Errors and refusals go to
-standard error, with the paper's number in brackets, and the exit status is 1;
+standard error, a refusal's number in brackets, and the exit status is 1;
 with 7 (no route), 8 (too many routes) and 17 (a bad record of a log) there is a
 picture all the same.
 ";

@@ -33,7 +33,7 @@ mod tests {
     const LIST: [u16; 6] = [4, 5, 6, 10, 6, 7];
 
     #[test]
-    fn fewer_than_by_the_papers_rule() {
+    fn fewer_than_by_the_thinning_rule() {
         let floor = floor_of(&ROWS, &[]);
         let kept = |thinning: &Thinning, list: &[u16]| (thinning.kept)(floor.floor(), list);
         assert_eq!(kept(&FARTHEST, &LIST), Ok(vec![0, 2, 5]));

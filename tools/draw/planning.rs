@@ -40,8 +40,8 @@ pub struct Thinning {
     pub rule: &'static str,
 }
 
-/// The paper's thinning.
-pub const FARTHEST: Thinning = Thinning { kept: thinned, rule: "by the paper's rule" };
+/// The thinning of rule 9.4.
+pub const FARTHEST: Thinning = Thinning { kept: thinned, rule: "by the thinning rule" };
 
 /// The slices of a sheet.
 struct Slices {
@@ -119,7 +119,7 @@ fn judged(
     }
 }
 
-/// The positions that the paper's thinning keeps: from each the last one before the first that is not seen from it.
+/// The positions that thinning keeps (rule 9.4): from each the last one before the first that is not seen from it.
 fn thinned(floor: Floor, list: &[u16]) -> Result<Vec<u16>, Failure> {
     let mut kept = vec![0; list.len()];
     let count = lurfanzi::thin(floor, list, &mut kept, list.len())?;
