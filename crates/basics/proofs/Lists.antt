@@ -3,12 +3,12 @@ use Prim.Native.Nat.{ℕ, zero, suc, _+_, _-_, _≤_, _<_}
 use mathlib.Core.Path.{_≡_, refl, sym, ap, ap₂, _∙_}
 use mathlib.Core.Logic.{⊎-elim}
 use mathlib.Core.Bool.{Bool, true, false, _&&_, true≢false}
-use mathlib.Core.List.{List, [], _∷_, _++_, List·Memᴰ, List·Memᴰ·head, List·Memᴰ·not-nil}
+use mathlib.Core.List.{List, [], _∷_, _++_, append-assoc, List·Memᴰ, List·Memᴰ·head, List·Memᴰ·not-nil}
 use native.Mathlib.Omega.{arith}
 use borrow.Author.Tests.{eqb-true, eq-eqb}
 use lib.Dec.{eqb}
-use lib.ListN.{length, getD, length-append, length-replicate, List·getD-append}
-use lib.Seq.{ext-getD, getD-at, getD-append-add}
+use lib.ListN.{length, getD, set, length-append, length-replicate, List·getD-append}
+use lib.Seq.{ext-getD, getD-at, set-at, getD-append-add}
 use Rattle.basics.specs.Lists.{tabulate, zeros, padded, same}
 use Rattle.basics.proofs.Order.{le-or-lt}
 use Rattle.basics.proofs.Bools.{and-left, and-right}
@@ -44,6 +44,15 @@ unfolding padded
 getD-padded-past n i l h =
     let e : i ≡ length l + (i - length l) = omega arith in
     rw e (getD-append-add l (zeros (n - length l)) (i - length l) 0 ∙ getD-zeros (n - length l) (i - length l))
+
+-- A number stored after those of a padded list.
+pub padded-more : (n x : ℕ) (l : List ℕ) → length l < n → set (padded n l) (length l) x ≡ padded n (l ++ x ∷ [])
+unfolding padded
+padded-more n x l h =
+    let a : n - length l ≡ suc (n - suc (length l)) = omega arith in
+    let b : n - length (l ++ x ∷ []) ≡ n - suc (length l) = omega (arith, length-append l (x ∷ [])) in
+    rw (a, b) (set-at l 0 (zeros (n - suc (length l))) x (length l) refl
+    ∙ sym (append-assoc l (x ∷ []) (zeros (n - suc (length l)))))
 
 pub padded-of : (n : ℕ) (r l : List ℕ) → length r ≡ n → length l ≤ n
     → ((i : ℕ) → i < length l → getD r i 0 ≡ getD l i 0) → ((i : ℕ) → length l ≤ i → i < n → getD r i 0 ≡ 0)

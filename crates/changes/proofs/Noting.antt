@@ -5,31 +5,22 @@
 --   noted-same, noted-closed, noted-opened == one cell more: it is as before, it closed, it opened; x and y say whether
 --                      it is blocked on the first floor and on the second
 --   noted-tally, noted-listed == once all cells are noted, the counts and the numbers are those of the report
-use Prim.Native.Nat.{ℕ, suc, _+_, _-_, _*_, _≤_, _<_}
+use Prim.Native.Nat.{ℕ, _+_, _-_, _*_, _≤_, _<_}
 use mathlib.Core.Path.{_≡_, refl, sym, ap, ap₂, _∙_, fun-ext}
 use mathlib.Core.Bool.{Bool, true, false, _&&_, _||_, not, Bool·beq}
-use mathlib.Core.List.{List, [], _∷_, _++_, append-nil, append-assoc}
+use mathlib.Core.List.{List, [], _∷_, _++_, append-nil}
 use native.Mathlib.Omega.{arith}
-use lib.ListN.{length, set, length-append, length-replicate, length-set}
-use lib.Seq.{set-at}
+use lib.ListN.{length, set, length-replicate, length-set}
 use Rattle.basics.specs.Bounded.{pick, sum, count}
 use Rattle.basics.specs.Lists.{padded, zeros, chosen}
 use Rattle.basics.proofs.Counting.{count-le, count-next, count-or, chosen-next, length-chosen}
+use Rattle.basics.proofs.Lists.{padded-more}
 use Rattle.floor.specs.Floor.{bitAt}
 use Rattle.floor.proofs.Maps.{cell-numbered}
 use Rattle.changes.specs.Changes.{GivenFloor, floorIn, closes, opens, differing, tally, tallyOf}
 use Rattle.changes.specs.Known.{closesBit, opensBit, differsBit, MapsOf, Noted}
 use Rattle.changes.specs.declared.Tally.{Tally}
 use Rattle.changes.proofs.Cell.{apart, beq-same, same-neither, other-closes, other-opens}
-
--- A number stored after those of a padded list.
-padded-more : (n x : ℕ) (l : List ℕ) → length l < n → set (padded n l) (length l) x ≡ padded n (l ++ x ∷ [])
-unfolding padded
-padded-more n x l h =
-    let a : n - length l ≡ suc (n - suc (length l)) = omega arith in
-    let b : n - length (l ++ x ∷ []) ≡ n - suc (length l) = omega (arith, length-append l (x ∷ [])) in
-    rw (a, b) (set-at l 0 (zeros (n - suc (length l))) x (length l) refl
-    ∙ sym (append-assoc l (x ∷ []) (zeros (n - suc (length l)))))
 
 -- ---- the tests by the bits
 

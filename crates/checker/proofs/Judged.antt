@@ -25,10 +25,9 @@ use Rattle.checker.specs.Tests.{routeTest, noRouteTest, Posed}
 use Rattle.checker.proofs.Verdict.{verdict-tests}
 
 -- The slices of a sheet that passes the test of their lengths.
-pub sized-shaped : (g : Graph) (s : Sheet) → sheetSized (g .size) s ≡ true → Shaped (g .size) s
+pub sized-shaped : (n : ℕ) (s : Sheet) → sheetSized n s ≡ true → Shaped n s
 unfolding sheetSized
-sized-shaped g s t =
-    let n = g .size in
+sized-shaped n s t =
     let D = eqb (length (s .d)) n in
     let E = eqb (length (s .e)) n in
     let F = eqb (length (s .f)) n in
@@ -68,7 +67,7 @@ module _ (w h : ℕ) (l : List ℕ) (r : Rows) (a b : ℕ) (d e f back route nex
 
     module _ (job : GoodJob w h l r a b) where
       pub judged-posed : Posed w h l r a b s
-      judged-posed = record { job = job; shape = sized-shaped g s fits }
+      judged-posed = record { job = job; shape = sized-shaped (g .size) s fits }
 
       module _ (total : entry f b < 2 ^ 64) {p : Bool} (route-is : p ≡ routeTest g a b s) where
         is-verdict : judged w h l a b s (Fit r) ≡ pick p Route
@@ -76,7 +75,7 @@ module _ (w h : ℕ) (l : List ℕ) (r : Rows) (a b : ℕ) (d e f back route nex
         is-verdict =
             rw (fits, route-is)
             (verdict-tests g a b s (floor-lawful (floorOf w h l) r (listed-lawful (job .listed))) (job .start-in)
-            (job .goal-in) (sized-shaped g s fits) total)
+            (job .goal-in) (sized-shaped (g .size) s fits) total)
 
         pub judged-route : p ≡ true → Route ≡ judged w h l a b s (Fit r)
         judged-route e = sym (is-verdict ∙ rw e)

@@ -5,3 +5,4 @@ pub mod Rows
 pub mod Answered
 pub mod Simulation
 pub mod Working
+pub mod InPlace

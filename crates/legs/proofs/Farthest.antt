@@ -4,22 +4,24 @@
 --   Far s n i j    == of the positions to which i has a leg, j is the farthest with the fewest legs left, which are one
 --                     fewer than i has
 --   farthest-is    == `farthestNext` is that position
+--   proposed-chain == the proposed positions are those that `farthestNext` names one after the other
 --   goes-..        == the test of a leg that leaves one leg fewer
 --   Seeking s n i j == the search for that position, from the last down, has come to j and not passed it
 use Prim.Native.Nat.{ℕ, zero, suc, _≤_, _<_}
 use mathlib.Core.Path.{_≡_, refl, sym, ap, _∙_}
 use mathlib.Core.Logic.{⊎-elim}
 use mathlib.Core.Bool.{Bool, true, false, _&&_, and-true, and-false}
-use mathlib.Core.List.{List}
+use mathlib.Core.List.{List, _∷_, []}
 use native.Mathlib.Omega.{arith}
 use borrow.Author.Tests.{eqb-true, eq-eqb, ne-eqb}
-use lib.Dec.{eqb}
+use lib.Dec.{eqb, ltb}
 use lib.ListN.{getD}
 use Rattle.basics.specs.Bounded.{pick}
 use Rattle.basics.proofs.Order.{le-or-lt, eq-or-ne}
 use Rattle.basics.proofs.Bools.{and-intro, and-both, not-both}
+use Rattle.thinning.proofs.Recording.{chain}
 use Rattle.legs.specs.Choices.{Leg, isLeg, fewestLegs}
-use Rattle.legs.specs.Answer.{lastBelow, farthestNext}
+use Rattle.legs.specs.Answer.{lastBelow, farthestNext, proposedFrom}
 use Rattle.legs.specs.Known.{RightFrom}
 use Rattle.legs.proofs.Fewest.{leg-cases, leg-at, fewest-leg, fewest-witness}
 use Rattle.legs.proofs.Least.{leg-seen}
@@ -61,6 +63,11 @@ module _ (s : ℕ → ℕ → Bool) (n : ℕ) where
         fewest = λ k h. omega (arith, fewest-leg s n steady i k h);
         farthest = λ k h e. last-found n k p (h .within) (there k h (fewer ∙ ap suc (sym e))) .2;
       }
+
+  pub proposed-chain : (c i : ℕ) → chain (farthestNext s n) n c i ≡ proposedFrom s n c i
+  unfolding chain proposedFrom
+  proposed-chain zero i = refl
+  proposed-chain (suc c) i = ap (λ q. i ∷ pick (ltb (suc i) n) q []) (proposed-chain c (farthestNext s n i))
 
   module _ (l : List ℕ) (i j : ℕ) where
     pub goes-not : (getD l i 0 ≡ suc (getD l j 0) → ⊥) → false ≡ (isLeg s n i j && eqb (getD l i 0) (suc (getD l j 0)))

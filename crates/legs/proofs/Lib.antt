@@ -4,7 +4,6 @@ pub mod Tests
 pub mod Farthest
 pub mod Shapes
 pub mod Filling
-pub mod Recording
 pub mod Answered
 pub mod Accepted
 pub mod Proposal

@@ -24,14 +24,14 @@ use Rattle.floor.specs.declared.Shape.{Shape}
 use Rattle.floor.specs.declared.Shape.the-variants.{Good, Refused}
 use Rattle.thinning.specs.Answer.{shapeAnswer}
 use Rattle.thinning.specs.declared.Thinned.the-variants.{Kept, Unthinned}
+use Rattle.thinning.proofs.Recording.{chain, chain-more, chain-end}
 use Rattle.legs.specs.Choices.{Choice, last, leg, fewestLegs}
 use Rattle.legs.specs.Answer.{legsShape, checkAnswer, farthestNext, proposedFrom, proposed}
 use Rattle.legs.specs.Answer.{proposeAnswer, keptLeft, legsLeft}
 use Rattle.legs.specs.Known.{sightOn}
 use Rattle.legs.specs.declared.Checked.the-variants.{Accepted, Unaccepted}
 use Rattle.legs.proofs.Fewest.{fewest-legs, fewest-last}
-use Rattle.legs.proofs.Farthest.{farthest-is}
-use Rattle.legs.proofs.Recording.{proposed-later, later-more, later-none}
+use Rattle.legs.proofs.Farthest.{farthest-is, proposed-chain}
 use Rattle.legs.proofs.Shapes.{good-legs, joined-on}
 use Rattle.legs.proofs.Answered.{check-refused}
 use Rattle.legs.proofs.Accepted.{TrueChoice, choice-short, accepted-exact}
@@ -60,21 +60,23 @@ module _ (s : ℕ → ℕ → Bool) (n : ℕ) (steady : (i : ℕ) → suc i < n 
             (omega (arith, length-tabulate n (fewestLegs s n)));
       }
 
-  pub proposed-choice : (c i : ℕ) → i < n → n ≤ i + c
-      → Choice s n i (proposedFrom s n c i) × (length (proposedFrom s n c i) ≡ suc (fewestLegs s n i))
-  proposed-choice zero i a b = absurd (omega arith)
-  proposed-choice (suc c) i a b =
+  chain-choice : (c i : ℕ) → i < n → n ≤ i + c → (let l = chain (farthestNext s n) n c i in
+      Choice s n i l × (length l ≡ suc (fewestLegs s n i)))
+  chain-choice zero i a b = absurd (omega arith)
+  chain-choice (suc c) i a b =
       ⊎-elim
       (λ (more : suc (suc i) ≤ n).
       let f = farthest-is s n steady i more in
-      let r = proposed-choice c (farthestNext s n i) (f .leg .within) (omega (arith, f .leg .later)) in
-      rw (proposed-later s n c i, later-more s n c i more)
-      (leg (f .leg) (r .0), ap suc (r .1 ∙ sym (f .fewer))))
+      let r = chain-choice c (farthestNext s n i) (f .leg .within) (omega (arith, f .leg .later)) in
+      rw (chain-more (farthestNext s n) n c i more) (leg (f .leg) (r .0), ap suc (r .1 ∙ sym (f .fewer))))
       (λ (end : n < suc (suc i)).
       let e : suc i ≡ n = omega arith in
-      rw (proposed-later s n c i, later-none s n c i (omega arith))
-      (last e, ap suc (sym (fewest-last s n steady i e))))
+      rw (chain-end (farthestNext s n) n c i (omega arith)) (last e, ap suc (sym (fewest-last s n steady i e))))
       (le-or-lt (suc (suc i)) n)
+
+  pub proposed-choice : (c i : ℕ) → i < n → n ≤ i + c
+      → Choice s n i (proposedFrom s n c i) × (length (proposedFrom s n c i) ≡ suc (fewestLegs s n i))
+  proposed-choice c i a b = rw (← (proposed-chain s n c i)) (chain-choice c i a b)
 
 module _ (w h : ℕ) (map list : List ℕ) (k m n : ℕ) where
   pub choice-accepted : legsShape w h map list k m n ≡ Good → (l : List ℕ) → Choice (sightOn w h map list) n 0 l

@@ -17,7 +17,7 @@ use native.Mathlib.Omega.{arith}
 use borrow.Author.Tests.{eqb-true, eq-eqb, ne-eqb, not-true, not-false}
 use lib.Dec.{eqb}
 use lib.ListN.{length}
-use Rattle.basics.proofs.Bools.{true-or-false, and-left, and-right, all-six}
+use Rattle.basics.proofs.Bools.{true-or-false, and-left, and-right}
 use Rattle.floor.specs.Floor.{floorOf, vertices}
 use Rattle.floor.specs.declared.Refusal.{Refusal}
 use Rattle.floor.specs.declared.Refusal.the-variants.{SliceLength}
@@ -33,6 +33,8 @@ use Rattle.distances.specs.Costs.{FilledCosts}
 use Rattle.planner.specs.declared.Planned.{Planned}
 use Rattle.planner.specs.Plan.{Slices, routeAnswer, routeLeft, planNumber, planPoints}
 use Rattle.planner.specs.Parts.{Finishable, Finished}
+use Rattle.checker.specs.Answer.{sheetSized as sheetTested}
+use Rattle.checker.proofs.Judged.{sized-shaped as tested-shaped}
 use Rattle.mending.specs.declared.Differences.{Differences}
 use Rattle.mending.specs.declared.Lengths.{Lengths}
 use Rattle.mending.specs.declared.Mended.{Mended}
@@ -109,23 +111,8 @@ sized-fit false (Fit r) e = never e
 sized-fit z (Unfit r) e = never e
 
 sized-shaped : (v : ℕ) (s : Sheet) → sheetSized v (sheetLengths s) ≡ true → Shaped v s
-unfolding sheetSized
-sized-shaped v s t =
-    let D = eqb (length (s .d)) v in
-    let E = eqb (length (s .e)) v in
-    let F = eqb (length (s .f)) v in
-    let B = eqb (length (s .b)) v in
-    let R = eqb (length (s .route)) v in
-    let X = eqb (length (s .next)) v in
-    let r = all-six D E F B R X t in
-    record {
-      d = eqb-true (length (s .d)) v (r .0);
-      e = eqb-true (length (s .e)) v (r .1);
-      f = eqb-true (length (s .f)) v (r .2);
-      b = eqb-true (length (s .b)) v (r .3);
-      route = eqb-true (length (s .route)) v (r .4);
-      next = eqb-true (length (s .next)) v (r .5);
-    }
+unfolding sheetSized sheetTested
+sized-shaped v s t = tested-shaped v s t
 
 module _ (w h : ℕ) (map : List ℕ) (nb a b : ℕ) (old : Sheet) (s : MendSlices) (rows : Rows)
     (fit : jobFor w h map nb a b old s ≡ Fit rows) where

@@ -6,6 +6,7 @@
 --                       the rule says (`next`)
 --   kept-laws        == the kept positions of a joined list are such
 --   kept-only        == and no others are
+--   kept-chain       == they are the positions that the rule names one after the other, from 0
 use Prim.Native.Nat.{ℕ, zero, suc, _+_, _-_, _≤_, _<_, pred}
 use mathlib.Core.Path.{_≡_, refl, sym, ap, _∙_}
 use mathlib.Core.Bool.{Bool, true, false, not}
@@ -16,13 +17,14 @@ use borrow.Author.Tests.{ltb-true, ltb-false, not-true}
 use lib.Dec.{ltb}
 use lib.ListN.{length, getD}
 use lib.Seq.{ext-getD}
-use Rattle.basics.specs.Bounded.{seek}
+use Rattle.basics.specs.Bounded.{pick, seek}
 use Rattle.basics.proofs.Order.{le-or-lt, eq-or-ne}
 use Rattle.basics.proofs.Bools.{true-or-false, not-both}
 use Rattle.basics.proofs.Bounded.{seek-le, seek-ge, seek-found, seek-least}
 use Rattle.floor.specs.Floor.{Floor}
 use Rattle.thinning.specs.Thinning.{seen, nextKept, keptFrom, keptPositions, joinedList}
 use Rattle.thinning.proofs.Shapes.{joined-list, joined-sees}
+use Rattle.thinning.proofs.Recording.{chain}
 
 pub record Next (s : ℕ → ℕ → Bool) (n i j : ℕ) : Type 0 where
   pub after : i < j
@@ -171,3 +173,16 @@ pub kept-only : {s : ℕ → ℕ → Bool} {n : ℕ} {ps qs : List ℕ} → Kept
 kept-only {s} {n} {ps} {qs} p q =
     ext-getD 0 ps qs (omega (arith, kept-long p q, kept-long q p))
     (λ m a. kept-at p q m a (omega (arith, kept-long q p)))
+
+from-chain : (s : ℕ → ℕ → Bool) (n c i : ℕ) → chain (nextKept s n) n c i ≡ keptFrom s n c i
+unfolding chain keptFrom
+from-chain s n zero i = refl
+from-chain s n (suc c) i = cases (ltb (suc i) n) (from-chain s n c (nextKept s n i))
+  where
+    cases : (b : Bool) {l k : List ℕ} → l ≡ k → i ∷ pick b l [] ≡ i ∷ elim b [ true ↦ k | false ↦ [] ]
+    cases true e = ap (λ q. i ∷ q) e
+    cases false e = refl
+
+pub kept-chain : (f : Floor) (l : List ℕ) (n : ℕ) → chain (nextKept (seen f l) n) n n 0 ≡ keptPositions f l n
+unfolding keptPositions
+kept-chain f l n = from-chain (seen f l) n n 0

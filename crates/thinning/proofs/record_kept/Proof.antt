@@ -1,19 +1,19 @@
 -- `thinning::record_kept` meets its contract: `Recording` says what the loop has recorded. Assumes nothing.
 use Prim.Native.Nat.{suc, _-_, _<_}
-use mathlib.Core.Path.{_≡_, sym, ap, _∙_}
-use mathlib.Core.Bool.{Bool, true}
+use mathlib.Core.Path.{sym, ap, _∙_}
 use native.Mathlib.Omega.{arith}
 use borrow.Author.Needs.{needs}
 use lib.ListN.{length}
+use Rattle.basics.specs.Lists.{padded}
 use Rattle.floor.specs.Floor.{Floor, floorOf}
-use Rattle.thinning.specs.Thinning.{seen, seesNext, nextKept, keptPositions}
+use Rattle.thinning.specs.Thinning.{seen, seesNext, nextKept}
 use Rattle.thinning.proofs.Shapes.{Joined, joined-list, joined-sees}
-use Rattle.thinning.proofs.Kept.{Next, next-kept}
+use Rattle.thinning.proofs.Kept.{Next, next-kept, kept-chain}
 use Rattle.thinning.proofs.Recording.{
   Recording,
   recording-first,
   recording-more,
-  recording-length,
+  recording-count,
   recording-done,
 }
 use Rattle.thinning.proofs.record_kept.Statement.{statement}
@@ -21,7 +21,7 @@ use Rattle.thinning.proofs.record_kept.Tie as tie
 
 abbrev Inv-loop : tie.InvT-loop
 Inv-loop w h map list out₀ n i₀ m₀ out i m =
-    Recording (seen (floorOf w h map) list) n (length list) (keptPositions (floorOf w h map) list n) m i out
+    Recording (nextKept (seen (floorOf w h map) list) n) n (length list) m i out
 
 abbrev μ-loop : tie.MeasureT-loop
 μ-loop w h map list out₀ n i₀ m₀ out i m = n - i
@@ -50,13 +50,12 @@ clear-u16-requires : tie.Need-clear-u16-requires Inv-loop μ-loop
 clear-u16-requires c κs = search needs
 
 loop-holds : tie.Need-loop-holds Inv-loop μ-loop
-unfolding keptPositions
 loop-holds c =
     let s = c .before .before .before .before .before .before .before in
     let j = joined s in
     let l = s .args .list .now in
     rw (c .before .before .clear-u16 .ensures, s .pre .1 .same)
-    (recording-first (seen (plan s) l) (s .args .n) (length l) (j .some) (j .listed .within))
+    (recording-first (nextKept (seen (plan s) l) (s .args .n)) (s .args .n) (length l) (j .some) (j .listed .within))
 
 add-loop : tie.Need-add-loop Inv-loop μ-loop
 add-loop c = search needs
@@ -94,8 +93,8 @@ loop-less c = omega (arith, moved c .after, moved c .within)
 loop-again : tie.Need-loop-again Inv-loop μ-loop
 loop-again c =
     let l = c .before .before .loop in
-    let j = joined (start (c .before .before)) in
-    rw (c .next-kept .ensures) (recording-more (l .inv) (omega arith) (joined-sees j (l .i) (omega arith)))
+    recording-more _ _ (l .inv) (omega arith) (c .next-kept .result) (moved c .after) (moved c .within)
+    (c .next-kept .ensures)
 
 same-length : tie.Need-same-length Inv-loop μ-loop
 same-length c =
@@ -105,9 +104,10 @@ same-length c =
 returns : tie.Need-returns Inv-loop μ-loop
 returns c =
     let s = start (c .before) in
+    let e = kept-chain (plan s) (s .args .list .now) (s .args .n) in
     record {
-      count = sym (recording-length (c .before .loop .inv) (omega arith));
-      output = rw (s .pre .1 .same) (recording-done (c .before .loop .inv) (omega arith));
+      count = recording-count _ _ (c .before .loop .inv) (omega arith) ∙ ap length e;
+      output = rw (s .pre .1 .same) (recording-done _ _ (c .before .loop .inv) (omega arith) ∙ ap (padded _) e);
     }
 
 pub record-kept-spec : {M : Type 1} → statement M

@@ -1,20 +1,23 @@
 -- `legs::proposing::record_kept` meets its contract: `Recording` says what the loop has recorded. Assumes nothing.
 use Prim.Native.Nat.{ℕ, _-_}
-use mathlib.Core.Path.{_≡_, _∙_}
+use mathlib.Core.Path.{_≡_, ap, _∙_}
 use mathlib.Core.Bool.{Bool}
 use native.Mathlib.Omega.{arith}
 use borrow.Author.Needs.{needs}
-use lib.ListN.{length}
+use lib.ListN.{length, length-replicate}
+use Rattle.basics.specs.Lists.{padded}
+use Rattle.thinning.proofs.Recording.{Recording, recording-first, recording-more, recording-count, recording-done}
+use Rattle.legs.specs.Answer.{farthestNext, proposed}
 use Rattle.legs.specs.Known.{sightOn}
-use Rattle.legs.proofs.Farthest.{Far, farthest-is}
+use Rattle.legs.proofs.Farthest.{Far, farthest-is, proposed-chain}
 use Rattle.legs.proofs.Shapes.{joined-few}
 use Rattle.legs.proofs.Filling.{cleared-length}
-use Rattle.legs.proofs.Recording.{Recording, recording-first, recording-more, recording-count, recording-done}
 use Rattle.legs.proofs.proposing.record_kept.Statement.{statement}
 use Rattle.legs.proofs.proposing.record_kept.Tie as tie
 
 abbrev Inv-loop : tie.InvT-loop
-Inv-loop w h map list kept₀ legs n i₀ m₀ kept i m = Recording (sightOn w h map list) n (length kept₀) m i kept
+Inv-loop w h map list kept₀ legs n i₀ m₀ kept i m =
+    Recording (farthestNext (sightOn w h map list) n) n (length kept₀) m i kept
 
 abbrev μ-loop : tie.MeasureT-loop
 μ-loop w h map list kept₀ legs n i₀ m₀ kept i m = n - i
@@ -46,8 +49,9 @@ clear-u16-requires c κs = search needs
 loop-holds : tie.Need-loop-holds Inv-loop μ-loop
 loop-holds c =
     let s = c .before .before .before .before .before .before .before .before in
-    let cleared = c .before .before .clear-u16 in
-    recording-first (sight s) (s .args .n) _ (cleared .last .0) (cleared .ensures) (s .pre .0 .some) (s .pre .1)
+    let k = length (s .args .kept .now) in
+    rw (c .before .before .clear-u16 .ensures, length-replicate {A = ℕ} k 0)
+    (recording-first (farthestNext (sight s) (s .args .n)) (s .args .n) k (s .pre .0 .some) (s .pre .1))
 
 add-loop : tie.Need-add-loop Inv-loop μ-loop
 add-loop c = search needs
@@ -80,17 +84,20 @@ loop-less c = omega (arith, moved c .leg .later, moved c .leg .within)
 loop-again : tie.Need-loop-again Inv-loop μ-loop
 loop-again c =
     let l = c .before .before in
-    recording-more _ _ (l .loop .inv) (omega arith) (c .farthest-next .result) (moved c) (c .farthest-next .ensures)
+    recording-more _ _ (l .loop .inv) (omega arith) (c .farthest-next .result) (moved c .leg .later)
+    (moved c .leg .within) (c .farthest-next .ensures)
 
 same-length : tie.Need-same-length Inv-loop μ-loop
 same-length c = c .before .loop .inv .size ∙ cleared (c .before)
 
 returns : tie.Need-returns Inv-loop μ-loop
+unfolding proposed
 returns c =
     let l = c .before in
+    let e = proposed-chain (sight (start l)) (start l .args .n) (start l .args .n) 0 in
     record {
-      count = recording-count _ _ (l .loop .inv) (omega arith);
-      output = rw (← (cleared l)) (recording-done _ _ (l .loop .inv) (omega arith));
+      count = recording-count _ _ (l .loop .inv) (omega arith) ∙ ap length e;
+      output = rw (← (cleared l)) (recording-done _ _ (l .loop .inv) (omega arith) ∙ ap (padded _) e);
     }
 
 pub record-kept-spec : {M : Type 1} → statement M
