@@ -1,10 +1,10 @@
 // Costs that a caller hands in, tested by the local law: each cost against those of its neighbours, in one pass over
 // the floor, with nothing to write in.
 ghost use mathlib.Core.Path.{_≡_};
-ghost use Prim.Native.Nat.{_≤_};
+ghost use Prim.Native.Nat.{suc, _≤_};
 ghost use lib.ListN.{length};
 ghost use Rattle.floor.specs.Floor.{floorOf, vertices};
-ghost use Rattle.masks.specs.Windows.{WindowsTo};
+ghost use Rattle.masks.specs.Masks.{LeavingRow};
 ghost use Rattle.offsets.specs.Classes.{Classes};
 ghost use Rattle.paths.specs.Local.{entry};
 ghost use Rattle.grid.specs.Grid.{floorGraph};
@@ -35,8 +35,9 @@ fn vertex_right(
     neighbours::cost_right(shifts, classes, mask, a, d, v)
 }
 
-// The costs of the vertices of row y are right, each by the moves that leave it. Each is looked at, also after one that is
-// false: a way out of the loop makes every turn slower.
+// The costs of the vertices of row y are right, each by the moves that leave it, whose masks are `leaving`. Each is
+// looked at, also after one that is false: a way out of the loop makes every turn slower. The map is for the contract
+// only.
 fn row_right(
     w: usize,
     h: usize,
@@ -44,15 +45,15 @@ fn row_right(
     rows: Rows,
     a: usize,
     d: &[u32],
-    windows: [u32; 16],
+    leaving: [u32; 128],
     y: usize,
 ) -> bool
-    requires { ⌜ GoodJob w h (now map) rows a a × (length (now d) ≡ vertices w h) × (y ≤ h) × WindowsTo rows 16 windows ⌝ }
+    requires { ⌜ GoodJob w h (now map) rows a a × (length (now d) ≡ vertices w h) × (y ≤ h)
+        × LeavingRow (floorOf w h (now map)) rows y (suc w) leaving ⌝ }
     ensures { λ r. ⌜ r ≡ rowTest (leavingGraph (floorOf w h (now (map .entry))) rows) a (now (d .entry)) w y ⌝ }
 {
     let shifts = offsets::shifts_of(w, rows);
     let classes = offsets::classes_of(rows);
-    let leaving = masks::leaving_row(w, h, map, rows, y, windows);
     let first = y * (w + 1);
     let mut right = true;
     for x in 0..w + 1 {
@@ -64,7 +65,8 @@ fn row_right(
 }
 
 // Whether d holds the true costs from a: 0 at a, and every cost right by its neighbours. It stops at the first row with
-// a false cost. A move to a pinch is read as open, as the checker does.
+// a false cost. A move to a pinch is read as open, as the checker does. The windows of a line are read once, and kept
+// for the rows above and below.
 pub fn costs_true(w: usize, h: usize, map: &[u8], rows: Rows, a: Vertex, d: &[u32]) -> bool
     requires { ⌜ GoodJob w h (now map) rows (a .0) (a .0) × (length (now d) ≡ vertices w h) ⌝ }
     ensures { λ r. ⌜ r ≡ costsTrue (floorGraph (floorOf w h (now (map .entry))) rows) (a .0) (now (d .entry)) ⌝ }
@@ -74,10 +76,16 @@ pub fn costs_true(w: usize, h: usize, map: &[u8], rows: Rows, a: Vertex, d: &[u3
         return false;
     }
     let windows = masks::window_masks(rows);
+    let mut above = masks::window_row(w, h, map, 0, windows);
+    let mut here = above;
     for y in 0..h + 1 {
-        if !row_right(w, h, map, rows, start, d, windows, y) {
+        let below = masks::window_row(w, h, map, y + 1, windows);
+        let leaving = masks::leaving_between(w, h, map, rows, y, windows, above, here, below);
+        if !row_right(w, h, map, rows, start, d, leaving, y) {
             return false;
         }
+        above = here;
+        here = below;
     }
     true
 }

@@ -17,6 +17,8 @@
 --   listed-sixteen, listed-unit == a neighbourhood of sixteen has that table, and no other goes two columns or rows
 --   unit-leaving    == where no move goes two columns or rows, it is that of the moves that leave (x, y)
 --   joined-leaving  == the masks of five windows, joined, are that of the sixteen moves that leave (x, y)
+--   past-right      == on the right of the floor all cells are blocked
+--   line-leaving    == the masks of three lines of windows, joined, are those of the sixteen moves that leave a vertex
 use Prim.Native.Nat.{ℕ, zero, suc, _+_, _-_, _*_, _%_, _^_, _≤_, _<_}
 use mathlib.Core.Path.{_≡_, refl, sym, ap, ap₂, _∙_, subst}
 use mathlib.Core.Logic.{⊎-elim}
@@ -37,7 +39,7 @@ use Rattle.basics.proofs.Bounded.{every-at, any-cases, any-one}
 use Rattle.basics.proofs.Order.{le-or-lt}
 use Rattle.floor.specs.Floor.{Floor, cellNumber, floorOf, blocked}
 use Rattle.floor.specs.Window.{WindowMap}
-use Rattle.floor.proofs.Cells.{blocked-inside}
+use Rattle.floor.proofs.Cells.{blocked-inside, blocked-right}
 use Rattle.sight.specs.Sight.{unblocked, pinch}
 use Rattle.moves.specs.declared.Move.{Move}
 use Rattle.moves.specs.declared.Rows.{Rows}
@@ -46,11 +48,12 @@ use Rattle.moves.specs.Steps.{up, down, endIf}
 use Rattle.moves.specs.Leaving.{leaves}
 use Rattle.moves.specs.Cells.{beside, windowBlocked, centre}
 use Rattle.moves.specs.Table.{isSome, Listed, sixteenRows, Within, Short, narrow, lawfulRows}
-use Rattle.moves.proofs.Table.{lawful-move, listed-lawful, same-row, each-listed}
+use Rattle.moves.proofs.Table.{lawful-move, listed-lawful, same-row, each-listed, sixteen-listed}
 use Rattle.moves.proofs.Cells.{cells-tell}
 use Rattle.masks.specs.Masks.{rowIf, pinchBit, pinchMask, Leaving, LeavingRow}
-use Rattle.masks.specs.Windows.{windowAt, pinchOf, openIn, startOf, Window, WindowsTo, WindowRow}
-use Rattle.masks.specs.Windows.{unitRows, unitMask, leftMask, rightMask, upperMask, lowerMask, joinedMask}
+use Rattle.masks.specs.Windows.{windowAt, pinchOf, openIn, startOf, Window, WindowsTo, WindowRow, WindowLines}
+use Rattle.masks.specs.Windows.{unitRows, allBits, unitMask, leftMask, rightMask, upperMask, lowerMask}
+use Rattle.masks.specs.Windows.{joinedMask}
 use Rattle.masks.proofs.Masks.{leaves-row}
 
 -- ---- the four cells
@@ -370,30 +373,34 @@ or-none false true = refl
 or-none false false = refl
 
 module _ (here left right upper lower : ℕ) where
-  abbrev rest : ℕ
-  rest =
-      bitOr
-      (bitOr (bitOr (bitOr (bitAnd here unitMask) (bitAnd left leftMask)) (bitAnd right rightMask)) (bitAnd upper upperMask))
-      (bitAnd lower lowerMask)
+  abbrev far-mask : ℕ
+  far-mask =
+      bitOr (bitOr (bitOr (bitAnd left leftMask) (bitAnd right rightMask)) (bitAnd upper upperMask)) (bitAnd lower lowerMask)
 
-  -- A bit of the five, by the bits of the constants.
-  abbrev five : ℕ → Bool → Bool → Bool → Bool → Bool → Bool
-  five k a b c d e =
-      ((((bit here k && a) || (bit left k && b)) || (bit right k && c)) || (bit upper k && d)) || (bit lower k && e)
+  abbrev joined-with : ℕ → ℕ
+  joined-with s = bitOr (bitAnd here unitMask) (bitAnd far-mask s)
 
-  rest-bit : (k : ℕ)
-      → bit rest k ≡ five k (bit unitMask k) (bit leftMask k) (bit rightMask k) (bit upperMask k) (bit lowerMask k)
-  rest-bit k =
-      bit-or (bitOr (bitOr (bitOr (bitAnd here unitMask) (bitAnd left leftMask)) (bitAnd right rightMask)) (bitAnd upper upperMask))
-      (bitAnd lower lowerMask) k
+  -- A bit of the four far ones, and of all five, by the bits of the constants.
+  abbrev four : ℕ → Bool → Bool → Bool → Bool → Bool
+  four k b c d e = (((bit left k && b) || (bit right k && c)) || (bit upper k && d)) || (bit lower k && e)
+
+  abbrev five : ℕ → Bool → Bool → Bool → Bool → Bool → Bool → Bool
+  five k a b c d e s = (bit here k && a) || (four k b c d e && s)
+
+  four-bit : (k : ℕ) → bit far-mask k ≡ four k (bit leftMask k) (bit rightMask k) (bit upperMask k) (bit lowerMask k)
+  four-bit k =
+      bit-or (bitOr (bitOr (bitAnd left leftMask) (bitAnd right rightMask)) (bitAnd upper upperMask)) (bitAnd lower lowerMask) k
       ∙ ap₂ _||_
-      (bit-or (bitOr (bitOr (bitAnd here unitMask) (bitAnd left leftMask)) (bitAnd right rightMask)) (bitAnd upper upperMask) k
+      (bit-or (bitOr (bitAnd left leftMask) (bitAnd right rightMask)) (bitAnd upper upperMask) k
       ∙ ap₂ _||_
-      (bit-or (bitOr (bitAnd here unitMask) (bitAnd left leftMask)) (bitAnd right rightMask) k
-      ∙ ap₂ _||_
-      (bit-or (bitAnd here unitMask) (bitAnd left leftMask) k
-      ∙ ap₂ _||_ (bit-and here unitMask k) (bit-and left leftMask k)) (bit-and right rightMask k))
-      (bit-and upper upperMask k)) (bit-and lower lowerMask k)
+      (bit-or (bitAnd left leftMask) (bitAnd right rightMask) k
+      ∙ ap₂ _||_ (bit-and left leftMask k) (bit-and right rightMask k)) (bit-and upper upperMask k)) (bit-and lower lowerMask k)
+
+  joined-bit : (s k : ℕ) → bit (joined-with s) k
+      ≡ five k (bit unitMask k) (bit leftMask k) (bit rightMask k) (bit upperMask k) (bit lowerMask k) (bit s k)
+  joined-bit s k =
+      bit-or (bitAnd here unitMask) (bitAnd far-mask s) k
+      ∙ ap₂ _||_ (bit-and here unitMask k) (bit-and far-mask s k ∙ ap (λ t. t && bit s k) (four-bit k))
 
   module _ (k : ℕ) where
     abbrev A : Bool
@@ -411,50 +418,57 @@ module _ (here left right upper lower : ℕ) where
     abbrev E : Bool
     E = bit lower k
 
-    none-2 : ((A && false) || (B && false)) ≡ false
-    none-2 = or-none (A && false) B ∙ and-false A
+    none-2 : ((B && false) || (C && false)) ≡ false
+    none-2 = or-none (B && false) C ∙ and-false B
 
-    none-3 : (((A && false) || (B && false)) || (C && false)) ≡ false
-    none-3 = or-none ((A && false) || (B && false)) C ∙ none-2
+    none-3 : (((B && false) || (C && false)) || (D && false)) ≡ false
+    none-3 = or-none ((B && false) || (C && false)) D ∙ none-2
 
-    none-4 : ((((A && false) || (B && false)) || (C && false)) || (D && false)) ≡ false
-    none-4 = or-none (((A && false) || (B && false)) || (C && false)) D ∙ none-3
+    none-4 : four k false false false false ≡ false
+    none-4 = or-none (((B && false) || (C && false)) || (D && false)) E ∙ none-3
 
-    of-here : five k true false false false false ≡ A
-    of-here =
-        or-none ((((A && true) || (B && false)) || (C && false)) || (D && false)) E
-        ∙ or-none (((A && true) || (B && false)) || (C && false)) D ∙ or-none ((A && true) || (B && false)) C
-        ∙ or-none (A && true) B ∙ and-true A
+    of-here : five k true false false false false true ≡ A
+    of-here = ap₂ (λ s t. s || (t && true)) (and-true A) none-4 ∙ or-false A
 
-    of-left : five k false true false false false ≡ B
+    -- A bit that the window at the vertex has not.
+    of-far : (b c d e t : Bool) → four k b c d e ≡ t → five k false b c d e true ≡ t
+    of-far b c d e t is = ap₂ (λ s t. s || (t && true)) (and-false A) is ∙ and-true t
+
+    of-left : five k false true false false false true ≡ B
     of-left =
-        or-none ((((A && false) || (B && true)) || (C && false)) || (D && false)) E
-        ∙ or-none (((A && false) || (B && true)) || (C && false)) D ∙ or-none ((A && false) || (B && true)) C
-        ∙ ap (λ t. t || (B && true)) (and-false A) ∙ and-true B
+        of-far true false false false B
+        (or-none (((B && true) || (C && false)) || (D && false)) E ∙ or-none ((B && true) || (C && false)) D
+        ∙ or-none (B && true) C ∙ and-true B)
 
-    of-right : five k false false true false false ≡ C
+    of-right : five k false false true false false true ≡ C
     of-right =
-        or-none ((((A && false) || (B && false)) || (C && true)) || (D && false)) E
-        ∙ or-none (((A && false) || (B && false)) || (C && true)) D
-        ∙ ap (λ t. t || (C && true)) none-2 ∙ and-true C
+        of-far false true false false C
+        (or-none (((B && false) || (C && true)) || (D && false)) E ∙ or-none ((B && false) || (C && true)) D
+        ∙ ap (λ t. t || (C && true)) (and-false B) ∙ and-true C)
 
-    of-upper : five k false false false true false ≡ D
+    of-upper : five k false false false true false true ≡ D
     of-upper =
-        or-none ((((A && false) || (B && false)) || (C && false)) || (D && true)) E
-        ∙ ap (λ t. t || (D && true)) none-3 ∙ and-true D
+        of-far false false true false D
+        (or-none (((B && false) || (C && false)) || (D && true)) E
+        ∙ ap (λ t. t || (D && true)) none-2 ∙ and-true D)
 
-    of-lower : five k false false false false true ≡ E
-    of-lower = ap (λ t. t || (E && true)) none-4 ∙ and-true E
+    of-lower : five k false false false false true true ≡ E
+    of-lower = of-far false false false true E (ap (λ t. t || (E && true)) none-3 ∙ and-true E)
 
-    of-none : five k false false false false false ≡ false
-    of-none = or-none ((((A && false) || (B && false)) || (C && false)) || (D && false)) E ∙ none-4
+    -- Where the four far ones are left out, a bit is that of the window at the vertex.
+    none-far : bit (joined-with 0) k ≡ (A && bit unitMask k)
+    none-far =
+        bit-or (bitAnd here unitMask) (bitAnd far-mask 0) k
+        ∙ ap₂ _||_ (bit-and here unitMask k)
+        (bit-and far-mask 0 k ∙ ap (λ t. bit far-mask k && t) (bit-zero k) ∙ and-false (bit far-mask k))
+        ∙ or-false (A && bit unitMask k)
 
 module _ (listed : Listed sixteenRows) (f : Floor) (x y : ℕ) (on : x ≤ f .wide) (in-y : y ≤ f .high)
     {here left right upper lower : ℕ} (H : Cells sixteenRows f x y here) (L : Cells sixteenRows f (x - 1) y left)
     (R : Cells sixteenRows f (suc x) y right) (U : Cells sixteenRows f x (y - 1) upper)
     (D : Cells sixteenRows f x (suc y) lower) where
   abbrev J : ℕ
-  J = rest here left right upper lower
+  J = joined-with here left right upper lower allBits
 
   module _ (free : pinch f x y ≡ false) where
     abbrev Says : ℕ → Type 0
@@ -479,8 +493,8 @@ module _ (listed : Listed sixteenRows) (f : Floor) (x y : ℕ) (on : x ≤ f .wi
         ∙ sym (told m X Y l p q ∙ rw free (and-true (not (closed listed f x y on in-y m X Y))))
 
     abbrev b : (k : ℕ) → bit J k ≡ five here left right upper lower k (bit unitMask k) (bit leftMask k) (bit rightMask k)
-        (bit upperMask k) (bit lowerMask k)
-    b = rest-bit here left right upper lower
+        (bit upperMask k) (bit lowerMask k) (bit allBits k)
+    b = joined-bit here left right upper lower allBits
 
     says-10 : (m : ℕ) → 10 + m < 16 → Says (10 + m)
     unfolding centre beside
@@ -517,24 +531,60 @@ module _ (listed : Listed sixteenRows) (f : Floor) (x y : ℕ) (on : x ≤ f .wi
         let e : 5 + m ≡ suc (suc (suc (suc (suc m)))) = omega arith in
         subst Says e (says-5 m (omega arith))
 
+  -- The window of a pinch has no row.
+  row-shut : (m : ℕ) → m < 16 → pinch f x y ≡ true → bit here (rowAt sixteenRows m) ≡ false
+  unfolding pinch
+  row-shut m l is =
+      H .rows m l
+      ∙ rw is (and-false (not (windowBlocked (moveAt sixteenRows m .dx) (moveAt sixteenRows m .dy) (blocked f x y) (blocked f (suc x) y)
+      (blocked f x (suc y)) (blocked f (suc x) (suc y)))))
+
   pub joined-leaving : Leaving f sixteenRows x y (joinedMask here left right upper lower)
   joined-leaving = cases (bit here pinchBit) refl
     where
-      cases : (p : Bool) → bit here pinchBit ≡ p → Leaving f sixteenRows x y (pick p pinchMask J)
+      cases : (p : Bool) → bit here pinchBit ≡ p
+          → Leaving f sixteenRows x y (joined-with here left right upper lower (pick p 0 allBits))
       cases true e =
           let is : pinch f x y ≡ true = sym (H .mark) ∙ e in
           record {
             rows = record {
               at = λ m l.
-                  pinch-row listed m l
+                  none-far here left right upper lower (rowAt sixteenRows m)
+                  ∙ ap (λ t. t && bit unitMask (rowAt sixteenRows m)) (row-shut m l is)
                   ∙ sym (leaves-row f x y on (rowAt sixteenRows m)
                   ∙ rw is (and-false (rowIf unblocked f x y (rowAt sixteenRows m))));
             };
-            mark = sym is;
+            mark = none-far here left right upper lower pinchBit ∙ and-true (bit here pinchBit) ∙ H .mark;
           }
       cases false e =
           let free : pinch f x y ≡ false = sym (H .mark) ∙ e in
           record {
             rows = record { at = λ m l. says free m l };
-            mark = rest-bit here left right upper lower pinchBit ∙ of-none here left right upper lower pinchBit ∙ sym free;
+            mark =
+                joined-bit here left right upper lower allBits pinchBit ∙ of-here here left right upper lower pinchBit ∙ H .mark;
           }
+
+-- ---- the windows of three lines
+
+-- On the right of the floor all cells are blocked.
+pub past-right : (f : Floor) (y : ℕ) → 15 ≡ windowAt f (suc (f .wide)) y
+past-right f y =
+    rw (
+      blocked-right f (suc (f .wide)) y (omega arith),
+      blocked-right f (suc (f .wide)) (suc y) (omega arith),
+      blocked-right f (suc (suc (f .wide))) y (omega arith),
+      blocked-right f (suc (suc (f .wide))) (suc y) (omega arith),
+    )
+
+module _ {f : Floor} {y : ℕ} {t above here below : List ℕ} (W : WindowsTo sixteenRows 16 t)
+    (L : WindowLines f y t above here below) (in-y : y ≤ f .high) where
+  pub line-leaving : (x : ℕ) {left right : ℕ} → x ≤ f .wide → left ≡ getD t (windowAt f (x - 1) y) 0
+      → right ≡ getD t (windowAt f (suc x) y) 0
+      → Leaving f sixteenRows x y (joinedMask (getD here x 0) left right (getD above x 0) (getD below x 0))
+  line-leaving x on l r =
+      joined-leaving sixteen-listed f x y on in-y
+      (subst (Cells sixteenRows f x y) (sym (L .middle .at x (omega arith))) (window-read W f x y refl))
+      (subst (Cells sixteenRows f (x - 1) y) (sym l) (window-read W f (x - 1) y refl))
+      (subst (Cells sixteenRows f (suc x) y) (sym r) (window-read W f (suc x) y refl))
+      (subst (Cells sixteenRows f x (y - 1)) (sym (L .upper .at x (omega arith))) (window-read W f x (y - 1) refl))
+      (subst (Cells sixteenRows f x (suc y)) (sym (L .lower .at x (omega arith))) (window-read W f x (suc y) refl))

@@ -11,11 +11,14 @@
 --   Window r b n     == n is the mask of the rows r where the four cells are b
 --   WindowsTo r k l  == the list l has these masks for the numbers below k
 --   WindowRow f y t n l == the list l begins with the masks, of those in t, of the windows at the first n vertices of row y
+--   WindowLines f y t above here below == these lists are such masks for row y and for the rows above and below it
 --   unitRows r       == no move of the rows r goes two columns or two rows
+--   allBits          == the mask with the bits of all rows
 --   unitMask, leftMask, rightMask, upperMask, lowerMask == of the rows of the sixteen, those of the eight moves by at most
---                       one column and one row, and of those by two, those that go left, right, up and down
---   joinedMask here left right upper lower == the rows of each from the masks of five windows; the mask of a pinch where
---                       the first is that of one
+--                       one column and one row, with the bit of a pinch, and of those by two, those that go left, right,
+--                       up and down
+--   joinedMask here left right upper lower == the rows of each from the masks of five windows; those of the first alone
+--                       where that one is a pinch
 use Prim.Native.Nat.{ℕ, suc, _+_, _-_, _*_, _/_, _≤_, _<_}
 use mathlib.Core.Path.{_≡_}
 use mathlib.Core.Bool.{Bool, _&&_, _||_, not}
@@ -32,7 +35,7 @@ use Rattle.moves.specs.declared.Rows.{Rows}
 use Rattle.moves.specs.Moves.{rowAt, moveAt}
 use Rattle.moves.specs.Steps.{up, down}
 use Rattle.moves.specs.Cells.{windowBlocked}
-use Rattle.masks.specs.Masks.{pinchBit, pinchMask}
+use Rattle.masks.specs.Masks.{pinchBit}
 
 abbrev pub pairAt : Floor → ℕ → ℕ → ℕ
 pairAt f x y = pick (blocked f x y) 1 0 + pick (blocked f x (suc y)) 4 0
@@ -61,13 +64,21 @@ pub record WindowRow (f : Floor) (y : ℕ) (t : List ℕ) (n : ℕ) (l : List �
   pub len : length l ≡ 128
   pub at : (x : ℕ) → x < n → getD l x 0 ≡ getD t (windowAt f x y) 0
 
+pub record WindowLines (f : Floor) (y : ℕ) (t above here below : List ℕ) : Type 0 where
+  pub upper : WindowRow f (y - 1) t (suc (f .wide)) above
+  pub middle : WindowRow f y t (suc (f .wide)) here
+  pub lower : WindowRow f (suc y) t (suc (f .wide)) below
+
 -- ---- the rows of the sixteen by where their cells are
 
 abbrev pub unitRows : Rows → Bool
 unitRows r = every (r .count) (λ m. leb (natAbs (moveAt r m .dx)) 1 && leb (natAbs (moveAt r m .dy)) 1)
 
+abbrev pub allBits : ℕ
+allBits = 4294967295
+
 abbrev pub unitMask : ℕ
-unitMask = 1431633920
+unitMask = 1431666688
 
 abbrev pub leftMask : ℕ
 leftMask = 41943040
@@ -83,7 +94,7 @@ lowerMask = 2621440
 
 abbrev pub joinedMask : ℕ → ℕ → ℕ → ℕ → ℕ → ℕ
 joinedMask here left right upper lower =
-    pick (bit here pinchBit) pinchMask
-    (bitOr
-    (bitOr (bitOr (bitOr (bitAnd here unitMask) (bitAnd left leftMask)) (bitAnd right rightMask)) (bitAnd upper upperMask))
-    (bitAnd lower lowerMask))
+    bitOr (bitAnd here unitMask)
+    (bitAnd
+    (bitOr (bitOr (bitOr (bitAnd left leftMask) (bitAnd right rightMask)) (bitAnd upper upperMask)) (bitAnd lower lowerMask))
+    (pick (bit here pinchBit) 0 allBits))

@@ -12,9 +12,9 @@ ghost use Rattle.floor.specs.Floor.{floorOf, vertices, number};
 ghost use Rattle.floor.specs.Known.{Sized};
 ghost use Rattle.moves.specs.Moves.{moveOf, rowCount};
 ghost use Rattle.moves.specs.Table.{Listed, eightRows, sixteenRows, tableOf, Short, narrow, OnFloor};
-ghost use Rattle.masks.specs.Masks.{OpenMasks, LeavingRow, LeavingTo};
+ghost use Rattle.masks.specs.Masks.{OpenMasks, LeavingRow, LeavingTo, pinchBit};
 ghost use Rattle.masks.specs.Windows.{pairAt, startOf, openIn, pinchOf, Window, WindowsTo};
-ghost use Rattle.masks.specs.Windows.{WindowRow, joinedMask};
+ghost use Rattle.masks.specs.Windows.{WindowRow, WindowLines, joinedMask, allBits};
 ghost use Rattle.masks.specs.Masks.{Cleared, WithoutBit, turnedRow, ClearsMove, ClearsTo};
 use moves::EIGHT_ROWS;
 use moves::Rows;
@@ -24,9 +24,12 @@ use moves::Step;
 // The mask of a pinch: no row, and a bit that is no row's of a neighbourhood.
 const PINCH: u32 = 32768;
 
-// Of the rows of the sixteen, those of the eight moves by at most one column and one row; and of those by two columns or
-// rows, those that go left, right, up and down.
-const UNIT: u32 = 1431633920;
+// The bits of all rows.
+const ALL: u32 = 4294967295;
+
+// Of the rows of the sixteen, those of the eight moves by at most one column and one row, with the bit of a pinch; and
+// of those by two columns or rows, those that go left, right, up and down.
+const UNIT: u32 = 1431666688;
 
 const LEFT: u32 = 41943040;
 
@@ -146,11 +149,11 @@ fn pair_at(w: usize, h: usize, map: &[u8], x: usize, y: usize) -> usize
     bit_where(upper, 1) + bit_where(lower, 4)
 }
 
-// The masks of the windows of row y: each is read from `windows` by the four cells at the vertex, of which the two on its left
-// are those that were on the right of the vertex before. Where no move goes two columns or rows, they are the masks of the
-// vertices.
-fn unit_row(w: usize, h: usize, map: &[u8], y: usize, windows: [u32; 16]) -> [u32; 128]
-    requires { ⌜ Sized w h (now map) × (y ≤ h) × (length windows ≡ 16) ⌝ }
+// The masks of the windows of line y: each is read from `windows` by the four cells at the vertex, of which the two on
+// its left are those that were on the right of the vertex before. Line h + 1 is past the floor, where all cells are
+// blocked.
+pub fn window_row(w: usize, h: usize, map: &[u8], y: usize, windows: [u32; 16]) -> [u32; 128]
+    requires { ⌜ Sized w h (now map) × (y ≤ suc h) × (length windows ≡ 16) ⌝ }
     ensures { λ r. ⌜ WindowRow (floorOf w h (now (map .entry))) y windows (suc w) r ⌝ }
 {
     let mut masks = [0; 128];
@@ -163,18 +166,54 @@ fn unit_row(w: usize, h: usize, map: &[u8], y: usize, windows: [u32; 16]) -> [u3
     masks
 }
 
-// The mask of the sixteen moves that leave a vertex, from the windows at the vertex and at those on its left, its right,
-// above and below it: a move by two columns or rows has its cells in the window that it goes through.
+// All bits where a window is no pinch, by its mask.
+fn all_unless_pinch(here: u32) -> u32
+    ensures { λ r. ⌜ r ≡ pick (bit here pinchBit) 0 allBits ⌝ }
+{
+    if (here >> 15) % 2 == 1 {
+        return 0;
+    }
+    ALL
+}
+
+// The mask of the sixteen moves that leave a vertex, from the windows at the vertex and at those on its left, its
+// right, above and below it: a move by two columns or rows has its cells in the window that it goes through. The mask
+// of a window that is a pinch has no row, and the others' rows are taken off by bits, so that nothing has to branch and
+// several vertices are joined at a time.
 fn joined(here: u32, left: u32, right: u32, upper: u32, lower: u32) -> u32
     ensures { λ r. ⌜ r ≡ joinedMask here left right upper lower ⌝ }
 {
-    if (here >> 15) % 2 == 1 {
-        return PINCH;
-    }
-    (here & UNIT) | (left & LEFT) | (right & RIGHT) | (upper & UPPER) | (lower & LOWER)
+    let far = (left & LEFT) | (right & RIGHT) | (upper & UPPER) | (lower & LOWER);
+    (here & UNIT) | (far & all_unless_pinch(here))
 }
 
-// The row line above line y; line 0 itself, above which every cell is blocked as in its own upper cells.
+// The masks of the vertices of row y, for the sixteen, from the windows of its line and of the lines above and below.
+// On the right of the last vertex all cells are blocked.
+fn joined_row(
+    w: usize,
+    h: usize,
+    map: &[u8],
+    y: usize,
+    windows: [u32; 16],
+    above: [u32; 128],
+    here: [u32; 128],
+    below: [u32; 128],
+) -> [u32; 128]
+    requires { ⌜ Sized w h (now map) × (y ≤ h) × WindowsTo sixteenRows 16 windows
+        × WindowLines (floorOf w h (now map)) y windows above here below ⌝ }
+    ensures { λ r. ⌜ LeavingRow (floorOf w h (now (map .entry))) sixteenRows y (suc w) r ⌝ }
+{
+    let mut masks = [0; 128];
+    let mut before = here[0];
+    for x in 0..w {
+        masks[x] = joined(here[x], before, here[x + 1], above[x], below[x]);
+        before = here[x];
+    }
+    masks[w] = joined(here[w], before, windows[15], above[w], below[w]);
+    masks
+}
+
+// The line above line y; line 0 itself, above which every cell is blocked as in its own upper cells.
 fn line_above(y: usize) -> usize
     ensures { λ r. ⌜ (r ≡ y - 1) × (r ≤ y) ⌝ }
 {
@@ -184,39 +223,27 @@ fn line_above(y: usize) -> usize
     y - 1
 }
 
-// The masks of the vertices of row y, for the sixteen. The windows are read with the pairs of cells that were on the right of
-// the vertex before.
-fn sixteen_row(w: usize, h: usize, map: &[u8], y: usize, windows: [u32; 16]) -> [u32; 128]
-    requires { ⌜ Sized w h (now map) × (y ≤ h) × WindowsTo sixteenRows 16 windows ⌝ }
-    ensures { λ r. ⌜ LeavingRow (floorOf w h (now (map .entry))) sixteenRows y (suc w) r ⌝ }
+// The masks of the moves that leave the vertices of row y, from the windows of its line and of the lines above and
+// below. Where no move goes two columns or rows, they are those of its line.
+pub fn leaving_between(
+    w: usize,
+    h: usize,
+    map: &[u8],
+    rows: Rows,
+    y: usize,
+    windows: [u32; 16],
+    above: [u32; 128],
+    here: [u32; 128],
+    below: [u32; 128],
+) -> [u32; 128]
+    requires { ⌜ Sized w h (now map) × (y ≤ h) × Listed rows × WindowsTo rows 16 windows
+        × WindowLines (floorOf w h (now map)) y windows above here below ⌝ }
+    ensures { λ r. ⌜ LeavingRow (floorOf w h (now (map .entry))) rows y (suc w) r ⌝ }
 {
-    let above = line_above(y);
-    let mut masks = [0; 128];
-    let mut upper = pair_at(w, h, map, 0, above);
-    let mut lower = pair_at(w, h, map, 0, y + 1);
-    let first = pair_at(w, h, map, 0, y);
-    let mut right = pair_at(w, h, map, 1, y);
-    let mut here = windows[first + 2 * right];
-    let mut before = here;
-    for x in 0..w + 1 {
-        let next_upper = pair_at(w, h, map, x + 1, above);
-        let next_lower = pair_at(w, h, map, x + 1, y + 1);
-        let next_right = pair_at(w, h, map, x + 2, y);
-        let next = windows[right + 2 * next_right];
-        masks[x] = joined(
-            here,
-            before,
-            next,
-            windows[upper + 2 * next_upper],
-            windows[lower + 2 * next_lower],
-        );
-        before = here;
-        here = next;
-        right = next_right;
-        upper = next_upper;
-        lower = next_lower;
+    if rows.count == 16 {
+        return joined_row(w, h, map, y, windows, above, here, below);
     }
-    masks
+    here
 }
 
 // The masks of the moves that leave the vertices of row y, by the masks of the windows.
@@ -231,30 +258,50 @@ pub fn leaving_row(
     requires { ⌜ Sized w h (now map) × (y ≤ h) × Listed rows × WindowsTo rows 16 windows ⌝ }
     ensures { λ r. ⌜ LeavingRow (floorOf w h (now (map .entry))) rows y (suc w) r ⌝ }
 {
-    if rows.count == 16 {
-        return sixteen_row(w, h, map, y, windows);
+    let here = window_row(w, h, map, y, windows);
+    if rows.count != 16 {
+        return here;
     }
-    unit_row(w, h, map, y, windows)
+    let above = window_row(w, h, map, line_above(y), windows);
+    let below = window_row(w, h, map, y + 1, windows);
+    joined_row(w, h, map, y, windows, above, here, below)
 }
 
-// Stores the masks of the vertices of row y, where those of the rows before it are stored.
-fn fill_row(
+// Stores the masks of the vertices of row y, where those of the rows before it are stored. The map is for the contract
+// only.
+fn store_row(
     w: usize,
     h: usize,
     map: &[u8],
     rows: Rows,
     y: usize,
-    windows: [u32; 16],
+    leaving: [u32; 128],
     masks: &mut [u32],
 )
-    requires { ⌜ Sized w h (now map) × (y ≤ h) × Listed rows × WindowsTo rows 16 windows
+    requires { ⌜ Sized w h (now map) × (y ≤ h) × LeavingRow (floorOf w h (now map)) rows y (suc w) leaving
         × LeavingTo (floorOf w h (now map)) rows (number w 0 y) (now masks) ⌝ }
     ensures { λ _. ⌜ LeavingTo (floorOf w h (now (map .entry))) rows (number w 0 (y + 1)) (now (masks .exit)) ⌝ }
 {
-    let leaving = leaving_row(w, h, map, rows, y, windows);
     let first = y * (w + 1);
     for x in 0..w + 1 {
         masks[first + x] = leaving[x];
+    }
+}
+
+// Stores the masks of the moves that leave each vertex. The windows of a line are read once, and kept for the rows
+// above and below.
+fn fill_leaving(w: usize, h: usize, map: &[u8], rows: Rows, windows: [u32; 16], masks: &mut [u32])
+    requires { ⌜ Sized w h (now map) × Listed rows × WindowsTo rows 16 windows × (length (now masks) ≡ vertices w h) ⌝ }
+    ensures { λ _. ⌜ LeavingTo (floorOf w h (now (map .entry))) rows (vertices w h) (now (masks .exit)) ⌝ }
+{
+    let mut above = window_row(w, h, map, 0, windows);
+    let mut here = above;
+    for y in 0..h + 1 {
+        let below = window_row(w, h, map, y + 1, windows);
+        let leaving = leaving_between(w, h, map, rows, y, windows, above, here, below);
+        store_row(w, h, map, rows, y, leaving, masks);
+        above = here;
+        here = below;
     }
 }
 
@@ -351,9 +398,7 @@ pub fn fill_masks(w: usize, h: usize, map: &[u8], rows: Rows, masks: &mut [u32])
     ensures { λ _. ⌜ OpenMasks (floorOf w h (now (map .entry))) rows (now (masks .exit)) ⌝ }
 {
     let windows = window_masks(rows);
-    for y in 0..h + 1 {
-        fill_row(w, h, map, rows, y, windows, masks);
-    }
+    fill_leaving(w, h, map, rows, windows, masks);
     for y in 0..h + 1 {
         clear_row(w, h, map, rows, y, masks);
     }

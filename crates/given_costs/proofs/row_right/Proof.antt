@@ -20,17 +20,17 @@ use Rattle.given_costs.proofs.row_right.Statement.{statement}
 use Rattle.given_costs.proofs.row_right.Tie as tie
 
 abbrev Inv-loop : tie.InvT-loop
-Inv-loop w h map rows a d y shifts classes leaving first right₀ x₀ x-end right x =
+Inv-loop w h map rows a d y leaving shifts classes first right₀ x₀ x-end right x =
     (right ≡ every x (columnTest (leavingGraph (floorOf w h map) rows) a d w y)) × (x ≤ w + 1)
 
 abbrev μ-loop : tie.MeasureT-loop
-μ-loop w h map rows a d y shifts classes leaving first right₀ x₀ x-end right x = x-end - x
+μ-loop w h map rows a d y leaving shifts classes first right₀ x₀ x-end right x = x-end - x
 
 abbrev entered : tie.After-classes-of Inv-loop μ-loop → tie.Start Inv-loop μ-loop
 entered c = c .before .before .before .before
 
 abbrev start : tie.In-loop Inv-loop μ-loop → tie.Start Inv-loop μ-loop
-start c = entered (c .before .before .before)
+start c = entered (c .before .before)
 
 -- The vertex is on the floor, and the code has its number.
 on-row : (c : tie.In-loop Inv-loop μ-loop)
@@ -48,8 +48,8 @@ at-number c = let a = start c .args in ap (λ z. a .y * z + c .before .loop .x) 
 mask-of : (c : tie.In-loop Inv-loop μ-loop)
     → let a = start c .args in
     let x = c .before .loop .x in
-    Leaving (floorOf (a .w) (a .h) (a .map .now)) (a .rows) x (a .y) (getD (c .before .before .leaving-row .result) x 0)
-mask-of c = c .before .before .leaving-row .ensures .at _ (omega (arith, on-row c .column))
+    Leaving (floorOf (a .w) (a .h) (a .map .now)) (a .rows) x (a .y) (getD (a .t7) x 0)
+mask-of c = start c .pre .3 .at _ (omega (arith, on-row c .column))
 
 shifts-of-requires : tie.Need-shifts-of-requires Inv-loop μ-loop
 shifts-of-requires c κs = search needs
@@ -57,15 +57,12 @@ shifts-of-requires c κs = search needs
 classes-of-requires : tie.Need-classes-of-requires Inv-loop μ-loop
 classes-of-requires c κs = search needs
 
-leaving-row-requires : tie.Need-leaving-row-requires Inv-loop μ-loop
-leaving-row-requires c κs = let p = entered c .pre in (p .0 .sized, p .2, p .0 .listed, p .3)
-
 add-first : tie.Need-add-first Inv-loop μ-loop
 add-first c = search needs
 
 mul-first : tie.Need-mul-first Inv-loop μ-loop
 mul-first c =
-    let s = entered (c .before) in
+    let s = entered c in
     let z = s .pre .0 .sized in
     let y : s .args .y ≤ 128 = omega (arith, z .high, s .pre .2) in
     omega (arith, mul-fits {a = s .args .y} {b = s .args .w + 1} y (omega (arith, z .wide)))
@@ -95,7 +92,7 @@ add-vertex-right c =
 vertex-right-requires : tie.Need-vertex-right-requires Inv-loop μ-loop
 vertex-right-requires c κs =
     let t = c .before in
-    let k = t .before .before .before in
+    let k = t .before .before in
     let p = start t .pre in (
       column-readable (p .0) (k .before .shifts-of .ensures) (on-row t) (mask-of t) (at-number t) (p .1),
       k .classes-of .ensures,
@@ -113,7 +110,7 @@ loop-again c =
     let t = r .before .before in
     let p = start t .pre in
     let i = t .before .loop .inv .0 in
-    let is = column-right (p .0) (t .before .before .before .before .shifts-of .ensures) (on-row t) (mask-of t)
+    let is = column-right (p .0) (t .before .before .before .shifts-of .ensures) (on-row t) (mask-of t)
     (at-number t) (start t .args .d .now) (p .1) (r .vertex-right .ensures) in (
       ⊎-elim (λ w. w .1 ∙ flag-stops _ _ is (w .0 .taken)) (λ w. w .1 ∙ flag-keeps _ _ is i (w .0 .left))
           (c .if1 .came),
@@ -123,7 +120,7 @@ loop-again c =
 returns : tie.Need-returns Inv-loop μ-loop
 returns c =
     let l = c .before in
-    let e : l .loop .x ≡ entered (l .before .before) .args .w + 1 = omega (arith, l .loop .inv .1) in
+    let e : l .loop .x ≡ entered (l .before) .args .w + 1 = omega (arith, l .loop .inv .1) in
     rw (e, add-one) at (l .loop .inv .0)
 
 pub row-right-spec : {M : Type 1} → statement M
@@ -134,7 +131,6 @@ row-right-spec =
     μ-loop
     shifts-of-requires
     classes-of-requires
-    leaving-row-requires
     add-first
     mul-first
     add-x-end

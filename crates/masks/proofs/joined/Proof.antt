@@ -1,15 +1,13 @@
--- `masks::joined` meets its contract: the test is the bit of a pinch, and the constants are those of `joinedMask`. Assumes
--- nothing.
-use Prim.Native.Nat.{_/_, _%_, _^_}
-use borrow.Author.Tests.{eq-eqb, ne-eqb}
+-- `masks::joined` meets its contract: the constants are those of `joinedMask`. Assumes nothing.
+use borrow.Author.Needs.{needs}
 use Rattle.masks.proofs.joined.Statement.{statement}
 use Rattle.masks.proofs.joined.Tie as tie
 
-returns : tie.Need-returns
-returns c = rw (eq-eqb (c .before .args .here / 2 ^ 15 % 2) 1 (c .if1 .taken))
+all-unless-pinch-requires : tie.Need-all-unless-pinch-requires
+all-unless-pinch-requires c κs = search needs
 
-returns-2 : tie.Need-returns-2
-returns-2 c = rw (ne-eqb (c .before .args .here / 2 ^ 15 % 2) 1 (c .if1 .left))
+returns : tie.Need-returns
+returns c = rw (c .all-unless-pinch .ensures)
 
 pub joined-spec : {M : Type 1} → statement M
-joined-spec = tie.close (tie.spec returns returns-2)
+joined-spec = tie.close (tie.spec all-unless-pinch-requires returns)

@@ -1,5 +1,5 @@
--- `masks::unit_row` meets its contract: the windows of the vertices before column x of the row are read, and `left` has the
--- two cells on the left of that one. Assumes nothing.
+-- `masks::window_row` meets its contract: the windows of the vertices before column x of the line are read, and `left`
+-- has the two cells on the left of that one. Assumes nothing.
 use Prim.Native.Nat.{suc, _+_, _-_, _*_, _≤_}
 use mathlib.Core.Path.{_≡_, refl, ap, ap₂, _∙_}
 use native.Mathlib.Omega.{arith}
@@ -8,8 +8,8 @@ use Rattle.floor.specs.Floor.{floorOf}
 use Rattle.masks.specs.Windows.{pairAt, windowAt, WindowRow}
 use Rattle.masks.proofs.Windows.{read-none, read-more}
 use borrow.Author.Needs.{needs}
-use Rattle.masks.proofs.unit_row.Statement.{statement}
-use Rattle.masks.proofs.unit_row.Tie as tie
+use Rattle.masks.proofs.window_row.Statement.{statement}
+use Rattle.masks.proofs.window_row.Tie as tie
 
 abbrev Inv-loop : tie.InvT-loop
 Inv-loop w h map y windows masks₀ left₀ x₀ x-end masks left x =
@@ -83,8 +83,8 @@ returns c =
     let e : l .loop .x ≡ suc (start l .args .w) = omega (arith, l .loop .inv .3) in
     rw e at (l .loop .inv .0)
 
-pub unit-row-spec : {M : Type 1} → statement M
-unit-row-spec =
+pub window-row-spec : {M : Type 1} → statement M
+window-row-spec =
     tie.close
     (tie.spec
     Inv-loop

@@ -1,5 +1,5 @@
--- `masks::fill_row` meets its contract: the masks of the vertices before column x of the row are stored, of whatever rows
--- they are. Assumes nothing.
+-- `masks::store_row` meets its contract: the masks of the vertices before column x of the row are stored, of whatever
+-- rows they are. Assumes nothing.
 use Prim.Native.Nat.{suc, _+_, _-_, _*_, _≤_, _<_}
 use mathlib.Core.Path.{_≡_, sym, ap, _∙_}
 use native.Mathlib.Omega.{arith}
@@ -11,8 +11,8 @@ use Rattle.floor.proofs.Numbers.{number-lt, vertices-le}
 use Rattle.moves.specs.declared.Rows.{Rows}
 use Rattle.masks.specs.Masks.{LeavingRow, LeavingTo}
 use Rattle.masks.proofs.Masks.{leaving-more, leaving-fewer}
-use Rattle.masks.proofs.fill_row.Statement.{statement}
-use Rattle.masks.proofs.fill_row.Tie as tie
+use Rattle.masks.proofs.store_row.Statement.{statement}
+use Rattle.masks.proofs.store_row.Tie as tie
 
 abbrev Inv-loop : tie.InvT-loop
 Inv-loop w h map y masks₀ leaving first x₀ x-end masks x =
@@ -23,10 +23,7 @@ abbrev μ-loop : tie.MeasureT-loop
 μ-loop w h map y masks₀ leaving first x₀ x-end masks x = x-end - x
 
 abbrev start : tie.At-loop Inv-loop μ-loop → tie.Start Inv-loop μ-loop
-start l = l .before .before .before .before
-
-leaving-row-requires : tie.Need-leaving-row-requires Inv-loop μ-loop
-leaving-row-requires c κs = let p = c .before .before .pre in (p .0, p .1, p .2, p .3)
+start l = l .before
 
 -- The row's first vertex has a small number.
 small : (s : tie.Start Inv-loop μ-loop) → s .args .y * (s .args .w + 1) ≤ 127 * 128
@@ -35,16 +32,16 @@ small s =
     (omega (arith, s .pre .0 .wide))
 
 add-first : tie.Need-add-first Inv-loop μ-loop
-add-first c = omega (arith, c .before .before .before .pre .0 .wide)
+add-first c = omega (arith, c .pre .0 .wide)
 
 mul-first : tie.Need-mul-first Inv-loop μ-loop
-mul-first c = omega (arith, small (c .before .before .before))
+mul-first c = omega (arith, small c)
 
 add-x-end : tie.Need-add-x-end Inv-loop μ-loop
-add-x-end c = omega (arith, c .before .before .before .pre .0 .wide)
+add-x-end c = omega (arith, c .pre .0 .wide)
 
 loop-holds : tie.Need-loop-holds Inv-loop μ-loop
-loop-holds c = (λ r L R. L, c .before .before .before .pre .4 .len, omega arith)
+loop-holds c = (λ r L R. L, c .pre .3 .len, omega arith)
 
 mul-masks : tie.Need-mul-masks Inv-loop μ-loop
 mul-masks c = omega (arith, start (c .before) .pre .0 .wide)
@@ -89,12 +86,12 @@ loop-again c =
       λ r L R.
           rw add-one (leaving-more x (s .args .y) (l .loop .inv .0 r L R) (omega arith) (place l) (inside l (omega arith))
           (R .at x (omega arith))),
-      length-set (l .loop .masks) at (getD (l .before .leaving-row .result) x 0) ∙ l .loop .inv .1,
+      length-set (l .loop .masks) at (getD (s .args .t6) x 0) ∙ l .loop .inv .1,
       omega arith,
     )
 
 same-length : tie.Need-same-length Inv-loop μ-loop
-same-length c = let l = c .before in l .loop .inv .1 ∙ sym (start l .pre .4 .len)
+same-length c = let l = c .before in l .loop .inv .1 ∙ sym (start l .pre .3 .len)
 
 returns : tie.Need-returns Inv-loop μ-loop
 returns c =
@@ -102,15 +99,14 @@ returns c =
     let a = start l .args in
     let next : number (a .w) (a .w + 1) (a .y) ≡ number (a .w) 0 (a .y + 1) =
     sym (ap (λ z. z * suc (a .w) + 0) (add-one (a .y)) ∙ omega arith) in
-    leaving-fewer (l .loop .inv .0 (a .rows) (start l .pre .4) (l .before .leaving-row .ensures)) (omega (arith, next))
+    leaving-fewer (l .loop .inv .0 (a .rows) (start l .pre .3) (start l .pre .2)) (omega (arith, next))
 
-pub fill-row-spec : {M : Type 1} → statement M
-fill-row-spec =
+pub store-row-spec : {M : Type 1} → statement M
+store-row-spec =
     tie.close
     (tie.spec
     Inv-loop
     μ-loop
-    leaving-row-requires
     add-first
     mul-first
     add-x-end
