@@ -10,16 +10,16 @@ use Rattle.route.proofs.lend_map.Statement.{statement}
 use Rattle.route.proofs.lend_map.Tie as tie
 
 few : (c : tie.After-map-length) → c .map-length .result ≤ 961
-few c = omega (arith, few-bytes _ _ _ (c .before .before .pre), c .map-length .ensures .0)
+few c = omega (arith, few-bytes _ _ _ (c .before .before .pre .0), c .map-length .ensures .0)
 
 few-costs : (c : tie.After-vertex-count) → c .vertex-count .result ≤ 1024
-few-costs c = omega (arith, few-places _ _ _ (c .before .before .before .pre), c .vertex-count .ensures .0)
+few-costs c = omega (arith, few-places _ _ _ (c .before .before .before .pre .0), c .vertex-count .ensures .0)
 
 map-length-requires : tie.Need-map-length-requires
-map-length-requires c κs = map-sides _ _ _ (c .before .pre)
+map-length-requires c κs = map-sides _ _ _ (c .before .pre .0)
 
 vertex-count-requires : tie.Need-vertex-count-requires
-vertex-count-requires c κs = map-sides _ _ _ (c .before .before .pre)
+vertex-count-requires c κs = map-sides _ _ _ (c .before .before .pre .0)
 
 array-borrow-prefix-map : tie.Need-array-borrow-prefix-map
 array-borrow-prefix-map c = few (c .before)
@@ -36,7 +36,8 @@ slice-aggregate-run-jobs-2 c = taken _ _ (few-costs (c .before .before))
 run-jobs-requires : tie.Need-run-jobs-requires
 run-jobs-requires c κs =
     let v = c .before .before in (
-      v .before .before .before .pre,
+      v .before .before .before .pre .0,
+      v .before .before .before .pre .1,
       sym (taken _ _ (few (v .before))) ∙ v .before .map-length .ensures .0,
       sym (taken _ _ (few-costs v)) ∙ v .vertex-count .ensures .0,
     )

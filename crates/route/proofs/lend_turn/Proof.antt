@@ -8,7 +8,7 @@ use Rattle.route.proofs.lend_turn.Statement.{statement}
 use Rattle.route.proofs.lend_turn.Tie as tie
 
 few : (c : tie.After-vertex-count) → c .vertex-count .result ≤ 1024
-few c = omega (arith, few-vertices (c .before .before .before .before .pre .1), c .vertex-count .ensures .0)
+few c = omega (arith, few-vertices (c .before .before .before .before .pre .2), c .vertex-count .ensures .0)
 
 vertex-count-requires : tie.Need-vertex-count-requires
 vertex-count-requires c κs = search needs
@@ -66,9 +66,11 @@ write-turn-requires c κs =
     let v = c .before .before .before .before .before .before .before .before .before in
     let s = v .before .before .before .before in (
       s .pre .0,
-      lent (s .pre .1) (s .pre .2) (v .vertex-count .ensures .0) _ _ _ _ _ _ _ _
+      s .pre .1,
+      lent (s .pre .2) (s .pre .3) (v .vertex-count .ensures .0) _ _ _ _ _ _ _ _
           (omega arith) (omega arith) (omega arith) (omega arith) (omega arith) (omega arith) (omega arith)
           (omega arith),
+      omega arith,
     )
 
 same-length : tie.Need-same-length

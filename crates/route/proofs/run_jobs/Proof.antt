@@ -1,46 +1,65 @@
--- `route::run_jobs` meets its contract: the cells copied are a small floor, and each turn but the last moves the cursor
--- on, so that less of the input is left; the costs keep their length. Depends on libc's write.
-use Prim.Native.Nat.{_-_, _≤_}
+-- `route::run_jobs` meets its contract: before each turn the text from its cursor on is due, and each turn but the last
+-- moves the cursor on, so that less of the input is left; the costs keep their length. Depends on libc's write.
+use Prim.Native.Nat.{_-_}
 use mathlib.Core.Path.{_≡_, _∙_}
+use mathlib.Core.Bool.{true}
 use borrow.Author.Needs.{needs}
 use native.Mathlib.Omega.{arith}
 use lib.ListN.{length}
 use Rattle.floor.specs.Floor.{vertices}
 use Rattle.jobs.specs.Contract.{SmallFloor}
-use Rattle.route.proofs.Running.{cells-lent, jobs-start, goes-on}
+use Rattle.route.specs.Sent.{Due}
+use Rattle.route.proofs.Running.{cells-lent, jobs-small, jobs-due, sure-over, sent-more, sent-last}
 use Rattle.route.proofs.run_jobs.Statement.{statement}
 use Rattle.route.proofs.run_jobs.Tie as tie
 
 abbrev Inv-loop : tie.InvT-loop
-Inv-loop s map d₀ w h c₀ d c = (1 ≤ c .due) × SmallFloor w h map × (length d ≡ vertices w h)
+Inv-loop s map d₀ w h c₀ written₀ d c written =
+    Due s true w h map c written × SmallFloor w h map × (length d ≡ vertices w h)
 
 abbrev μ-loop : tie.MeasureT-loop
-μ-loop s map d₀ w h c₀ d c = length s - c .at
+μ-loop s map d₀ w h c₀ written₀ d c written = length s - c .at
 
 -- The call of a turn, from the match on its answer.
-abbrev turn : tie.After-next Inv-loop μ-loop → tie.After-lend-turn Inv-loop μ-loop
-turn n = n .before .before .before .before
+abbrev turn : tie.After-known-told Inv-loop μ-loop → tie.After-lend-turn Inv-loop μ-loop
+turn c = c .before .before .before .before .before
 
 copy-cells-requires : tie.Need-copy-cells-requires Inv-loop μ-loop
 copy-cells-requires c κs =
     let s = c .before .before .before .before in
-    cells-lent _ _ _ (s .pre .0) _ (s .pre .1)
+    cells-lent _ _ _ (s .pre .0) _ (s .pre .2)
 
 loop-holds : tie.Need-loop-holds Inv-loop μ-loop
 loop-holds c =
     let p = c .before .before in
-    let s = p .before .before .before .before .before in
-    let j = jobs-start _ _ _ (s .pre .0) _ (p .copy-cells .ensures) in
-    (j .0, j .1, s .pre .2)
+    let s = p .before .before .before .before .before in (
+      jobs-due _ _ _ (s .pre .0) _ (p .copy-cells .ensures) (sure-over _ _) (s .pre .1),
+      jobs-small _ _ _ (s .pre .0) _ (p .copy-cells .ensures),
+      s .pre .3,
+    )
 
 lend-turn-requires : tie.Need-lend-turn-requires Inv-loop μ-loop
-lend-turn-requires c κs = search needs
+lend-turn-requires c κs =
+    let i = c .before .before .loop .inv in
+    (i .0, sure-over _ _, i .1, i .2)
 
-enum-known-next : tie.Need-enum-known-next Inv-loop μ-loop
-enum-known-next c = search needs
+enum-known-n : tie.Need-enum-known-n Inv-loop μ-loop
+enum-known-n c = search needs
 
-enum-told : tie.Need-enum-told Inv-loop μ-loop
-enum-told c = search needs
+loop-less : tie.Need-loop-less Inv-loop μ-loop
+loop-less c =
+    let g = sent-more (turn c .lend-turn .ensures) (c .before .n .given .1) in
+    omega (arith, g .0, g .1 .place)
+
+loop-again : tie.Need-loop-again Inv-loop μ-loop
+loop-again c =
+    let t = turn c in
+    let i = t .before .before .before .loop .inv in
+    let g = sent-more (t .lend-turn .ensures) (c .before .n .given .1) in
+    (g .1, i .1, t .lend-turn .kept .1 .1 .1 .1 .1 .1 .1 .0 ∙ i .2)
+
+enum-known-n-2 : tie.Need-enum-known-n-2 Inv-loop μ-loop
+enum-known-n-2 c = search needs
 
 same-length : tie.Need-same-length Inv-loop μ-loop
 same-length c = search needs
@@ -49,21 +68,21 @@ same-length-2 : tie.Need-same-length-2 Inv-loop μ-loop
 same-length-2 c = search needs
 
 returns : tie.Need-returns Inv-loop μ-loop
-returns c = search needs
+returns c =
+    let t = c .before .before .before .before .before in
+    record { ends = sent-last (t .lend-turn .ensures) (c .before .n2 .given .1) }
 
-loop-less : tie.Need-loop-less Inv-loop μ-loop
-loop-less c =
-    let n = c .before in
-    let g = goes-on (turn n .lend-turn .ensures) (n .next .given .1) in
-    omega arith
+enum-told : tie.Need-enum-told Inv-loop μ-loop
+enum-told c = search needs
 
-loop-again : tie.Need-loop-again Inv-loop μ-loop
-loop-again c =
-    let n = c .before in
-    let t = turn n in
-    let g = goes-on (t .lend-turn .ensures) (n .next .given .1) in
-    let i = t .before .before .before .loop .inv in
-    (g .2, i .1, t .lend-turn .kept .1 .1 .1 .1 .1 .0 ∙ i .2)
+same-length-3 : tie.Need-same-length-3 Inv-loop μ-loop
+same-length-3 c = search needs
+
+same-length-4 : tie.Need-same-length-4 Inv-loop μ-loop
+same-length-4 c = search needs
+
+returns-2 : tie.Need-returns-2 Inv-loop μ-loop
+returns-2 c = search needs
 
 pub run-jobs-spec : {M : Type 1} → statement M
 run-jobs-spec =
@@ -74,10 +93,14 @@ run-jobs-spec =
     copy-cells-requires
     loop-holds
     lend-turn-requires
-    enum-known-next
-    enum-told
+    enum-known-n
+    loop-less
+    loop-again
+    enum-known-n-2
     same-length
     same-length-2
     returns
-    loop-less
-    loop-again)
+    enum-told
+    same-length-3
+    same-length-4
+    returns-2)
