@@ -1,2 +1,3 @@
 pub mod Format
 pub mod Lines
+pub mod Settled
