@@ -1,3 +1,4 @@
 pub mod Sizes
+pub mod Settling
 pub mod Sending
 pub mod Running

@@ -6,17 +6,18 @@
 --   few-places   == and it has at most 32 * 32 vertices
 --   jobs-small   == the cells that were stored are a small floor
 --   jobs-due     == past the map nothing is written, and the text from there on is due
---   sure-over    == where the input is over, what stands at a cursor is sure
+--   due-on       == while more is read, what is due stays so
 --   first-step   == what the first step found stands at the start of the input
+--   first-sure   == and is sure
 --   sent-more, sent-last == what a turn leaves, by its answer
 use Prim.Native.Nat.{ℕ, _*_, _≤_, _<_}
-use mathlib.Core.Path.{_≡_, refl, sym, ap, _∙_, subst}
-use mathlib.Core.Bool.{Bool, true}
-use mathlib.Core.List.{List, [], _∷_, _++_}
+use mathlib.Core.Path.{_≡_, sym, ap, _∙_, subst}
+use mathlib.Core.Bool.{Bool}
+use mathlib.Core.List.{List, _++_}
 use native.Mathlib.Omega.{arith}
 use native.Mathlib.Nat.{mul-le-mul}
-use lib.ListN.{length, take, drop, length-drop}
-use lib.Seq.{take-append-le, drop-append-le}
+use lib.ListN.{length, take, drop, length-take, length-drop}
+use lib.Seq.{length-take-le, take-append-le, drop-append-le}
 use Rattle.floor.specs.Floor.{mapLength, storedCells, vertices}
 use Rattle.records.specs.Format.{recordAt, startCursor, cellsOf}
 use Rattle.records.specs.declared.stream.Cursor.{Cursor}
@@ -29,6 +30,8 @@ use Rattle.jobs.specs.Contract.{SmallFloor, CellsIn, textFrom}
 use Rattle.jobs.proofs.Cells.{map-small}
 use Rattle.jobs.proofs.Program.{program-map}
 use Rattle.route.specs.Sent.{Input, Sure, Left, longest, Due, AllSent, Follows, SentTurn}
+use Rattle.route.specs.Reads.{bytesRead, ReadFor}
+use Rattle.route.specs.declared.Reading.{Reading}
 use Rattle.route.specs.declared.Sent.{Sent}
 use Rattle.route.specs.declared.Sent.the-variants.{More, Last}
 use Rattle.route.proofs.Sending.{left-first}
@@ -83,19 +86,27 @@ module _ (s : List ℕ) (m : MapRecord) (c : Cursor) (e : recordAt s startCursor
         few = omega arith;
       }
 
-append-none : (l : List ℕ) → l ++ [] ≡ l
-append-none [] = refl
-append-none (x ∷ l) = ap (λ m. x ∷ m) (append-none l)
-
-pub sure-over : (p : List ℕ) (c : Cursor) → Sure p true c
-sure-over p c = record {
-  same = λ s i. ap (λ (t : List ℕ). recordAt t c) (i .begins ∙ ap (λ r. p ++ r) (i .none refl) ∙ append-none p);
-}
+-- What is due stays so while more is read.
+pub due-on : {input input' : List ℕ} {q r : Reading} {w h : ℕ} {map : List ℕ} {c d : Cursor} {k : ℕ}
+    → Due (bytesRead input q) (q .over) w h map c k → ReadFor input q input' r d → length input' ≤ longest
+    → Due (bytesRead input' r) (r .over) w h map c k
+due-on {input} {input'} {q} {r} x f short =
+    let size : length (take (r .count) input') ≡ r .count = length-take-le (r .count) input' (f .within) in
+    record {
+      left = λ s i. x .left s (f .still s i);
+      job = x .job;
+      place = omega (arith, x .place, length-take (q .count) input, size, f .on);
+      short = omega (arith, size, f .within);
+      few = x .few;
+    }
 
 -- The first step.
 pub first-step : (s : List ℕ) {c : Cursor} {r x : Record} → c ≡ startCursor → r ≡ recordAt s c → r ≡ x
     → recordAt s startCursor ≡ x
 first-step s p q t = ap (recordAt s) (sym p) ∙ sym q ∙ t
+
+pub first-sure : {p : List ℕ} {over : Bool} {c : Cursor} → c ≡ startCursor → Sure p over c → Sure p over startCursor
+first-sure {p} {over} e sure = subst (Sure p over) e sure
 
 module _ {p : List ℕ} {over : Bool} {w h : ℕ} {map : List ℕ} {c : Cursor} {r : Sent}
     (t : SentTurn p over w h map c r) where

@@ -3,20 +3,20 @@
 --   left-first   == before the first part all of the text is left
 --   left-more    == past a part the rest is left
 --   left-stands  == the part stands at the place that it is written to
+--   next-rest    == what is left of a part stands at the place that it is written to
 --   left-all     == where nothing is left all is written
 --   turn-next    == the text of a turn stands at the place that it is written to
 --   turn-more    == past it the text from the turn's cursor on is due
 --   turn-last    == past the last turn all is written
---   turn-few     == few bytes are written in all
 --   bad-next, bad-all == the line of a bad record where the map is due is all of the text
 --   never-first  == what stands where the map is due is a map or a bad record
-use Prim.Native.Nat.{ℕ, _+_, _*_, _≤_, _<_}
+use Prim.Native.Nat.{ℕ, zero, suc, _+_, _-_, _≤_, _<_}
 use mathlib.Core.Path.{_≡_, refl, sym, ap, _∙_, subst}
 use mathlib.Core.Bool.{Bool}
 use mathlib.Core.List.{List, [], _∷_, _++_}
 use native.Mathlib.Omega.{arith}
-use lib.ListN.{length, take, drop, length-append, length-take}
-use lib.Seq.{length-take-le, take-append-seam, drop-append-seam, drop-drop}
+use lib.ListN.{length, take, drop, length-append, length-drop}
+use lib.Seq.{length-take-le, take-all, take-nil, take-append-seam, drop-append-seam, drop-drop}
 use Rattle.records.specs.Format.{recordAt, startCursor}
 use Rattle.records.specs.Lines.{badLine, Written}
 use Rattle.records.specs.declared.stream.Cursor.{Cursor}
@@ -31,7 +31,7 @@ use Rattle.jobs.specs.declared.Turn.{Turn}
 use Rattle.jobs.specs.declared.Turn.the-variants.{More as MoreTurn, Last as LastTurn}
 use Rattle.jobs.proofs.Start.{written-take, written-size}
 use Rattle.jobs.proofs.Program.{program-bad}
-use Rattle.route.specs.Sent.{Input, Sure, Left, Next, turnRoom, Due, AllSent, SentTurn, Ended}
+use Rattle.route.specs.Sent.{Input, Sure, Left, Next, turnRoom, Due, AllSent}
 
 -- ---- a text and its parts
 
@@ -47,6 +47,27 @@ module _ {text : List ℕ} {k : ℕ} (part rest : List ℕ) (l : Left text k (pa
 
   pub left-stands : take (length part) (drop k text) ≡ part
   left-stands = ap (take (length part)) (l .from) ∙ take-append-seam part rest
+
+drop-take : (n m : ℕ) (l : List ℕ) → drop n (take m l) ≡ take (m - n) (drop n l)
+drop-take zero m l = let e : m ≡ m - 0 = omega arith in ap (λ k. take k l) e
+drop-take (suc n) zero l = let e : 0 ≡ 0 - suc n = omega arith in ap (λ k. take k (drop (suc n) l)) e
+drop-take (suc n) (suc m) [] = sym (take-nil (suc m - suc n))
+drop-take (suc n) (suc m) (x ∷ l) =
+    let e : m - n ≡ suc m - suc n = omega arith in drop-take n m l ∙ ap (λ k. take k (drop n l)) e
+
+-- What is left of a part of which n bytes are written.
+pub next-rest : {p : List ℕ} {over : Bool} {k : ℕ} {part : List ℕ} (n : ℕ) → n ≤ length part → Next p over k part
+    → Next p over (k + n) (take (length part - n) (drop n part))
+next-rest {p} {over} {k} {part} n l x =
+    let whole : drop n part ≡ take (length part - n) (drop n part) =
+    sym (take-all (length part - n) (drop n part) (omega (arith, length-drop n part))) in
+    subst (Next p over (k + n)) whole record {
+      stands = λ s i.
+          ap (λ m. take m (drop (k + n) (programText s))) (length-drop n part)
+          ∙ ap (take (length part - n)) (sym (drop-drop n k (programText s)))
+          ∙ sym (drop-take n (length part) (drop k (programText s))) ∙ ap (drop n) (x .stands s i);
+      few = omega (arith, length-drop n part, x .few);
+    }
 
 pub left-all : {text : List ℕ} {k : ℕ} → Left text k [] → k ≡ length text
 left-all l = omega (arith, l .size)
@@ -85,14 +106,12 @@ module _ {p : List ℕ} {over : Bool} {w h : ℕ} {map : List ℕ} {c : Cursor} 
       subst (λ m. Left (programText s) (k + m) (after r (textFrom s w h map))) part-size
       (left-more (take n out) (after r (textFrom s w h map)) (left-turn s i))
 
-  pub turn-next : Next p over k (take n out)
-  turn-next = record {
-    stands = λ s i. left-stands (take n out) (after r (textFrom s w h map)) (left-turn s i);
-  }
-
   module _ (room : length out ≤ turnRoom) where
-    pub turn-few : k + n ≤ turnRoom * 7967
-    turn-few = omega (arith, due .few, due .place, due .short, told .fits)
+    pub turn-next : Next p over k (take n out)
+    turn-next = record {
+      stands = λ s i. left-stands (take n out) (after r (textFrom s w h map)) (left-turn s i);
+      few = omega (arith, part-size, due .few, due .place, due .short, told .fits);
+    }
 
     pub turn-more : {m : ℕ} {d : Cursor} → r ≡ MoreTurn m d → (c .at < d .at) × Due p over w h map d (k + n)
     unfolding after
@@ -124,10 +143,11 @@ module _ {p : List ℕ} {over : Bool} {k : ℕ} {line line' : List ℕ} {n : ℕ
   bad-size : length (take n line') ≡ n
   bad-size = ap length (written-take t) ∙ sym (written-size t)
 
-  pub bad-next : Next p over 0 (take n line')
-  bad-next = record {
+  pub bad-next : 64 ≡ length line → Next p over 0 (take n line')
+  bad-next room = record {
     stands = λ s i. left-stands (take n line') [] (subst (λ z. Left (programText s) 0 z)
         (bad-text s i ∙ append-none (take n line')) (left-first (programText s)));
+    few = omega (arith, bad-size, t .room, t .place);
   }
 
   pub bad-all : AllSent p over n

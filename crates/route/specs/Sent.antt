@@ -9,9 +9,9 @@
 --   AllSent p over k       == the program's text has k bytes, whatever the whole input is
 --   turnRoom               == the bytes that the text of one turn may take
 --   longest                == the bytes of the input that can matter (records/proofs/Limit)
+--   mostSent               == no more bytes are written than that: turnRoom * (longest + 1)
 --   SentTurn .. c r        == after the turn at the cursor c: more is due from a later cursor on, all is written, or a
 --                             part could not be written
---   Ended p over r         == at the end of a run all is written, or a part could not be written
 use Prim.Native.Nat.{ℕ, _+_, _*_, _≤_, _<_}
 use mathlib.Core.Path.{_≡_}
 use mathlib.Core.Bool.{Bool, true}
@@ -23,8 +23,6 @@ use Rattle.jobs.specs.Text.{programText}
 use Rattle.jobs.specs.Contract.{textFrom}
 use Rattle.route.specs.declared.Sent.{Sent}
 use Rattle.route.specs.declared.Sent.the-variants.{More, Last, Cut}
-use Rattle.route.specs.declared.Ending.{Ending}
-use Rattle.route.specs.declared.Ending.the-variants.{Whole, Broken}
 
 pub record Input (p : List ℕ) (over : Bool) (s : List ℕ) : Type 0 where
   pub rest : List ℕ
@@ -38,14 +36,18 @@ pub record Left (text : List ℕ) (k : ℕ) (rest : List ℕ) : Type 0 where
   pub from : drop k text ≡ rest
   pub size : k + length rest ≡ length text
 
-pub record Next (p : List ℕ) (over : Bool) (k : ℕ) (part : List ℕ) : Type 0 where
-  pub stands : (s : List ℕ) → Input p over s → take (length part) (drop k (programText s)) ≡ part
-
 abbrev pub turnRoom : ℕ
 turnRoom = 6307
 
 abbrev pub longest : ℕ
 longest = 7966
+
+abbrev pub mostSent : ℕ
+mostSent = 50247869
+
+pub record Next (p : List ℕ) (over : Bool) (k : ℕ) (part : List ℕ) : Type 0 where
+  pub stands : (s : List ℕ) → Input p over s → take (length part) (drop k (programText s)) ≡ part
+  pub few : k + length part ≤ mostSent
 
 pub record Due (p : List ℕ) (over : Bool) (w h : ℕ) (map : List ℕ) (c : Cursor) (k : ℕ) : Type 0 where
   pub left : (s : List ℕ) → Input p over s → Left (programText s) k (textFrom s w h map c)
@@ -64,10 +66,3 @@ Follows p over w h map c Cut = 0 ≤ 0
 
 pub record SentTurn (p : List ℕ) (over : Bool) (w h : ℕ) (map : List ℕ) (c : Cursor) (r : Sent) : Type 0 where
   pub follows : Follows p over w h map c r
-
-abbrev pub EndsBy : List ℕ → Bool → Ending → Type 0
-EndsBy p over (Whole k) = AllSent p over k
-EndsBy p over Broken = 0 ≤ 0
-
-pub record Ended (p : List ℕ) (over : Bool) (r : Ending) : Type 0 where
-  pub ends : EndsBy p over r

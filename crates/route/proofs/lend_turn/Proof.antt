@@ -1,5 +1,6 @@
 -- `route::lend_turn` meets its contract: a floor of at most 31 by 31 cells has at most 1,024 vertices, so each array
--- has the part that is lent. Depends on libc's write.
+-- has the part that is lent. Depends on libc's write, on errno and on
+-- sched_yield.
 use Prim.Native.Nat.{_≤_}
 use native.Mathlib.Omega.{arith}
 use Rattle.route.proofs.Sizes.{few-vertices, taken, lent}
@@ -50,7 +51,8 @@ array-borrow-prefix-work : tie.Need-array-borrow-prefix-work
 array-borrow-prefix-work c = omega (arith, few (c .before .before .before .before .before .before))
 
 slice-aggregate-write-turn-6 : tie.Need-slice-aggregate-write-turn-6
-slice-aggregate-write-turn-6 c = taken _ _ (omega (arith, few (c .before .before .before .before .before .before .before)))
+slice-aggregate-write-turn-6 c =
+    taken _ _ (omega (arith, few (c .before .before .before .before .before .before .before)))
 
 array-borrow-prefix-kept : tie.Need-array-borrow-prefix-kept
 array-borrow-prefix-kept c = few (c .before .before .before .before .before .before .before)

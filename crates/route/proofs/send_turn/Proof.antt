@@ -1,5 +1,5 @@
 -- `route::send_turn` meets its contract: the text of the turn stands at the place that it is written to, and past it
--- the text from the turn's cursor on is due, or none. Depends on libc's write.
+-- the text from the turn's cursor on is due, or none. Depends on libc's write, on errno and on sched_yield.
 use native.Mathlib.Omega.{arith}
 use Rattle.route.proofs.Sizes.{taken}
 use Rattle.route.proofs.Sending.{turn-next, turn-more, turn-last}
@@ -20,7 +20,7 @@ write-next-requires : tie.Need-write-next-requires
 write-next-requires c κs =
     let b = c .before in
     let s = b .before .before .before .before in
-    turn-next (s .pre .0) (s .pre .1) (s .pre .2) (b .bytes-of .ensures)
+    turn-next (s .pre .0) (s .pre .1) (s .pre .2) (b .bytes-of .ensures) (s .pre .3)
 
 returns : tie.Need-returns
 returns c = search needs

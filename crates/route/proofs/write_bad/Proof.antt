@@ -1,4 +1,5 @@
--- `route::write_bad` meets its contract: the line is all of the program's text. Depends on libc's write.
+-- `route::write_bad` meets its contract: the line is all of the program's text. Depends on libc's write, on errno and
+-- on sched_yield.
 use native.Mathlib.Omega.{arith}
 use Rattle.jobs.proofs.Start.{written-within}
 use Rattle.route.proofs.Sizes.{taken}
@@ -10,20 +11,25 @@ use Rattle.route.proofs.write_bad.Tie as tie
 put-bad-requires : tie.Need-put-bad-requires
 put-bad-requires c κs = search needs
 
+slice-aggregate-write-next : tie.Need-slice-aggregate-write-next
+slice-aggregate-write-next c =
+    let s = c .before .before .before .before .before .before .before in
+    taken _ _ (s .pre .0 .within)
+
 slice-reshare-prefix-write-next : tie.Need-slice-reshare-prefix-write-next
 slice-reshare-prefix-write-next c = search needs
 
-slice-aggregate-write-next : tie.Need-slice-aggregate-write-next
-slice-aggregate-write-next c =
-    let t = c .before .before .before in
+slice-aggregate-write-next-2 : tie.Need-slice-aggregate-write-next-2
+slice-aggregate-write-next-2 c =
+    let t = c .before .before .before .before in
     let s = t .before .before .before .before in
-    taken _ (t .put-bad .last .0) (omega (arith, written-within (t .put-bad .ensures), t .put-bad .kept .0, s .pre .2))
+    taken _ (t .put-bad .last .0) (omega (arith, written-within (t .put-bad .ensures), t .put-bad .kept .0, s .pre .1))
 
 write-next-requires : tie.Need-write-next-requires
 write-next-requires c κs =
-    let t = c .before .before .before in
+    let t = c .before .before .before .before in
     let s = t .before .before .before .before in
-    bad-next (s .pre .0) (s .pre .1) (t .put-bad .ensures)
+    bad-next (s .pre .0 .sure) (s .pre .0 .found) (t .put-bad .ensures) (s .pre .1)
 
 same-length : tie.Need-same-length
 same-length c = search needs
@@ -36,17 +42,18 @@ same-length-2 c = search needs
 
 returns-2 : tie.Need-returns-2
 returns-2 c =
-    let t = c .before .before .before .before .before in
+    let t = c .before .before .before .before .before .before in
     let s = t .before .before .before .before in
-    record { ends = bad-all (s .pre .0) (s .pre .1) (t .put-bad .ensures) }
+    record { ends = bad-all (s .pre .0 .sure) (s .pre .0 .found) (t .put-bad .ensures) }
 
 pub write-bad-spec : {M : Type 1} → statement M
 write-bad-spec =
     tie.close
     (tie.spec
     put-bad-requires
-    slice-reshare-prefix-write-next
     slice-aggregate-write-next
+    slice-reshare-prefix-write-next
+    slice-aggregate-write-next-2
     write-next-requires
     same-length
     returns

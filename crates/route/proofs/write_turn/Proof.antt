@@ -1,4 +1,5 @@
--- `route::write_turn` meets its contract: what the turn leaves is what is written. Depends on libc's write.
+-- `route::write_turn` meets its contract: what the turn leaves is what is written. Depends on libc's write, on
+-- errno and on sched_yield.
 use native.Mathlib.Omega.{arith}
 use borrow.Author.Needs.{needs}
 use Rattle.route.proofs.write_turn.Statement.{statement}
