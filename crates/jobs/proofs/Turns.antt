@@ -1,5 +1,5 @@
 -- One turn of the program, by what stands at its cursor: its text, with that from the cursor handed back, is the text
--- from its own cursor on.
+-- from its own cursor on, also for another input t that has the same record there.
 use Prim.Native.Nat.{ℕ, _+_, _≤_}
 use mathlib.Core.Path.{_≡_, sym, ap, _∙_}
 use mathlib.Core.List.{List, _++_}
@@ -23,7 +23,8 @@ module _ {s : List ℕ} {w h : ℕ} {map : List ℕ} {c : Cursor} where
   turn-job {j} {d} e told =
       let f = job-step s c j d e in
       record {
-        text = ap (λ l. l ++ textFrom s w h map d) (told .text) ∙ sym (text-job s w h map c j d e);
+        text = λ t same.
+            ap (λ l. l ++ textFrom t w h map d) (told .text) ∙ sym (text-job t w h map c j d (same ∙ e));
         fits = written-within (told .written);
         on = record { moved = (f .moved .on, f .moved .within, omega (arith, f .moved .next)) };
       }
@@ -31,14 +32,14 @@ module _ {s : List ℕ} {w h : ℕ} {map : List ℕ} {c : Cursor} where
   pub turn-bad : {p : ℕ} {out out' : List ℕ} {n : ℕ} → recordAt s c ≡ Bad p → Written out 0 (badLine p) out' n
       → TurnTold s w h map c (Last n) out'
   turn-bad {p} e t = record {
-    text = written-take t ∙ sym (text-bad s w h map c p e);
+    text = λ u same. written-take t ∙ sym (text-bad u w h map c p (same ∙ e));
     fits = written-within t;
     on = record { moved = omega arith };
   }
 
   pub turn-end : (out : List ℕ) → recordAt s c ≡ End → TurnTold s w h map c (Last 0) out
   turn-end out e = record {
-    text = sym (text-end s w h map c e);
+    text = λ t same. sym (text-end t w h map c (same ∙ e));
     fits = omega arith;
     on = record { moved = omega arith };
   }

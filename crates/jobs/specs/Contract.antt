@@ -20,8 +20,9 @@
 --   bytesOf r            == the number of bytes that the turn r wrote
 --   Moves s c r, GoesOn s c r == the cursor that the turn r hands back, if any, has moved on from c and lies within the
 --                           input s, and a job is due there
---   TurnTold ..          == a turn's text with the rest is what the program writes from its cursor on; nothing is
---                           said of what the turn leaves in the other slices
+--   TurnTold ..          == a turn's text with the rest is what the program writes from its cursor on, for every
+--                           input that has the same record there; nothing is said of what the turn leaves in the other
+--                           slices
 use Prim.Native.Nat.{ℕ, _+_, _*_, _≤_, _<_}
 use mathlib.Core.Path.{_≡_}
 use mathlib.Core.Bool.{true}
@@ -38,7 +39,7 @@ use Rattle.planner.specs.Plan.{Slices}
 use Rattle.planner.specs.declared.Planned.{Planned}
 use Rattle.planner.specs.declared.Planned.the-variants.{Found, Refused}
 use Rattle.thinning.specs.Thinning.{keptPositions, joinedList}
-use Rattle.records.specs.Format.{streamFrom}
+use Rattle.records.specs.Format.{recordAt, streamFrom}
 use Rattle.records.specs.Known.{Written}
 use Rattle.records.specs.declared.stream.Cursor.{Cursor}
 use Rattle.records.specs.declared.stream.MapRecord.{MapRecord}
@@ -129,6 +130,6 @@ bytesOf (More n d) = n
 bytesOf (Last n) = n
 
 pub record TurnTold (s : List ℕ) (w h : ℕ) (map : List ℕ) (c : Cursor) (r : Turn) (out : List ℕ) : Type 0 where
-  pub text : turnText r out (textFrom s w h map) ≡ textFrom s w h map c
+  pub text : (t : List ℕ) → recordAt t c ≡ recordAt s c → turnText r out (textFrom t w h map) ≡ textFrom t w h map c
   pub fits : bytesOf r ≤ length out
   pub on : GoesOn s c r

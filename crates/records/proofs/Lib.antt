@@ -1,7 +1,9 @@
 pub mod Found
 pub mod Moved
 pub mod Streams
+pub mod Agree
 pub mod Limit
+pub mod Settled
 pub mod Decimal
 pub mod Writing
 pub mod Vertices

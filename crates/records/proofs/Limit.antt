@@ -4,29 +4,21 @@
 --   stream-limit   == the stream of an input is that of its first `longest` bytes
 --   cells-limit    == and so are the cells of its map
 use Prim.Native.Nat.{ℕ, zero, suc, _+_, _*_, _≤_, _<_}
-use mathlib.Core.Path.{_≡_, refl, sym, ap, ap₂, _∙_}
+use mathlib.Core.Path.{_≡_, refl, sym, ap, _∙_}
 use mathlib.Core.Bool.{Bool, true, false}
 use mathlib.Core.List.{List, [], _∷_}
 use native.Mathlib.Omega.{arith}
 use native.Mathlib.Nat.{mul-le-mul}
 use borrow.Author.Tests.{leb-true, leb-false, le-leb, lt-leb, eqb-true}
 use lib.Dec.{leb, eqb}
-use lib.ListN.{length, getD, take, drop, length-take}
-use lib.Seq.{getD-take, take-take}
-use Rattle.basics.specs.Bounded.{pick, every}
+use lib.ListN.{length, take, drop}
+use lib.Seq.{take-take}
+use Rattle.basics.specs.Bounded.{pick}
 use Rattle.basics.proofs.Bools.{iff-eq}
-use Rattle.basics.proofs.Bounded.{every-cong}
 use Rattle.records.specs.Format.{
-  markedAt,
-  wideAt,
-  highAt,
-  mapSide,
-  cellByte,
-  goodMap,
   mapIn,
   pastMap,
   mapAt,
-  goodJob,
   jobIn,
   pastJob,
   jobAt,
@@ -45,9 +37,6 @@ use Rattle.records.specs.declared.stream.MapRecord.{MapRecord}
 use Rattle.records.specs.declared.stream.Record.{Record}
 use Rattle.records.specs.declared.stream.Record.the-variants.{Map, Job, End, Bad}
 use Rattle.records.proofs.Found.{
-  GoodMap,
-  good-map,
-  map-good,
   Finding,
   found-map,
   no-map,
@@ -57,25 +46,10 @@ use Rattle.records.proofs.Found.{
   finding,
 }
 use Rattle.records.proofs.Moved.{cells-few, map-step}
+use Rattle.records.proofs.Agree.{Agree, agree-take, map-agree, job-agree}
 
 abbrev pub longest : ℕ
 longest = 7966
-
--- Two inputs are the same as far as it matters.
-record Agree (s t : List ℕ) : Type 0 where
-  byte : (i : ℕ) → i < longest → getD s i 0 ≡ getD t i 0
-  long : (n : ℕ) → n ≤ longest → leb n (length s) ≡ leb n (length t)
-
-agree-back : {s t : List ℕ} → Agree s t → Agree t s
-agree-back a = record { byte = λ i l. sym (a .byte i l); long = λ n l. sym (a .long n l) }
-
-agree-take : (s : List ℕ) → Agree s (take longest s)
-agree-take s = record {
-  byte = λ i l. sym (getD-take longest s i 0 l);
-  long = λ n l. iff-eq (leb n (length s)) (leb n (length (take longest s)))
-      (λ e. le-leb n (length (take longest s)) (simp length-take (omega (arith, leb-true n (length s) e))))
-      (λ e. le-leb n (length s) (omega (arith, simp length-take at (leb-true n (length (take longest s)) e))));
-}
 
 -- A cursor that stepping from the first can come to.
 record Reached (c : Cursor) : Type 0 where
@@ -83,59 +57,11 @@ record Reached (c : Cursor) : Type 0 where
   place : c .at ≤ 958 + 7 * c .due
   number : c .due ≤ 1001
 
-module _ {s t : List ℕ} (a : Agree s t) where
-  -- ---- a map
-  module _ (p : ℕ) (near : p + 965 ≤ longest) where
-    wide-same : wideAt s p ≡ wideAt t p
-    wide-same = a .byte (p + 2) (omega arith)
-
-    high-same : highAt s p ≡ highAt t p
-    high-same = a .byte (p + 3) (omega arith)
-
-    mark-same : (x y : ℕ) → markedAt s p x y ≡ markedAt t p x y
-    mark-same x y = rw (a .byte p (omega arith), a .byte (p + 1) (omega arith))
-
-    good-too : GoodMap s p → GoodMap t p
-    good-too g =
-        let n : wideAt s p * highAt s p ≡ wideAt t p * highAt t p = ap₂ _*_ wide-same high-same in
-        let few : wideAt s p * highAt s p ≤ 961 = cells-few s p g in
-        record {
-          mark = sym (mark-same 0x4D 0x50) ∙ g .mark;
-          wide = ap mapSide (sym wide-same) ∙ g .wide;
-          high = ap mapSide (sym high-same) ∙ g .high;
-          whole =
-              let size : ℕ = p + (4 + wideAt t p * highAt t p) in
-              leb-true size (length t)
-              (sym (a .long size (omega arith)) ∙ le-leb size (length s) (omega (arith, g .whole)));
-          cells = ap (λ (k : ℕ). every k (cellByte t (p + 4))) (sym n)
-              ∙ sym (every-cong (wideAt s p * highAt s p) (cellByte s (p + 4)) (cellByte t (p + 4))
-              (λ k l. ap (λ (b : ℕ). leb b 1) (a .byte (p + 4 + k) (omega arith))))
-              ∙ g .cells;
-        }
-
-  -- ---- a job
-  module _ (p k : ℕ) (near : p + 7 ≤ longest) where
-    job-same : jobAt s p k ≡ jobAt t p k
-    unfolding jobAt goodJob
-    job-same = rw (
-      a .byte p (omega arith),
-      a .byte (p + 1) (omega arith),
-      a .byte (p + 2) (omega arith),
-      a .byte (p + 3) (omega arith),
-      a .byte (p + 3 + 1) (omega arith),
-      a .byte (p + 5) (omega arith),
-      a .byte (p + 5 + 1) (omega arith),
-      a .long (p + 7) near,
-    )
-
 -- A step finds the same in both.
-module _ {s t : List ℕ} (a : Agree s t) where
+module _ {s t : List ℕ} (a : Agree longest s t) where
   map-same : (p : ℕ) → p + 965 ≤ longest → mapAt s p ≡ mapAt t p
-  unfolding mapAt
   map-same p near =
-      let both = iff-eq (goodMap s p) (goodMap t p) (λ e. map-good t p (good-too a p near (good-map s p e)))
-      (λ e. map-good s p (good-too (agree-back a) p near (good-map t p e))) in
-      rw (both, wide-same a p near, high-same a p near)
+      map-agree a p (omega arith) (λ g. omega (arith, cells-few s p g)) (λ g. omega (arith, cells-few t p g))
 
   end-same : (p : ℕ) → p < longest → leb (length s) p ≡ leb (length t) p
   end-same p l =
@@ -162,7 +88,7 @@ module _ {s t : List ℕ} (a : Agree s t) where
       cases false true p q =
           let l : c .due ≤ 1000 = leb-true (c .due) 1000 q in
           let h : c .at ≤ 958 + 7 * c .due = r .place in
-          rw (end-same (c .at) (omega arith), job-same a (c .at) (c .due) (omega arith))
+          rw (end-same (c .at) (omega arith), job-agree a (c .at) (c .due) (omega arith))
       cases false false p q =
           let h : c .at ≤ 958 + 7 * c .due = r .place in
           rw (end-same (c .at) (omega (arith, r .number)))
@@ -197,7 +123,8 @@ module _ {s t : List ℕ} (a : Agree s t) where
 pub stream-limit : (s : List ℕ) → streamOf s ≡ streamOf (take longest s)
 unfolding streamOf streamFrom
 stream-limit s =
-    steps-same (agree-take s) 1002 startCursor record { start = λ e. refl; place = omega arith; number = omega arith }
+    steps-same (agree-take longest s) 1002 startCursor
+    record { start = λ e. refl; place = omega arith; number = omega arith }
 
 part-take : (p k n : ℕ) (s : List ℕ) → p + k ≤ n → take k (drop p s) ≡ take k (drop p (take n s))
 part-take zero k n s l = sym (take-take k n s (omega arith))

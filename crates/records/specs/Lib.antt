@@ -1,3 +1,4 @@
 pub mod Format
 pub mod Lines
 pub mod Known
+pub mod Settled

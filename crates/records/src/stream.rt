@@ -3,7 +3,9 @@ ghost use mathlib.Core.Path.{_≡_};
 ghost use Prim.Native.Nat.{_+_, _*_, _<_, _≤_};
 ghost use lib.ListN.{length, getD};
 ghost use Rattle.basics.specs.Bounded.{every};
+ghost use Prim.Native.Nat.{ℕ};
 ghost use Rattle.records.specs.Format.{wordAt, markedAt, mapSide, cellByte, mapAt, jobAt, recordAt, startCursor};
+ghost use Rattle.records.specs.Settled.{MapSettled, JobSettled, Settled, Decides};
 
 // The place of the next record, and its number: 0 for the map, k for job k.
 pub struct Cursor {
@@ -158,6 +160,62 @@ fn read_job(s: &[u8], at: usize, number: usize) -> Record
     )
 }
 
+// Whether the bytes s settle what stands at `at`, where the map is due: whatever follows them, it is the same. A wrong
+// byte settles it, and so does a whole record.
+fn map_settled(s: &[u8], at: usize) -> bool
+    ensures { λ r. ⌜ Decides r (MapSettled (now (s .entry)) at) ⌝ }
+{
+    if s.len() <= at {
+        return false;
+    }
+    if s[at] != b'M' {
+        return true;
+    }
+    let left = s.len() - at;
+    if left < 2 {
+        return false;
+    }
+    if s[at + 1] != b'P' {
+        return true;
+    }
+    if left < 3 {
+        return false;
+    }
+    let wide = byte(s, at + 2);
+    if !side_good(wide) {
+        return true;
+    }
+    if left < 4 {
+        return false;
+    }
+    let high = byte(s, at + 3);
+    if !side_good(high) {
+        return true;
+    }
+    if 4 + wide * high <= left {
+        return true;
+    }
+    !cells_good(s, at + 4, left - 4)
+}
+
+// The same where a job is due, of whose record a byte is there at least.
+fn job_settled(s: &[u8], at: usize) -> bool
+    requires { ⌜ at < length (now s) ⌝ }
+    ensures { λ r. ⌜ ((k : ℕ) → Decides r (JobSettled (now (s .entry)) at k)) ⌝ }
+{
+    if s[at] != b'J' {
+        return true;
+    }
+    let left = s.len() - at;
+    if left < 2 {
+        return false;
+    }
+    if s[at + 1] != b'B' {
+        return true;
+    }
+    7 <= left
+}
+
 impl Cursor {
     // At the start of a stream.
     pub fn new() -> Self
@@ -182,5 +240,23 @@ impl Cursor {
             return Record::Bad(at);
         }
         read_job(s, at, due)
+    }
+
+    // Whether the bytes s settle what stands at the cursor: a step finds the same whatever follows them.
+    pub fn is_settled(self, s: &[u8]) -> bool
+        ensures { λ r. ⌜ Decides r (Settled (now (s .entry)) self) ⌝ }
+    {
+        let at = self.at;
+        let due = self.due;
+        if due == 0 {
+            return map_settled(s, at);
+        }
+        if s.len() <= at {
+            return false;
+        }
+        if due > 1000 {
+            return true;
+        }
+        job_settled(s, at)
     }
 }

@@ -1,2 +1,4 @@
 pub mod Sizes
+pub mod Settling
+pub mod Sending
 pub mod Running

@@ -1,5 +1,6 @@
 -- `route::lend_turn` meets its contract: a floor of at most 31 by 31 cells has at most 1,024 vertices, so each array
--- has the part that is lent. Depends on libc's write.
+-- has the part that is lent. Depends on libc's write, on errno and on
+-- sched_yield.
 use Prim.Native.Nat.{_≤_}
 use native.Mathlib.Omega.{arith}
 use Rattle.route.proofs.Sizes.{few-vertices, taken, lent}
@@ -8,7 +9,7 @@ use Rattle.route.proofs.lend_turn.Statement.{statement}
 use Rattle.route.proofs.lend_turn.Tie as tie
 
 few : (c : tie.After-vertex-count) → c .vertex-count .result ≤ 1024
-few c = omega (arith, few-vertices (c .before .before .before .before .pre .1), c .vertex-count .ensures .0)
+few c = omega (arith, few-vertices (c .before .before .before .before .pre .2), c .vertex-count .ensures .0)
 
 vertex-count-requires : tie.Need-vertex-count-requires
 vertex-count-requires c κs = search needs
@@ -50,7 +51,8 @@ array-borrow-prefix-work : tie.Need-array-borrow-prefix-work
 array-borrow-prefix-work c = omega (arith, few (c .before .before .before .before .before .before))
 
 slice-aggregate-write-turn-6 : tie.Need-slice-aggregate-write-turn-6
-slice-aggregate-write-turn-6 c = taken _ _ (omega (arith, few (c .before .before .before .before .before .before .before)))
+slice-aggregate-write-turn-6 c =
+    taken _ _ (omega (arith, few (c .before .before .before .before .before .before .before)))
 
 array-borrow-prefix-kept : tie.Need-array-borrow-prefix-kept
 array-borrow-prefix-kept c = few (c .before .before .before .before .before .before .before)
@@ -66,9 +68,11 @@ write-turn-requires c κs =
     let v = c .before .before .before .before .before .before .before .before .before in
     let s = v .before .before .before .before in (
       s .pre .0,
-      lent (s .pre .1) (s .pre .2) (v .vertex-count .ensures .0) _ _ _ _ _ _ _ _
+      s .pre .1,
+      lent (s .pre .2) (s .pre .3) (v .vertex-count .ensures .0) _ _ _ _ _ _ _ _
           (omega arith) (omega arith) (omega arith) (omega arith) (omega arith) (omega arith) (omega arith)
           (omega arith),
+      omega arith,
     )
 
 same-length : tie.Need-same-length
