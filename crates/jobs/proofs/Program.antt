@@ -12,6 +12,7 @@ use lib.ListN.{take}
 use Rattle.floor.specs.Floor.{storedCells}
 use Rattle.records.specs.Format.{Stream, recordAt, startCursor, cellsOf, streamFrom, streamOf}
 use Rattle.records.specs.Lines.{badLine}
+use Rattle.records.specs.Settled.{longest}
 use Rattle.records.specs.declared.stream.Cursor.{Cursor}
 use Rattle.records.specs.declared.stream.MapRecord.{MapRecord}
 use Rattle.records.specs.declared.stream.JobRecord.{JobRecord}
@@ -19,7 +20,7 @@ use Rattle.records.specs.declared.stream.Record.{Record}
 use Rattle.records.specs.declared.stream.Record.the-variants.{Map, Job, End, Bad}
 use Rattle.records.proofs.Streams.{stream-first, stream-map, stream-job, stream-end, stream-bad}
 use Rattle.records.proofs.Moved.{job-step}
-use Rattle.records.proofs.Limit.{longest, stream-limit, cells-limit}
+use Rattle.records.proofs.Limit.{stream-limit, cells-limit}
 use Rattle.jobs.specs.Text.{jobText, jobsText, badText, restText, floorText, programText}
 use Rattle.jobs.specs.Contract.{textFrom}
 

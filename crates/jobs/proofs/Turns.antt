@@ -12,6 +12,7 @@ use Rattle.records.specs.declared.stream.MapRecord.{MapRecord}
 use Rattle.records.specs.declared.stream.JobRecord.{JobRecord}
 use Rattle.records.specs.declared.stream.Record.the-variants.{Map, Job, End, Bad}
 use Rattle.records.proofs.Moved.{map-step, job-step}
+use Rattle.records.proofs.Limit.{reached-job}
 use Rattle.jobs.specs.declared.Turn.the-variants.{More, Last}
 use Rattle.jobs.specs.Contract.{textFrom, Told, TurnTold}
 use Rattle.jobs.proofs.Start.{written-take, written-within}
@@ -26,7 +27,7 @@ module _ {s : List ℕ} {w h : ℕ} {map : List ℕ} {c : Cursor} where
         text = λ t same.
             ap (λ l. l ++ textFrom t w h map d) (told .text) ∙ sym (text-job t w h map c j d (same ∙ e));
         fits = written-within (told .written);
-        on = record { moved = (f .moved .on, f .moved .within, omega (arith, f .moved .next)) };
+        on = record { moved = (f .moved .on, f .moved .within, omega (arith, f .moved .next), reached-job s c j d e) };
       }
 
   pub turn-bad : {p : ℕ} {out out' : List ℕ} {n : ℕ} → recordAt s c ≡ Bad p → Written out 0 (badLine p) out' n

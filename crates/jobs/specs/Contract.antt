@@ -19,7 +19,7 @@
 --   turnText r out rest  == what the turn r wrote into the buffer, then `rest` of the cursor that it hands back
 --   bytesOf r            == the number of bytes that the turn r wrote
 --   Moves s c r, GoesOn s c r == the cursor that the turn r hands back, if any, has moved on from c and lies within the
---                           input s, and a job is due there
+--                           input s, a job is due there, and stepping comes to it where it comes to c
 --   TurnTold ..          == a turn's text with the rest is what the program writes from its cursor on, for every
 --                           input that has the same record there; nothing is said of what the turn leaves in the other
 --                           slices
@@ -40,7 +40,11 @@ use Rattle.planner.specs.declared.Planned.{Planned}
 use Rattle.planner.specs.declared.Planned.the-variants.{Found, Refused}
 use Rattle.thinning.specs.Thinning.{keptPositions, joinedList}
 use Rattle.records.specs.Format.{recordAt, streamFrom}
+<<<<<<< HEAD
 use Rattle.records.specs.Known.{Written}
+=======
+use Rattle.records.specs.Settled.{Reached}
+>>>>>>> h-stream
 use Rattle.records.specs.declared.stream.Cursor.{Cursor}
 use Rattle.records.specs.declared.stream.MapRecord.{MapRecord}
 use Rattle.records.specs.declared.stream.JobRecord.{JobRecord}
@@ -119,7 +123,7 @@ turnText (More n d) out rest = take n out ++ rest d
 turnText (Last n) out rest = take n out
 
 abbrev pub Moves : List ℕ → Cursor → Turn → Type 0
-Moves s c (More n d) = (c .at < d .at) × (d .at ≤ length s) × (1 ≤ d .due)
+Moves s c (More n d) = (c .at < d .at) × (d .at ≤ length s) × (1 ≤ d .due) × (Reached c → Reached d)
 Moves s c (Last n) = (0 ≤ n)
 
 pub record GoesOn (s : List ℕ) (c : Cursor) (r : Turn) : Type 0 where

@@ -3,6 +3,7 @@
 --   Agree n s t    == s and t have the same first n bytes, or the same bytes where they are shorter
 --   agree-take     == an input agrees with its first n bytes
 --   agree-more     == the bytes read of an input agree with it as far as they go
+--   agree-less     == inputs that agree on n bytes agree on fewer
 --   map-agree      == the same stands where the map is due, if the record lies within these bytes where it is good
 --   job-agree      == the same stands where a job is due, if the record lies within these bytes
 use Prim.Native.Nat.{ℕ, _+_, _*_, _≤_, _<_}
@@ -44,6 +45,9 @@ agree-take n s = record {
       (λ e. le-leb m (length (take n s)) (simp length-take (omega (arith, leb-true m (length s) e))))
       (λ e. le-leb m (length s) (omega (arith, simp length-take at (leb-true m (length (take n s)) e))));
 }
+
+pub agree-less : {m n : ℕ} {s t : List ℕ} → m ≤ n → Agree n s t → Agree m s t
+agree-less l a = record { byte = λ i k. a .byte i (omega arith); long = λ k h. a .long k (omega arith) }
 
 pub agree-more : (p t : List ℕ) → Agree (length p) (p ++ t) p
 agree-more p t = record {

@@ -1,8 +1,9 @@
 -- How much of an input can matter: the map, 1,000 jobs, and one byte more, which makes a job too many.
 --
---   longest        == 4 + 31 * 31 + 7 * 1000 + 1 bytes
 --   stream-limit   == the stream of an input is that of its first `longest` bytes
 --   cells-limit    == and so are the cells of its map
+--   limit-settled  == so many bytes settle what stands at any cursor that stepping can come to
+--   reached-first, reached-map, reached-job == the first cursor is such a one, and so is the cursor past a record
 use Prim.Native.Nat.{ℕ, zero, suc, _+_, _*_, _≤_, _<_}
 use mathlib.Core.Path.{_≡_, refl, sym, ap, _∙_}
 use mathlib.Core.Bool.{Bool, true, false}
@@ -32,8 +33,10 @@ use Rattle.records.specs.Format.{
   streamFrom,
   streamOf,
 }
+use Rattle.records.specs.Settled.{Settled, longest, Reached}
 use Rattle.records.specs.declared.stream.Cursor.{Cursor}
 use Rattle.records.specs.declared.stream.MapRecord.{MapRecord}
+use Rattle.records.specs.declared.stream.JobRecord.{JobRecord}
 use Rattle.records.specs.declared.stream.Record.{Record}
 use Rattle.records.specs.declared.stream.Record.the-variants.{Map, Job, End, Bad}
 use Rattle.records.proofs.Found.{
@@ -45,17 +48,8 @@ use Rattle.records.proofs.Found.{
   no-job,
   finding,
 }
-use Rattle.records.proofs.Moved.{cells-few, map-step}
-use Rattle.records.proofs.Agree.{Agree, agree-take, map-agree, job-agree}
-
-abbrev pub longest : ℕ
-longest = 7966
-
--- A cursor that stepping from the first can come to.
-record Reached (c : Cursor) : Type 0 where
-  start : c .due ≡ 0 → c .at ≡ 0
-  place : c .at ≤ 958 + 7 * c .due
-  number : c .due ≤ 1001
+use Rattle.records.proofs.Moved.{cells-few, map-step, job-step}
+use Rattle.records.proofs.Agree.{Agree, agree-take, agree-more, agree-less, map-agree, job-agree}
 
 -- A step finds the same in both.
 module _ {s t : List ℕ} (a : Agree longest s t) where
@@ -138,3 +132,31 @@ cells-limit s m d e =
     let f = map-step s startCursor m d e in
     let few : m .wide * m .high ≤ 961 = mul-le-mul {n₂ = 31} {m₂ = 31} (f .wide) (f .high) in
     part-take (m .cells) (m .wide * m .high) longest s (omega (arith, f .place))
+
+-- ---- cursors
+
+pub reached-first : Reached startCursor
+reached-first = record { start = λ e. refl; place = omega arith; number = omega arith }
+
+pub reached-map : (s : List ℕ) (m : MapRecord) (d : Cursor) → recordAt s startCursor ≡ Map m d → Reached d
+reached-map s m d e =
+    let f = map-step s startCursor m d e in
+    let few : m .wide * m .high ≤ 961 = mul-le-mul {n₂ = 31} {m₂ = 31} (f .wide) (f .high) in
+    record {
+      start = λ z. absurd (omega (arith, f .moved .next));
+      place = omega (arith, f .place, f .cells-end, f .moved .next);
+      number = omega (arith, f .moved .next);
+    }
+
+pub reached-job : (s : List ℕ) (c : Cursor) (j : JobRecord) (d : Cursor) → recordAt s c ≡ Job j d → Reached c
+    → Reached d
+reached-job s c j d e r =
+    let f = job-step s c j d e in
+    record {
+      start = λ z. absurd (omega (arith, f .moved .next));
+      place = omega (arith, r .place, f .past, f .moved .next);
+      number = omega (arith, f .moved .next, f .number, f .number-le);
+    }
+
+pub limit-settled : (p : List ℕ) (c : Cursor) → longest ≤ length p → Reached c → Settled p c
+limit-settled p c l r t = record-same (agree-less l (agree-more p t)) c r

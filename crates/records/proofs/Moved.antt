@@ -52,6 +52,7 @@ pub record JobFound (s : List ℕ) (c : Cursor) (j : JobRecord) (d : Cursor) : T
   pub number : j .number ≡ c .due
   pub number-pos : 1 ≤ j .number
   pub number-le : j .number ≤ 1000
+  pub past : d .at ≡ c .at + 7
 
 never : {P : Type 0} → _≡_ {A = ℕ} 0 1 → P
 never e = absurd (omega arith)
@@ -80,6 +81,7 @@ module _ (s : List ℕ) (c : Cursor) where
     number = refl;
     number-pos = a;
     number-le = b;
+    past = refl;
   }
 
   pub map-step : (m : MapRecord) (d : Cursor) → recordAt s c ≡ Map m d → MapFound s c m d

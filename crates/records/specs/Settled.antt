@@ -4,7 +4,9 @@
 --   JobSettled p a k == the same where job k is due
 --   Settled p c      == whatever follows p, a step of the cursor c finds what it finds in p alone
 --   Decides b P      == b is true where P holds, and false where it does not
-use Prim.Native.Nat.{ℕ}
+--   longest          == the bytes of an input that can matter: 4 + 31 * 31 + 7 * 1000 + 1
+--   Reached c        == a cursor that stepping from the first can come to
+use Prim.Native.Nat.{ℕ, _+_, _*_, _≤_}
 use mathlib.Core.Path.{_≡_}
 use mathlib.Core.Bool.{Bool, true, false}
 use mathlib.Core.List.{List, _++_}
@@ -23,3 +25,11 @@ Settled p c = (t : List ℕ) → recordAt (p ++ t) c ≡ recordAt p c
 pub record Decides (b : Bool) (P : Type 0) : Type 0 where
   pub yes : b ≡ true → P
   pub no : b ≡ false → P → ⊥
+
+abbrev pub longest : ℕ
+longest = 7966
+
+pub record Reached (c : Cursor) : Type 0 where
+  pub start : c .due ≡ 0 → c .at ≡ 0
+  pub place : c .at ≤ 958 + 7 * c .due
+  pub number : c .due ≤ 1001

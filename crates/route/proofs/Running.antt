@@ -9,6 +9,7 @@
 --   due-on       == while more is read, what is due stays so
 --   first-step   == what the first step found stands at the start of the input
 --   first-sure   == and is sure
+--   first-reached == stepping comes to the first cursor
 --   sent-more, sent-last == what a turn leaves, by its answer
 use Prim.Native.Nat.{ℕ, _*_, _≤_, _<_}
 use mathlib.Core.Path.{_≡_, sym, ap, _∙_, subst}
@@ -20,16 +21,18 @@ use lib.ListN.{length, take, drop, length-take, length-drop}
 use lib.Seq.{length-take-le, take-append-le, drop-append-le}
 use Rattle.floor.specs.Floor.{mapLength, storedCells, vertices}
 use Rattle.records.specs.Format.{recordAt, startCursor, cellsOf}
+use Rattle.records.specs.Settled.{longest, Reached}
 use Rattle.records.specs.declared.stream.Cursor.{Cursor}
 use Rattle.records.specs.declared.stream.MapRecord.{MapRecord}
 use Rattle.records.specs.declared.stream.Record.{Record}
 use Rattle.records.specs.declared.stream.Record.the-variants.{Map}
 use Rattle.records.proofs.Moved.{map-step}
+use Rattle.records.proofs.Limit.{reached-first, reached-map}
 use Rattle.jobs.specs.Text.{programText}
 use Rattle.jobs.specs.Contract.{SmallFloor, CellsIn, textFrom}
 use Rattle.jobs.proofs.Cells.{map-small}
 use Rattle.jobs.proofs.Program.{program-map}
-use Rattle.route.specs.Sent.{Input, Sure, Left, longest, Due, AllSent, Follows, SentTurn}
+use Rattle.route.specs.Sent.{Input, Sure, Left, Due, AllSent, Follows, SentTurn}
 use Rattle.route.specs.Reads.{bytesRead, ReadFor}
 use Rattle.route.specs.declared.Reading.{Reading}
 use Rattle.route.specs.declared.Sent.{Sent}
@@ -81,6 +84,7 @@ module _ (s : List ℕ) (m : MapRecord) (c : Cursor) (e : recordAt s startCursor
       record {
         left = λ t i. subst (λ z. Left (programText t) 0 z) (text t i) (left-first (programText t));
         job = omega (arith, f .moved .next);
+        reached = reached-map s m c e;
         place = f .moved .within;
         short = short;
         few = omega arith;
@@ -95,6 +99,7 @@ due-on {input} {input'} {q} {r} x f short =
     record {
       left = λ s i. x .left s (f .still s i);
       job = x .job;
+      reached = x .reached;
       place = omega (arith, x .place, length-take (q .count) input, size, f .on);
       short = omega (arith, size, f .within);
       few = x .few;
@@ -104,6 +109,9 @@ due-on {input} {input'} {q} {r} x f short =
 pub first-step : (s : List ℕ) {c : Cursor} {r x : Record} → c ≡ startCursor → r ≡ recordAt s c → r ≡ x
     → recordAt s startCursor ≡ x
 first-step s p q t = ap (recordAt s) (sym p) ∙ sym q ∙ t
+
+pub first-reached : {c : Cursor} → c ≡ startCursor → Reached c
+first-reached e = rw e reached-first
 
 pub first-sure : {p : List ℕ} {over : Bool} {c : Cursor} → c ≡ startCursor → Sure p over c → Sure p over startCursor
 first-sure {p} {over} e sure = subst (Sure p over) e sure

@@ -122,6 +122,7 @@ module _ {p : List ℕ} {over : Bool} {w h : ℕ} {map : List ℕ} {c : Cursor} 
           record {
             left = λ s i. subst (λ z. Left (programText s) (k + n) (after z (textFrom s w h map))) x (past s i);
             job = g .2;
+            reached = g .3 (due .reached);
             place = g .1;
             short = due .short;
             few = omega (arith, due .few, told .fits, g .0);

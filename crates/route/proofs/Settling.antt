@@ -1,24 +1,26 @@
 -- Reading on: each read leaves what is read before it, so that the whole input stays what it could be.
 --
 --   read-more      == one read past the first n bytes of the buffer
+--   room-left      == where what is read settles nothing, the buffer is not full
 --   ReadOn ..      == reading on from q to r, as in ReadFor, while nothing is sure
 --   read-none      == before the first read
 --   read-then      == one read more
 --   read-less      == it leaves less to read
 --   read-over, read-settled == where the input is over, or what is read settles it, what stands at the cursor is sure
 --   sure-over, sure-settled == the same of the bytes read
-use Prim.Native.Nat.{ℕ, _+_, _-_, _≤_, _<_}
+use Prim.Native.Nat.{ℕ, suc, _+_, _-_, _≤_, _<_}
 use mathlib.Core.Path.{_≡_, refl, sym, ap, _∙_, subst}
 use mathlib.Core.Bool.{Bool, true, false, true≢false}
 use mathlib.Core.List.{List, [], _∷_, _++_, append-assoc}
 use native.Mathlib.Omega.{arith}
-use borrow.Author.Tests.{eqb-false}
-use lib.Dec.{eqb}
+use borrow.Author.Tests.{eqb-false, leb-true, leb-false}
+use lib.Dec.{eqb, leb}
 use lib.ListN.{length, take, drop, length-append, take-append-drop}
 use lib.Seq.{length-take-le, take-take, take-at}
 use Rattle.records.specs.Format.{recordAt}
-use Rattle.records.specs.Settled.{Settled, Decides}
+use Rattle.records.specs.Settled.{Settled, Decides, longest, Reached}
 use Rattle.records.specs.declared.stream.Cursor.{Cursor}
+use Rattle.records.proofs.Limit.{limit-settled}
 use Rattle.route.specs.declared.Reading.{Reading}
 use Rattle.route.specs.Sent.{Input, Sure}
 use Rattle.route.specs.Reads.{bytesRead, ReadMore, ReadFor}
@@ -73,6 +75,17 @@ more-still {input} {input'} {n} {r} m s i =
     }
 
 -- ---- reading on
+
+-- Where what is read settles nothing, there is room for more.
+pub room-left : (input : List ℕ) (n : ℕ) {b : Bool} (c : Cursor) → Decides b (Settled (take n input) c) → b ≡ false
+    → Reached c → length input ≡ longest → n ≤ length input → n < length input
+room-left input n c d e r size l = cases (leb (suc n) (length input)) refl
+  where
+    cases : (x : Bool) → leb (suc n) (length input) ≡ x → n < length input
+    cases true p = leb-true (suc n) (length input) p
+    cases false p =
+        let full = leb-false (suc n) (length input) p in
+        absurd (d .no e (limit-settled (take n input) c (omega (arith, length-take-le n input l)) r))
 
 pub record ReadOn (input : List ℕ) (q : Reading) (input' : List ℕ) (r : Reading) : Type 0 where
   pub on : q .count ≤ r .count

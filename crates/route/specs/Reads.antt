@@ -5,7 +5,8 @@
 --                             more at least, or the input is over
 --   ReadFor i q i' r c     == reading on from q to r: the whole input stays what q left possible, and what stands at
 --                             the cursor c is sure
---   MapRead i r m c        == what stands first is the map m, past which the cursor c stands, and that is sure
+--   MapRead i r m c        == what stands first is the map m, past which the cursor c stands, and that is sure; the
+--                             buffer holds all that can matter
 --   BadRead i r k          == what stands first is a bad record at place k, and that is sure
 --   Ended i r              == at the end of a run all of the text is written, or a part could not be written
 use Prim.Native.Nat.{ℕ, _≤_, _<_}
@@ -14,13 +15,14 @@ use mathlib.Core.Bool.{Bool, false}
 use mathlib.Core.List.{List}
 use lib.ListN.{length, take}
 use Rattle.records.specs.Format.{recordAt, startCursor}
+use Rattle.records.specs.Settled.{longest}
 use Rattle.records.specs.declared.stream.Cursor.{Cursor}
 use Rattle.records.specs.declared.stream.MapRecord.{MapRecord}
 use Rattle.records.specs.declared.stream.Record.the-variants.{Map, Bad}
 use Rattle.route.specs.declared.Reading.{Reading}
 use Rattle.route.specs.declared.Ending.{Ending}
 use Rattle.route.specs.declared.Ending.the-variants.{Whole, Broken}
-use Rattle.route.specs.Sent.{Input, Sure, longest, AllSent}
+use Rattle.route.specs.Sent.{Input, Sure, AllSent}
 
 abbrev pub bytesRead : List ℕ → Reading → List ℕ
 bytesRead input r = take (r .count) input
@@ -38,7 +40,7 @@ pub record ReadFor (input : List ℕ) (q : Reading) (input' : List ℕ) (r : Rea
   pub sure : Sure (bytesRead input' r) (r .over) c
 
 pub record MapRead (input : List ℕ) (r : Reading) (m : MapRecord) (c : Cursor) : Type 0 where
-  pub short : length input ≤ longest
+  pub room : length input ≡ longest
   pub within : r .count ≤ length input
   pub found : recordAt (bytesRead input r) startCursor ≡ Map m c
   pub sure : Sure (bytesRead input r) (r .over) startCursor

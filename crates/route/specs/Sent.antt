@@ -8,7 +8,6 @@
 --                             the whole input is
 --   AllSent p over k       == the program's text has k bytes, whatever the whole input is
 --   turnRoom               == the bytes that the text of one turn may take
---   longest                == the bytes of the input that can matter (records/proofs/Limit)
 --   mostSent               == no more bytes are written than that: turnRoom * (longest + 1)
 --   SentTurn .. c r        == after the turn at the cursor c: more is due from a later cursor on, all is written, or a
 --                             part could not be written
@@ -18,6 +17,7 @@ use mathlib.Core.Bool.{Bool, true}
 use mathlib.Core.List.{List, [], _++_}
 use lib.ListN.{length, take, drop}
 use Rattle.records.specs.Format.{recordAt}
+use Rattle.records.specs.Settled.{longest, Reached}
 use Rattle.records.specs.declared.stream.Cursor.{Cursor}
 use Rattle.jobs.specs.Text.{programText}
 use Rattle.jobs.specs.Contract.{textFrom}
@@ -39,9 +39,6 @@ pub record Left (text : List ℕ) (k : ℕ) (rest : List ℕ) : Type 0 where
 abbrev pub turnRoom : ℕ
 turnRoom = 6307
 
-abbrev pub longest : ℕ
-longest = 7966
-
 abbrev pub mostSent : ℕ
 mostSent = 50247869
 
@@ -52,6 +49,7 @@ pub record Next (p : List ℕ) (over : Bool) (k : ℕ) (part : List ℕ) : Type 
 pub record Due (p : List ℕ) (over : Bool) (w h : ℕ) (map : List ℕ) (c : Cursor) (k : ℕ) : Type 0 where
   pub left : (s : List ℕ) → Input p over s → Left (programText s) k (textFrom s w h map c)
   pub job : 1 ≤ c .due
+  pub reached : Reached c
   pub place : c .at ≤ length p
   pub short : length p ≤ longest
   pub few : k ≤ turnRoom * c .at

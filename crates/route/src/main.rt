@@ -10,12 +10,13 @@
 // No contract can name the bytes that libc's read and write move: that the buffer holds what was read, and that a write
 // moves what is lent to it, is not proved.
 ghost use mathlib.Core.Path.{_≡_};
-ghost use Prim.Native.Nat.{_*_, _≤_};
+ghost use Prim.Native.Nat.{_*_, _≤_, _<_};
 ghost use lib.ListN.{length};
 ghost use Rattle.floor.specs.Floor.{mapLength, vertices};
 ghost use Rattle.planner.specs.Plan.{slicesOf};
 ghost use Rattle.jobs.specs.Contract.{SmallFloor, Ready, TurnTold};
-ghost use Rattle.route.specs.Sent.{Sure, Next, Due, turnRoom, longest, SentTurn};
+ghost use Rattle.records.specs.Settled.{longest, Reached};
+ghost use Rattle.route.specs.Sent.{Sure, Next, Due, turnRoom, SentTurn};
 ghost use Rattle.route.specs.Reads.{ReadMore, ReadFor, MapRead, BadRead, Ended};
 use jobs::Turn;
 use libc::EAGAIN;
@@ -31,7 +32,7 @@ use records::stream::Record;
 const MOST_TRIES: usize = 1000000000000000;
 
 // What is read of the input: so many bytes, at the start of the buffer, and whether that is all: the input has ended,
-// can't be read, or fills the buffer, past which no byte matters.
+// or can't be read.
 struct Reading {
     count: usize,
     over: bool,
@@ -116,9 +117,9 @@ fn read_some(buf: &mut [u8]) -> usize
     0
 }
 
-// Reads on, past the first n bytes of the buffer.
+// Reads on, past the first n bytes of the buffer, which has room for more.
 fn read_more(input: &mut [u8], n: usize) -> Reading
-    requires { ⌜ n ≤ length (now input) ⌝ }
+    requires { ⌜ n < length (now input) ⌝ }
     ensures { λ r. ⌜ ReadMore (now (input .entry)) n (now (input .exit)) r ⌝ }
 {
     let got = read_some(&mut input[n..]);
@@ -128,9 +129,9 @@ fn read_more(input: &mut [u8], n: usize) -> Reading
     }
 }
 
-// Reads on until what stands at the cursor is sure.
+// Reads on until what stands at the cursor is sure. The buffer never fills before that.
 fn read_for(input: &mut [u8], first: Reading, c: Cursor) -> Reading
-    requires { ⌜ first .count ≤ length (now input) ⌝ }
+    requires { ⌜ (first .count ≤ length (now input)) × (length (now input) ≡ longest) × Reached c ⌝ }
     ensures { λ r. ⌜ ReadFor (now (input .entry)) first (now (input .exit)) r c ⌝ }
 {
     let mut r = first;
@@ -310,7 +311,7 @@ fn write_bad(input: &[u8], first: Reading, k: usize, line: &mut [u8]) -> Ending
 
 // The whole run, with a buffer for the input. What stands first is a map or a bad record.
 fn run(input: &mut [u8]) -> Ending
-    requires { ⌜ length (now input) ≤ longest ⌝ }
+    requires { ⌜ length (now input) ≡ longest ⌝ }
     ensures { λ r. ⌜ Ended (now (input .exit)) r ⌝ }
 {
     let c = Cursor::new();

@@ -7,6 +7,7 @@ use native.Mathlib.Omega.{arith}
 use lib.ListN.{length}
 use Rattle.route.proofs.Sizes.{taken}
 use Rattle.route.proofs.Settling.{openReads, ReadOn, read-none, read-then, read-less, read-over, read-settled}
+use Rattle.route.proofs.Settling.{room-left}
 use borrow.Author.Needs.{needs}
 use Rattle.route.proofs.read_for.Statement.{statement}
 use Rattle.route.proofs.read_for.Tie as tie
@@ -23,7 +24,7 @@ closed : (c : tie.After-slice-known2 Inv-loop μ-loop)
 closed c = c .before .before .before .before .before .before .before .if1 .left
 
 loop-holds : tie.Need-loop-holds Inv-loop μ-loop
-loop-holds c = (read-none _ _ (c .before .pre), refl)
+loop-holds c = (read-none _ _ (c .before .pre .0), refl)
 
 same-length : tie.Need-same-length Inv-loop μ-loop
 same-length c = c .before .loop .inv .1
@@ -49,7 +50,12 @@ returns-2 c =
     read-settled (l .loop .inv .0) (c .before .is-settled .ensures) (c .if2 .taken)
 
 read-more-requires : tie.Need-read-more-requires Inv-loop μ-loop
-read-more-requires c κs = c .before .before .before .before .before .loop .inv .0 .within
+read-more-requires c κs =
+    let t = c .before .before in
+    let l = t .before .before .before in
+    let s = l .before .before in
+    room-left (l .loop .input) (l .loop .r .count) (s .args .c) (t .is-settled .ensures) (c .before .if2 .left)
+    (s .pre .2) (l .loop .inv .1 ∙ s .pre .1) (l .loop .inv .0 .within)
 
 loop-less : tie.Need-loop-less Inv-loop μ-loop
 loop-less c =

@@ -1,6 +1,7 @@
 -- `route::read_more` meets its contract: what is read stands past the first n bytes, which are left. Depends on libc's
 -- read, on errno and on sched_yield.
 use Prim.Native.Nat.{_-_}
+use native.Mathlib.Omega.{arith}
 use lib.ListN.{length}
 use Rattle.route.proofs.Settling.{read-more}
 use borrow.Author.Needs.{needs}
@@ -31,7 +32,7 @@ returns c =
     let s = r .before .before .before in
     let a = s .args in
     read-more (a .input .now) (r .read-some .last .0) (a .n) (length (a .input .now) - a .n) (r .read-some .result)
-    (s .pre) (r .read-some .ensures)
+    (omega (arith, s .pre)) (r .read-some .ensures)
 
 pub read-more-spec : {M : Type 1} → statement M
 read-more-spec =

@@ -1,9 +1,9 @@
 -- `route::run` meets its contract: what the first step finds is handed on as such. Depends on libc's read and write, on
 -- errno and on sched_yield.
-use mathlib.Core.Path.{refl}
+use mathlib.Core.Path.{refl, _∙_}
 use native.Mathlib.Omega.{arith}
 use Rattle.route.proofs.Sizes.{taken}
-use Rattle.route.proofs.Running.{first-step, first-sure}
+use Rattle.route.proofs.Running.{first-step, first-sure, first-reached}
 use Rattle.route.proofs.Sending.{never-end, never-job}
 use borrow.Author.Needs.{needs}
 use Rattle.route.proofs.run.Statement.{statement}
@@ -13,7 +13,9 @@ new-requires : tie.Need-new-requires
 new-requires c κs = search needs
 
 read-for-requires : tie.Need-read-for-requires
-read-for-requires c κs = search needs
+read-for-requires c κs =
+    let n = c .before in
+    (omega arith, n .before .before .pre, first-reached (n .new .ensures))
 
 slice-reshare-prefix-step : tie.Need-slice-reshare-prefix-step
 slice-reshare-prefix-step c = c .before .before .read-for .ensures .within
@@ -34,7 +36,7 @@ lend-map-requires c κs =
     let f = t .before .before .before .before in
     let n = f .before .before in
     record {
-      short = omega (arith, n .before .before .pre, f .read-for .kept .0);
+      room = f .read-for .kept .0 ∙ n .before .before .pre;
       within = f .read-for .ensures .within;
       found = first-step _ (n .new .ensures) (t .step .ensures) (m .m .given .1);
       sure = first-sure (n .new .ensures) (f .read-for .ensures .sure);

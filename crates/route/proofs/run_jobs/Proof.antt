@@ -8,7 +8,8 @@ use native.Mathlib.Omega.{arith}
 use lib.ListN.{length, take, length-take}
 use Rattle.floor.specs.Floor.{vertices}
 use Rattle.jobs.specs.Contract.{SmallFloor}
-use Rattle.route.specs.Sent.{longest, Due}
+use Rattle.records.specs.Settled.{longest}
+use Rattle.route.specs.Sent.{Due}
 use Rattle.route.proofs.Sizes.{taken}
 use Rattle.route.proofs.Running.{cells-lent, jobs-small, jobs-due, due-on, sent-more, sent-last}
 use Rattle.route.proofs.run_jobs.Statement.{statement}
@@ -17,7 +18,7 @@ use Rattle.route.proofs.run_jobs.Tie as tie
 abbrev Inv-loop : tie.InvT-loop
 Inv-loop input₀ map d₀ n w h r₀ c₀ written₀ input d r c written =
     Due (take (r .count) input) (r .over) w h map c written × SmallFloor w h map × (length d ≡ vertices w h)
-    × (length input ≤ longest) × (r .count ≤ length input) × (length input ≡ length input₀)
+    × (length input ≡ longest) × (r .count ≤ length input) × (length input ≡ length input₀)
 
 abbrev μ-loop : tie.MeasureT-loop
 μ-loop input₀ map d₀ n w h r₀ c₀ written₀ input d r c written = longest - c .at
@@ -42,16 +43,18 @@ loop-holds c =
     let p = c .before .before in
     let s = p .before .before .before .before .before .before in (
       jobs-due _ _ _ (s .pre .0 .found) _ (p .copy-cells .ensures) (s .pre .0 .sure)
-          (omega (arith, s .pre .0 .short, length-take (s .args .first .count) (s .args .input .now))),
+          (omega (arith, s .pre .0 .room, length-take (s .args .first .count) (s .args .input .now))),
       jobs-small _ _ _ (s .pre .0 .found) _ (p .copy-cells .ensures),
       s .pre .2,
-      s .pre .0 .short,
+      s .pre .0 .room,
       s .pre .0 .within,
       refl,
     )
 
 read-for-requires : tie.Need-read-for-requires Inv-loop μ-loop
-read-for-requires c κs = c .before .loop .inv .4
+read-for-requires c κs =
+    let i = c .before .loop .inv in
+    (i .4, i .3, i .0 .reached)
 
 slice-reshare-prefix-lend-turn : tie.Need-slice-reshare-prefix-lend-turn Inv-loop μ-loop
 slice-reshare-prefix-lend-turn c = c .before .before .read-for .ensures .within
@@ -83,7 +86,7 @@ loop-again c =
       g .1,
       i .1,
       t .lend-turn .kept .1 .1 .1 .1 .1 .1 .1 .0 ∙ i .2,
-      omega (arith, i .3, f .read-for .kept .0),
+      f .read-for .kept .0 ∙ i .3,
       f .read-for .ensures .within,
       f .read-for .kept .0 ∙ i .5,
     )
