@@ -9,12 +9,13 @@
 --   farAt ..         == where a row leads from a vertex by its mask: the vertex itself where that move is shut
 --   far-at           == the same for the vertex, its mask and the row as the code reads them
 --   vertex-in        == the vertex that is relaxed is one of the graph's
+--   class-rows       == a class has an eighth of the rows, four
 --   row-low          == the next row is below 32
 --   reaching         == the far end of the next row can be worked out
 --   offering         == and be offered the key
 --   relaxed-more     == after that the row is relaxed too
 --   relaxed-all      == after four rows all moves of the class are
-use Prim.Native.Nat.{ℕ, _+_, _≤_, _<_}
+use Prim.Native.Nat.{ℕ, _+_, _/_, _≤_, _<_}
 use mathlib.Core.Path.{_≡_, refl, sym, ap, _∙_, subst}
 use mathlib.Core.Logic.{⊎-elim}
 use mathlib.Core.Option.{Option, none, some}
@@ -131,6 +132,9 @@ module _ {g : Graph} {r : Rows} {shifts : List ℕ} {c : Class} {a p key n : ℕ
 
   pub vertex-in : u < length d
   vertex-in = omega (arith, B .walk .inside, B .ready .settled .d-len)
+
+  pub class-rows : length shifts / 8 ≡ 4
+  class-rows = ap (λ l. l / 8) (shown .readable .shifts-len)
 
   pub relaxed-none : RelaxedTo g r a u c 0 key n n d d work work
   relaxed-none = record {

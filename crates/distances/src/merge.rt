@@ -76,6 +76,49 @@ fn relax_class(
     k
 }
 
+// What `offer` does, with a branch on whether x has a cost.
+fn offer_unsettled(x: usize, key: u32, n: usize, d: &mut [u32], work: &mut [u32]) -> usize
+    requires { ⌜ (x < length (now d)) × (x < 16384) × (n < length (now work)) ⌝ }
+    ensures { λ r. ⌜ Given x key n r (now (d .entry)) (now (d .exit)) (now (work .entry)) (now (work .exit)) ⌝ }
+{
+    work[n] = x as u32;
+    if d[x] != paths::UNREACHABLE {
+        return n;
+    }
+    d[x] = key;
+    n + 1
+}
+
+// What `relax_class` does, with that branch. Of sixteen offers one finds no cost: what the branch spares on open floors
+// and in halls is more than what it loses on broken floors, where it is not foreseen. Each of the two tables has half of
+// the rows, and a class every fourth of these. Their number is read here, so that the loop is put whole into the one that
+// calls it, and written out there: written out here, it is too long for that.
+fn relax_unsettled(
+    shifts: &[usize],
+    class: Class,
+    p: usize,
+    key: u32,
+    n: usize,
+    d: &mut [u32],
+    work: &mut [u32],
+) -> usize
+    requires { ⌜ ((g : Graph) × (r : Rows) × (a : ℕ)
+        × Relaxing g r (now shifts) class a p key n (now d) (now work)) ⌝ }
+    ensures { λ s. ⌜ ((g : Graph) → (r : Rows) → (a : ℕ)
+        → Relaxing g r (now (shifts .entry)) class a p key n (now (d .entry)) (now (work .entry))
+        → Relaxed g r a (entry (now (work .entry)) p) class key n s (now (d .entry)) (now (d .exit))
+        (now (work .entry)) (now (work .exit))) ⌝ }
+{
+    let u = Vertex(workspace::settled_at(work, p));
+    let mask = workspace::mask_at(work, d.len(), u.0);
+    let mut k = n;
+    for j in 0..shifts.len() / 8 {
+        let x = neighbours::end_or_self(mask, u, offsets::class_row(class, j), shifts);
+        k = offer_unsettled(x.0, key, k, d, work);
+    }
+    k
+}
+
 // The key of place p of the order for moves that cost c.
 fn key_at(n: usize, p: usize, c: u32, d: &[u32], work: &[u32]) -> u32
     requires { ⌜ Keyed n (now d) (now work) × (c ≤ 4095) ⌝ }
@@ -174,17 +217,17 @@ fn settle_three(
             if k0 == paths::UNREACHABLE {
                 return n;
             }
-            n = relax_class(shifts, c0, p0, k0, n, d, work);
+            n = relax_unsettled(shifts, c0, p0, k0, n, d, work);
             p0 += 1;
             continue;
         }
         if k1 <= k2 {
-            n = relax_class(shifts, c1, p1, k1, n, d, work);
+            n = relax_unsettled(shifts, c1, p1, k1, n, d, work);
             p1 += 1;
             continue;
         }
-        n = relax_class(shifts, c2, p2, k2, n, d, work);
-        n = relax_class(shifts, c3, p2, k2, n, d, work);
+        n = relax_unsettled(shifts, c2, p2, k2, n, d, work);
+        n = relax_unsettled(shifts, c3, p2, k2, n, d, work);
         p2 += 1;
     }
 }

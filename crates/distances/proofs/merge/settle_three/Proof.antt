@@ -133,15 +133,15 @@ turn-2 : (c : tie.Else3 Inv-loop μ-loop) → let b = asked (c .before .before) 
 turn-2 c = turn-on (top (asked (c .before .before)) .loop .inv) (chosen-2 c) (low-2 c) refl
 
 -- The second half of a turn of the last position: the same key, for the other class at its place.
-abbrev third : tie.After-relax-class3 Inv-loop μ-loop → tie.Else3 Inv-loop μ-loop
+abbrev third : tie.After-relax-unsettled3 Inv-loop μ-loop → tie.Else3 Inv-loop μ-loop
 third c = c .before .before .before
 
-turn-3 : (c : tie.After-relax-class3 Inv-loop μ-loop)
+turn-3 : (c : tie.After-relax-unsettled3 Inv-loop μ-loop)
     → let b = asked (third c .before .before) in
     let l = top b in
     let a = start l .args in
-    let out = c .relax-class3 .last in
-    TurnOn (a .shifts .now) (c .relax-class3 .result) 3 (key-2 b) (classes l)
+    let out = c .relax-unsettled3 .last in
+    TurnOn (a .shifts .now) (c .relax-unsettled3 .result) 3 (key-2 b) (classes l)
     (l .loop .p0 ∷ l .loop .p1 ∷ (l .loop .p2 + 1) ∷ l .loop .p2 ∷ []) (a .d .now) (out .1 .1 .1 .1 .1 .0) (a .work .now)
     (out .1 .1 .1 .1 .1 .1 .0)
 turn-3 c g r a B =
@@ -149,7 +149,7 @@ turn-3 c g r a B =
     let M = B .merges in
     let K = top (asked (t .before .before)) .loop .inv g r a B in
     let first = turn-2 t g r a B in
-    let P = c .relax-class3 .ensures g r a (first .relaxing) in
+    let P = c .relax-unsettled3 .ensures g r a (first .relaxing) in
     turn M (first .next P)
     (least-again M K (chosen-2 t) (low-2 t) refl P 3 (omega arith) (λ e. omega arith) refl (sym (M .classes .paired)))
     (low-2 t) refl
@@ -204,8 +204,8 @@ same-length-2 c =
 returns : tie.Need-returns Inv-loop μ-loop
 returns c = filled-on (top (asked (c .before .before)) .loop .inv) (chosen-0 (c .before)) (c .if2 .taken)
 
-relax-class-requires : tie.Need-relax-class-requires Inv-loop μ-loop
-relax-class-requires c κs =
+relax-unsettled-requires : tie.Need-relax-unsettled-requires Inv-loop μ-loop
+relax-unsettled-requires c κs =
     let t = c .before .before in
     (_, _, _, turn-0 t _ _ _ (start (top (asked (t .before .before))) .pre .3) .relaxing)
 
@@ -223,10 +223,10 @@ loop-again : tie.Need-loop-again Inv-loop μ-loop
 loop-again c =
     let b = c .before .before .before .before in
     λ g r a B. let t = turn-0 (b .before .before .before) g r a B in
-    t .next (b .relax-class .ensures g r a (t .relaxing))
+    t .next (b .relax-unsettled .ensures g r a (t .relaxing))
 
-relax-class-requires-2 : tie.Need-relax-class-requires-2 Inv-loop μ-loop
-relax-class-requires-2 c κs =
+relax-unsettled-requires-2 : tie.Need-relax-unsettled-requires-2 Inv-loop μ-loop
+relax-unsettled-requires-2 c κs =
     let t = c .before .before in
     (_, _, _, turn-1 t _ _ _ (start (top (asked (t .before .before))) .pre .3) .relaxing)
 
@@ -244,19 +244,19 @@ loop-again-2 : tie.Need-loop-again-2 Inv-loop μ-loop
 loop-again-2 c =
     let b = c .before .before .before .before in
     λ g r a B. let t = turn-1 (b .before .before .before) g r a B in
-    t .next (b .relax-class2 .ensures g r a (t .relaxing))
+    t .next (b .relax-unsettled2 .ensures g r a (t .relaxing))
 
-relax-class-requires-3 : tie.Need-relax-class-requires-3 Inv-loop μ-loop
-relax-class-requires-3 c κs =
+relax-unsettled-requires-3 : tie.Need-relax-unsettled-requires-3 Inv-loop μ-loop
+relax-unsettled-requires-3 c κs =
     let t = c .before .before in
     (_, _, _, turn-2 t _ _ _ (start (top (asked (t .before .before))) .pre .3) .relaxing)
 
 -- Where the contract's graph is named, from the first half of the last turn.
-abbrev entered : tie.After-relax-class3 Inv-loop μ-loop → tie.Start Inv-loop μ-loop
+abbrev entered : tie.After-relax-unsettled3 Inv-loop μ-loop → tie.Start Inv-loop μ-loop
 entered b = start (top (asked (third b .before .before)))
 
-relax-class-requires-4 : tie.Need-relax-class-requires-4 Inv-loop μ-loop
-relax-class-requires-4 c κs =
+relax-unsettled-requires-4 : tie.Need-relax-unsettled-requires-4 Inv-loop μ-loop
+relax-unsettled-requires-4 c κs =
     let b = c .before .before .before .before .before .before in
     (_, _, _, turn-3 b _ _ _ (entered b .pre .3) .relaxing)
 
@@ -276,7 +276,7 @@ loop-again-3 c =
     let q = c .before .before .before .before in
     let b = q .before .before .before .before .before .before .before in
     λ g r a B. let t = turn-3 b g r a B in
-    t .next (q .relax-class4 .ensures g r a (t .relaxing))
+    t .next (q .relax-unsettled4 .ensures g r a (t .relaxing))
 
 pub settle-three-spec : {M : Type 1} → statement M
 settle-three-spec =
@@ -295,16 +295,16 @@ settle-three-spec =
     same-length
     same-length-2
     returns
-    relax-class-requires
+    relax-unsettled-requires
     add-p0
     loop-less
     loop-again
-    relax-class-requires-2
+    relax-unsettled-requires-2
     add-p1
     loop-less-2
     loop-again-2
-    relax-class-requires-3
-    relax-class-requires-4
+    relax-unsettled-requires-3
+    relax-unsettled-requires-4
     add-p2
     loop-less-3
     loop-again-3)
