@@ -40,11 +40,8 @@ use Rattle.planner.specs.declared.Planned.{Planned}
 use Rattle.planner.specs.declared.Planned.the-variants.{Found, Refused}
 use Rattle.thinning.specs.Thinning.{keptPositions, joinedList}
 use Rattle.records.specs.Format.{recordAt, streamFrom}
-<<<<<<< HEAD
 use Rattle.records.specs.Known.{Written}
-=======
 use Rattle.records.specs.Settled.{Reached}
->>>>>>> h-stream
 use Rattle.records.specs.declared.stream.Cursor.{Cursor}
 use Rattle.records.specs.declared.stream.MapRecord.{MapRecord}
 use Rattle.records.specs.declared.stream.JobRecord.{JobRecord}
