@@ -78,7 +78,7 @@ use Rattle.mending.specs.declared.Mended.the-variants.{Route, NoRoute, Refused 
 use Rattle.demands.specs.Demands.{Line, line, firstOf, atZero, floorLines, isNeighbourhood, isVertex, isPinch}
 use Rattle.demands.specs.Demands.{jobLines, rowsFor, graphOf, planLines, planLeft, replayLines, AnswersReplay}
 use Rattle.demands.specs.Demands.{floorsLines, AnswersCells, reportLines, AnswersChanges, givenLines, writeLines}
-use Rattle.demands.specs.Demands.{AnswersWrite, legsLines, AnswersLegs, AnswersProposal, mendShape, AnswersMend}
+use Rattle.demands.specs.Demands.{AnswersWrite, legsLines, AnswersLegs, AnswersProposal, mendLines, AnswersMend}
 use Rattle.demands.proofs.Shapes.{shapeNumber, test-first, and-first, two-first, two-cases, floor-first}
 use Rattle.demands.proofs.Shapes.{floor-cases, known-first, known-cases, job-first, job-cases}
 use Rattle.demands.proofs.Shapes.{refusal-positive, left-zero}
@@ -403,7 +403,7 @@ module _ (w h : ℕ) (map : List ℕ) (nb a b : ℕ) (old : Sheet) (s : MendSlic
   fit-left false = refl
 
   mend-first : mendNumber (mendAnswer w h map nb a b old s)
-      ≡ firstOf (mendShape w h map nb a b old s ++ planLines g a b)
+      ≡ firstOf (mendLines w h map nb a b old s ++ planLines g a b)
   unfolding mendAnswer mendJob sheetSized lengthsSized
   mend-first =
       job-first w h map nb a b (λ j. mendNumber (mended w h map a b old (ifSized sheets j))) (λ r. refl)

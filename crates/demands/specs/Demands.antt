@@ -429,15 +429,15 @@ pub record AnswersProposal (w h : ℕ) (map list kept legs : List ℕ) (n : ℕ)
       (padded (length legs) (tabulate n (fewestLegs (seen (floorOf w h map) list) n))) legs
 
 -- The mending of a damaged sheet, which is only read, into a second set of slices.
-abbrev pub mendShape : ℕ → ℕ → List ℕ → ℕ → ℕ → ℕ → Sheet → MendSlices → List Line
-mendShape w h map nb a b old s =
+abbrev pub mendLines : ℕ → ℕ → List ℕ → ℕ → ℕ → ℕ → Sheet → MendSlices → List Line
+mendLines w h map nb a b old s =
     let v = vertices w h in
     jobLines w h map nb a b
     ++ (line 6 (not (sheetSized v old && sheetSized v (sheetIn s 0) && eqb (length (s .work)) (4 * v))) ∷ [])
 
 pub record AnswersMend (w h : ℕ) (map : List ℕ) (nb a b : ℕ) (old : Sheet) (s : MendSlices) (r : Mended)
     (s' : MendSlices) (g : Graph) : Type 0 where
-  pub number : mendNumber r ≡ firstOf (mendShape w h map nb a b old s ++ planLines g a b)
+  pub number : mendNumber r ≡ firstOf (mendLines w h map nb a b old s ++ planLines g a b)
   pub leaves : s' ≡ planLeft (mendNumber r)
       (withCosts (tabulate (g .size) (distance g a)) (sheetSlices (g .size) (routeSheet g a b)))
       (withCosts (tabulate (g .size) (distance g a)) (sheetSlices (g .size) (noRouteSheet g a)))

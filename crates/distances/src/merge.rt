@@ -90,9 +90,9 @@ fn offer_unsettled(x: usize, key: u32, n: usize, d: &mut [u32], work: &mut [u32]
 }
 
 // What `relax_class` does, with that branch. Of sixteen offers one finds no cost: what the branch spares on open floors
-// and in halls is more than what it loses on broken floors, where it is not foreseen. Each of the two tables has half of
-// the rows, and a class every fourth of these. Their number is read here, so that the loop is put whole into the one that
-// calls it, and written out there: written out here, it is too long for that.
+// and in halls is more than what it loses on broken floors, where it is not foreseen. Each of the two tables has half
+// of the rows, and a class every fourth of these. Their number is read here, so that the loop is put whole into the one
+// that calls it, and written out there: written out here, it is too long for that.
 fn relax_unsettled(
     shifts: &[usize],
     class: Class,

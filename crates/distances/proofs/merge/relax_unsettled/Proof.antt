@@ -1,5 +1,5 @@
--- `distances::merge::relax_unsettled` meets its contract: on any graph that it can run on, the far ends of the moves of the
--- first j rows of the class were offered the key. Assumes nothing.
+-- `distances::merge::relax_unsettled` meets its contract: on any graph that it can run on, the far ends of the moves of
+-- the first j rows of the class were offered the key. Assumes nothing.
 use borrow.Author.Needs.{needs}
 use native.Mathlib.Omega.{arith}
 use mathlib.Core.Path.{_≡_, sym, _∙_}
