@@ -27,12 +27,12 @@ use Rattle.basics.proofs.Sums.{sum-cong, sum-le, sum-ones, sum-add, sum
 
 -- ---- count
 
+pub bit-small : (b : Bool) → pick b 1 0 ≤ 1
+bit-small true = omega arith
+bit-small false = omega arith
+
 pub count-le : (n : ℕ) (p : ℕ → Bool) → count n p ≤ n
-count-le n p = omega (arith, sum-le n (λ k. pick (p k) 1 0) (λ k. 1) (λ k l. small (p k)), sum-ones n)
-  where
-    small : (b : Bool) → pick b 1 0 ≤ 1
-    small true = omega arith
-    small false = omega arith
+count-le n p = omega (arith, sum-le n (λ k. pick (p k) 1 0) (λ k. 1) (λ k l. bit-small (p k)), sum-ones n)
 
 pub count-next : (k : ℕ) (p : ℕ → Bool) → count (k + 1) p ≡ count k p + pick (p k) 1 0
 count-next k p = sum-next k (λ k. pick (p k) 1 0)

@@ -9,7 +9,6 @@
 use Prim.Native.Nat.{ℕ, _*_}
 use mathlib.Core.Path.{_≡_, refl, sym, ap, ap₂, _∙_}
 use mathlib.Core.Bool.{_&&_}
-use native.Mathlib.Omega.{arith}
 use borrow.Author.Tests.{eqb-true, eq-eqb, ne-eqb}
 use lib.Dec.{eqb}
 use lib.ListN.{length}
@@ -28,7 +27,7 @@ use Rattle.moves.specs.Moves.{neighbourhoodOf}
 use Rattle.grid.specs.Grid.{floorGraph, orUnfit, withRows, pinchShape, endsShape, jobOf}
 use Rattle.grid.specs.declared.Job.{Job}
 use Rattle.grid.specs.declared.Job.the-variants.{Fit, Unfit}
-use Rattle.grid.proofs.Jobs.{good-job}
+use Rattle.grid.proofs.Jobs.{good-job, unfit-fit}
 use Rattle.changes.specs.Changes.{
   GivenFloor,
   shapeOf,
@@ -97,9 +96,6 @@ module _ (v c c' n k : ℕ) where
 
 -- ---- the start on two floors
 
-never : {P : Type 0} {r : Refusal} {q : Rows} → _≡_ {A = Job} (Unfit r) (Fit q) → P
-never {P} {r} {q} e = let z : _≡_ {A = ℕ} 0 1 = cc in absurd (omega arith)
-
 -- The rows, or the refusal, from the neighbourhood N, the shape E of the start and those of its pinches P and Q on the
 -- two floors, and the shape L of the lengths.
 abbrev first : Neighbourhood → Shape → Shape → Job
@@ -113,22 +109,22 @@ first-stops : (N : Neighbourhood) (E P Q L : Shape) {r : Refusal} → first N E 
 first-stops Unknown E P Q L e = refl
 first-stops (Known k) (BadShape z) P Q L e = refl
 first-stops (Known k) Good (BadShape z) Q L e = refl
-first-stops (Known k) Good Good Q L e = never (sym e)
+first-stops (Known k) Good Good Q L e = unfit-fit (sym e)
 
 second-stops : (N : Neighbourhood) (E P Q L : Shape) {rows : Rows} {r : Refusal} → first N E P ≡ Fit rows
     → first N E Q ≡ Unfit r → first N E Q ≡ whole N E P Q L
-second-stops Unknown E P Q L f e = never f
-second-stops (Known k) (BadShape z) P Q L f e = never f
-second-stops (Known k) Good (BadShape z) Q L f e = never f
+second-stops Unknown E P Q L f e = unfit-fit f
+second-stops (Known k) (BadShape z) P Q L f e = unfit-fit f
+second-stops (Known k) Good (BadShape z) Q L f e = unfit-fit f
 second-stops (Known k) Good Good (BadShape z) L f e = refl
-second-stops (Known k) Good Good Good L f e = never (sym e)
+second-stops (Known k) Good Good Good L f e = unfit-fit (sym e)
 
 both-pass : (N : Neighbourhood) (E P Q L : Shape) {rows rows′ : Rows} → first N E P ≡ Fit rows
     → first N E Q ≡ Fit rows′ → orUnfit L (Fit rows) ≡ whole N E P Q L
-both-pass Unknown E P Q L f g = never f
-both-pass (Known k) (BadShape z) P Q L f g = never f
-both-pass (Known k) Good (BadShape z) Q L f g = never f
-both-pass (Known k) Good Good (BadShape z) L f g = never g
+both-pass Unknown E P Q L f g = unfit-fit f
+both-pass (Known k) (BadShape z) P Q L f g = unfit-fit f
+both-pass (Known k) Good (BadShape z) Q L f g = unfit-fit f
+both-pass (Known k) Good Good (BadShape z) L f g = unfit-fit g
 both-pass (Known k) Good Good Good L f g = ap (orUnfit L) (sym f)
 
 -- What a fit report has.
@@ -139,11 +135,11 @@ record Passed (N : Neighbourhood) (E P Q L : Shape) (rows : Rows) : Type 0 where
 
 whole-passed : (N : Neighbourhood) (E P Q L : Shape) {rows : Rows} → whole N E P Q L ≡ Fit rows
     → Passed N E P Q L rows
-whole-passed Unknown E P Q L e = never e
-whole-passed (Known k) (BadShape z) P Q L e = never e
-whole-passed (Known k) Good (BadShape z) Q L e = never e
-whole-passed (Known k) Good Good (BadShape z) L e = never e
-whole-passed (Known k) Good Good Good (BadShape z) e = never e
+whole-passed Unknown E P Q L e = unfit-fit e
+whole-passed (Known k) (BadShape z) P Q L e = unfit-fit e
+whole-passed (Known k) Good (BadShape z) Q L e = unfit-fit e
+whole-passed (Known k) Good Good (BadShape z) L e = unfit-fit e
+whole-passed (Known k) Good Good Good (BadShape z) e = unfit-fit e
 whole-passed (Known k) Good Good Good Good e = record { one = e; two = e; lengths = refl }
 
 then-same : (s : Shape) → andThen s s ≡ s
@@ -234,7 +230,7 @@ fit-shape p q nb a c c' n k {rows} e = cases (floorsShape p q) refl e
 
     cases : (s : Shape) → floorsShape p q ≡ s → orUnfit s rest ≡ Fit rows → floorsShape p q ≡ Good
     cases Good t x = t
-    cases (BadShape z) t x = never x
+    cases (BadShape z) t x = unfit-fit x
 
 pub fit-floors : (p q : GivenFloor) (nb a : ℕ) (s : ReportSlices) {rows : Rows} → jobFor p q nb a s ≡ Fit rows
     → GoodFloors p q

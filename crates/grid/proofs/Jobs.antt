@@ -3,6 +3,7 @@
 --   FitJob ..               == a floor, neighbourhood and ends of good shape
 --   job-fit                 == `jobOf` answers `Fit` of just those
 --   good-job                == so such a job is good
+--   unfit-fit               == no job is both unfit and fit
 --   start-fit               == where a job is fit, so is its start alone
 --   start-alone, goal-alone == each end of a good job is a good job by itself
 use Prim.Native.Nat.{ℕ, _<_}
@@ -117,8 +118,8 @@ record Shapes (w h : ℕ) (l : List ℕ) (nb a b : ℕ) (r : Rows) : Type 0 wher
   known : neighbourhoodOf nb ≡ Known r
   ends : endsShape w h l a b ≡ Good
 
-never : {P : Type 0} {r : Refusal} {q : Rows} → _≡_ {A = Job} (Unfit r) (Fit q) → P
-never {P} {r} {q} e = let z : _≡_ {A = ℕ} 0 1 = cc in absurd (omega arith)
+pub unfit-fit : {P : Type 0} {r : Refusal} {q : Rows} → _≡_ {A = Job} (Unfit r) (Fit q) → P
+unfit-fit {P} {r} {q} e = let z : _≡_ {A = ℕ} 0 1 = cc in absurd (omega arith)
 
 module _ (w h : ℕ) (l : List ℕ) (nb a b : ℕ) where
   shapes : (r : Rows) → jobOf w h l nb a b ≡ Fit r → Shapes w h l nb a b r
@@ -127,9 +128,9 @@ module _ (w h : ℕ) (l : List ℕ) (nb a b : ℕ) where
     where
       cases : (f : Shape) (n : Neighbourhood) (s : Shape) → floorShape w h l ≡ f → neighbourhoodOf nb ≡ n
           → endsShape w h l a b ≡ s → orUnfit f (withRows n s) ≡ Fit r → Shapes w h l nb a b r
-      cases (Refused z) n s p q i x = never x
-      cases Good Unknown s p q i x = never x
-      cases Good (Known k) (Refused z) p q i x = never x
+      cases (Refused z) n s p q i x = unfit-fit x
+      cases Good Unknown s p q i x = unfit-fit x
+      cases Good (Known k) (Refused z) p q i x = unfit-fit x
       cases Good (Known k) Good p q i x = record { floor = p; known = cc; ends = i }
 
   pub job-fit : (r : Rows) → jobOf w h l nb a b ≡ Fit r → FitJob w h l nb a b r

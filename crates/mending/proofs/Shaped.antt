@@ -13,7 +13,6 @@ use mathlib.Core.Path.{_≡_, refl, sym, _∙_}
 use mathlib.Core.Logic.{⊎-elim}
 use mathlib.Core.Bool.{Bool, true, false, _&&_, not}
 use mathlib.Core.List.{List}
-use native.Mathlib.Omega.{arith}
 use borrow.Author.Tests.{eqb-true, eq-eqb, ne-eqb, not-true, not-false}
 use lib.Dec.{eqb}
 use lib.ListN.{length}
@@ -28,7 +27,7 @@ use Rattle.paths.specs.Local.{Shaped}
 use Rattle.grid.specs.Grid.{floorGraph, jobOf}
 use Rattle.grid.specs.declared.Job.{Job}
 use Rattle.grid.specs.declared.Job.the-variants.{Fit, Unfit}
-use Rattle.grid.proofs.Jobs.{good-job}
+use Rattle.grid.proofs.Jobs.{good-job, unfit-fit}
 use Rattle.distances.specs.Costs.{FilledCosts}
 use Rattle.planner.specs.declared.Planned.{Planned}
 use Rattle.planner.specs.Plan.{Slices, routeAnswer, routeLeft, planNumber, planPoints}
@@ -59,9 +58,6 @@ use Rattle.mending.specs.Mending.{
 use Rattle.mending.specs.Known.{answerBy, AlikeSheets, Plannable, PlannedSheet, Mendable, MendsSheet}
 
 -- ---- the shape
-
-never : {P : Type 0} {r : Refusal} {q : Rows} → _≡_ {A = Job} (Unfit r) (Fit q) → P
-never {P} {r} {q} e = let z : _≡_ {A = ℕ} 0 1 = cc in absurd (omega arith)
 
 module _ (w h : ℕ) (map : List ℕ) (nb a b : ℕ) (old second : Lengths) (work : ℕ) (j : Job)
     (told : j ≡ jobOf w h map nb a b) where
@@ -107,8 +103,8 @@ module _ (w h : ℕ) (map : List ℕ) (nb a b : ℕ) (old second : Lengths) (wor
 -- What a fit job with slices of the right lengths is.
 sized-fit : (z : Bool) (j : Job) {rows : Rows} → ifSized z j ≡ Fit rows → (z ≡ true) × (j ≡ Fit rows)
 sized-fit true (Fit r) e = (refl, e)
-sized-fit false (Fit r) e = never e
-sized-fit z (Unfit r) e = never e
+sized-fit false (Fit r) e = unfit-fit e
+sized-fit z (Unfit r) e = unfit-fit e
 
 sized-shaped : (v : ℕ) (s : Sheet) → sheetSized v (sheetLengths s) ≡ true → Shaped v s
 unfolding sheetSized sheetTested

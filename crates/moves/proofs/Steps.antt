@@ -15,6 +15,7 @@ use native.Mathlib.Omega.{arith}
 use borrow.Author.Tests.{le-leb, lt-leb, leb-true}
 use lib.Dec.{leb}
 use lib.IntN.{ℤ, pos, negsuc, natAbs}
+use Rattle.basics.proofs.Options.{none-some, some-same}
 use Rattle.floor.specs.declared.Vertex.{Vertex}
 use Rattle.floor.specs.Floor.{Floor, number}
 use Rattle.floor.proofs.Numbers.{column-number, row-number}
@@ -48,12 +49,6 @@ pub record Shifted (n a b : ℕ) (d : ℤ) : Type 0 where
   pub moved : b + down d ≡ a + up d
   pub inside : b ≤ n
 
-never : {P : Type 0} {w : ℕ} → _≡_ {A = Option ℕ} none (some w) → P
-never {P} {w} e = let z : _≡_ {A = ℕ} 0 1 = cc in absurd (omega arith)
-
-some-is : {v w : ℕ} → _≡_ {A = Option ℕ} (some v) (some w) → v ≡ w
-some-is e = cc
-
 pub shifted-is : (n a b : ℕ) (d : ℤ) → shifted n a d ≡ some b → Shifted n a b d
 unfolding shifted
 shifted-is n a b d e = cases (leb (down d) (a + up d)) (leb (a + up d) (n + down d)) refl refl e
@@ -62,12 +57,12 @@ shifted-is n a b d e = cases (leb (down d) (a + up d)) (leb (a + up d) (n + down
         → _≡_ {A = Option ℕ} (elim (p && q) [ true ↦ some (a + up d - down d) | false ↦ none ]) (some b)
         → Shifted n a b d
     cases true true p q h =
-        let s : a + up d - down d ≡ b = some-is h in
+        let s : a + up d - down d ≡ b = some-same h in
         let low = leb-true (down d) (a + up d) p in
         let high = leb-true (a + up d) (n + down d) q in
         record { moved = omega arith; inside = omega arith }
-    cases true false p q h = never h
-    cases false q p r h = never h
+    cases true false p q h = none-some h
+    cases false q p r h = none-some h
 
 -- An offset leads as far as it is long.
 pub shifted-span : (n a b : ℕ) (d : ℤ) → shifted n a d ≡ some b → natAbs d ≡ span a b
@@ -268,14 +263,14 @@ module _ (S : Floor → Segment → Bool) (f : Floor) (m : Move) (x y w : ℕ) (
         j = j;
         columns = shifted-is (f .wide) x i (m .dx) p;
         rows = shifted-is (f .high) y j (m .dy) q;
-        vertex = sym (some-is h);
+        vertex = sym (some-same h);
         held = s;
       }
-      held i j p q false s h = never h
+      held i j p q false s h = none-some h
 
       spot : (a b : Option ℕ) → shifted (f .wide) x (m .dx) ≡ a → shifted (f .high) y (m .dy) ≡ b → Goes S f m x y w
-      spot none b p q = never (sym (end-past S f m x y (sym (spot-past-column _ _ p))) ∙ e)
-      spot (some i) none p q = never (sym (end-past S f m x y (sym (spot-past-row _ _ q))) ∙ e)
+      spot none b p q = none-some (sym (end-past S f m x y (sym (spot-past-column _ _ p))) ∙ e)
+      spot (some i) none p q = none-some (sym (end-past S f m x y (sym (spot-past-row _ _ q))) ∙ e)
       spot (some i) (some j) p q =
           held i j p q (S f (segmentOf x y i j)) refl
           (sym (end-if S f m x y i j on (record { columns = p; rows = q })) ∙ e)

@@ -18,7 +18,7 @@ use lib.Dec.{leb, eqb}
 use lib.ListN.{length, getD}
 use Rattle.basics.specs.Bounded.{pick}
 use Rattle.basics.specs.Lists.{tabulate, zeros}
-use Rattle.basics.proofs.Bools.{and-left, and-right, iff-eq}
+use Rattle.basics.proofs.Bools.{and-left, and-right, eqb-sym}
 use Rattle.basics.proofs.Lists.{getD-tabulate}
 use Rattle.floor.specs.Floor.{floorOf, vertices}
 use Rattle.floor.specs.Refusals.{floorShape}
@@ -37,6 +37,7 @@ use Rattle.grid.specs.Grid.{floorGraph, orUnfit, withRows}
 use Rattle.grid.specs.Known.{GoodJob}
 use Rattle.grid.specs.declared.Job.{Job}
 use Rattle.grid.specs.declared.Job.the-variants.{Fit, Unfit}
+use Rattle.grid.proofs.Jobs.{unfit-fit}
 use Rattle.distances.specs.Costs.{FilledCosts}
 use Rattle.logs.specs.Log.{Log, logOf}
 use Rattle.replay.specs.Replay.{
@@ -120,9 +121,6 @@ module _ (v n c k : ℕ) where
 
 -- ---- the shape
 
-never : {P : Type 0} {r : Refusal} {q : Rows} → _≡_ {A = Job} (Unfit r) (Fit q) → P
-never {P} {r} {q} e = let z : _≡_ {A = ℕ} 0 1 = cc in absurd (omega arith)
-
 module _ (w h : ℕ) (map : List ℕ) (nb n c k : ℕ) where
   pub unfit-floor : (s : Refusal) → floorShape w h map ≡ BadShape s → Unfit s ≡ replayJob w h map nb n c k
   unfolding replayJob
@@ -155,9 +153,9 @@ job-replayable w h map nb log costs work rows e =
     cases : (f : Shape) (n : Neighbourhood) (s : Shape) → floorShape w h map ≡ f → neighbourhoodOf nb ≡ n
         → logShape (vertices w h) (length log) (length costs) (length work) ≡ s
         → orUnfit f (withRows n s) ≡ Fit rows → Replayable w h map rows log costs work
-    cases (BadShape z) n s p q i x = never x
-    cases Good Unknown s p q i x = never x
-    cases Good (Known k) (BadShape z) p q i x = never x
+    cases (BadShape z) n s p q i x = unfit-fit x
+    cases Good Unknown s p q i x = unfit-fit x
+    cases Good (Known k) (BadShape z) p q i x = unfit-fit x
     cases Good (Known k) Good p q i x =
         let t = log-fitting (vertices w h) (length log) (length costs) (length work) i in
         let same : neighbourhoodOf nb ≡ Known rows = cc in
@@ -271,14 +269,10 @@ module _ {w h : ℕ} {map : List ℕ} {rows : Rows} {log : List ℕ} {r : Readin
         ∙ getD-tabulate (vertices w h) (r .drive .last) (distance g (r .drive .first)) (R .bounded .last)
         ∙ ap₂ (distance g) first-stop last-stop in
         record {
-          answer = ap₂ eqb there cost-is ∙ eqb-swap (d (lastStop l)) (driven g p l .cost) ∙ sym (rw is-faultless);
+          answer = ap₂ eqb there cost-is ∙ eqb-sym (d (lastStop l)) (driven g p l .cost) ∙ sym (rw is-faultless);
           costs = F .costs ∙ ap (λ a. tabulate (vertices w h) (distance g a)) first-stop ∙ sym (rw is-faultless);
           work = F .clear;
         }
-      where
-        eqb-swap : (a b : ℕ) → eqb a b ≡ eqb b a
-        eqb-swap a b =
-            iff-eq (eqb a b) (eqb b a) (λ e. eq-eqb b a (sym (eqb-true a b e))) (λ e. eq-eqb a b (sym (eqb-true b a e)))
 
   pub answered : {b : Bool} {a : Replayed} {costs work : List ℕ} → Judged g p l b costs work → a ≡ answerIn r b
       → ReplaysLog g p l a costs work

@@ -19,7 +19,7 @@ use lib.ListN.{length, getD}
 use Rattle.basics.specs.Bounded.{pick, seek}
 use Rattle.basics.proofs.Bools.{true-or-false}
 use Rattle.basics.proofs.Bounded.{pick-yes, pick-no}
-use Rattle.basics.proofs.Options.{none-some}
+use Rattle.basics.proofs.Options.{none-some, some-same}
 use Rattle.paths.specs.Graph.{Graph, Lawful}
 use Rattle.replay.specs.Replay.{goesTo, moveCost, legCost, followCost, Driven, drivenOf, ifFollows, drive, lastOf}
 use Rattle.replay.specs.Known.{progressOf, before, costWith, followedWith}
@@ -27,9 +27,6 @@ use Rattle.replay.specs.Known.{afterStop, afterStops, startProgress, Bou
 use Rattle.replay.specs.declared.Followed.{Followed}
 use Rattle.replay.specs.declared.Followed.the-variants.{Throughout, Not}
 use Rattle.replay.specs.declared.Progress.{Progress}
-
-pub some-same : {x y : ℕ} → _≡_ {A = Option ℕ} (some x) (some y) → x ≡ y
-some-same e = cc
 
 module _ (g : Graph) (p : ℕ → Bool) where
   pub after-read : (l : List ℕ) (s : Progress) → afterStops g p s l .read ≡ s .read + length l

@@ -21,7 +21,7 @@ use lib.ListN.{length, getD}
 use Rattle.basics.specs.Bounded.{pick, seek}
 use Rattle.basics.proofs.Bools.{true-or-false, not-both, and-left, and-right}
 use Rattle.basics.proofs.Bounded.{pick-yes, pick-no, seek-found}
-use Rattle.basics.proofs.Options.{none-some}
+use Rattle.basics.proofs.Options.{none-some, some-same}
 use Rattle.paths.specs.Graph.{Graph, Lawful}
 use Rattle.paths.specs.Walk.{HasWalk, stop, go}
 use Rattle.paths.specs.Distance.{distance}
@@ -49,7 +49,7 @@ use Rattle.replay.specs.Replay.{
 }
 use Rattle.replay.specs.declared.Followed.the-variants.{Throughout, Not}
 use Rattle.replay.specs.declared.Replayed.the-variants.{Whole}
-use Rattle.replay.proofs.Taken.{some-same, driven-bounded}
+use Rattle.replay.proofs.Taken.{driven-bounded}
 
 goes-some : (o : Option ℕ) (v : ℕ) → goesTo o v ≡ true → o ≡ some v
 goes-some none v e = absurd (not-both false e refl)

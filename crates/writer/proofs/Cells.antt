@@ -19,6 +19,7 @@ use Rattle.basics.specs.Bounded.{pick}
 use Rattle.basics.specs.Lists.{tabulate}
 use Rattle.basics.specs.Bits.{bitsOf}
 use Rattle.basics.proofs.Order.{le-or-lt}
+use Rattle.basics.proofs.Counting.{bit-small}
 use Rattle.basics.proofs.Lists.{length-tabulate, getD-tabulate, tabulate-cong}
 use Rattle.floor.specs.Floor.{Floor, bitBytes, mapLength, byteBlocked, storedCells, floorOf, cellNumbered, cellBytes}
 use Rattle.floor.proofs.Packed.{Bytes}
@@ -36,11 +37,7 @@ unfolding cellBytes
 cells-small f c l =
     let n = f .wide * f .high in
     let F : ℕ → ℕ = λ c. pick (cellNumbered f c) 1 0 in
-    rw (getD-tabulate n c F (omega (arith, length-tabulate n F))) (bit (cellNumbered f c))
-  where
-    bit : (b : Bool) → pick b 1 0 ≤ 1
-    bit true = omega arith
-    bit false = omega arith
+    rw (getD-tabulate n c F (omega (arith, length-tabulate n F))) (bit-small (cellNumbered f c))
 
 -- A number made of n bits.
 bits-lt : (n : ℕ) (p : ℕ → Bool) → bitsOf n p < 2 ^ n
