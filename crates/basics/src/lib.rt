@@ -1,5 +1,6 @@
-// Slices filled with one number, and at how many places two of them differ.
+// Slices filled with one number, at how many places two of them differ, and a cost in 64 bits.
 ghost use mathlib.Core.Path.{_≡_};
+ghost use Prim.Native.Nat.{_<_};
 ghost use lib.ListN.{length, replicate};
 ghost use Rattle.basics.specs.Lists.{differences};
 
@@ -79,4 +80,11 @@ pub fn differences_u64(s: &[u64], t: &[u64]) -> usize
         }
     }
     n
+}
+
+// A cost in 64 bits, where a sum of two fits.
+pub fn wide(x: u32) -> u64
+    ensures { λ r. ⌜ (r ≡ x) × (r < 4294967296) ⌝ }
+{
+    x as u64
 }

@@ -5,24 +5,22 @@ use mathlib.Core.Bool.{Bool}
 use mathlib.Core.List.{List}
 use lib.Dec.{eqb}
 use Rattle.basics.specs.Bounded.{pick}
-use Rattle.floor.specs.Refusals.{refusalNumber}
+use Rattle.floor.specs.Refusals.{refusalNumber, shapeNumber}
 use Rattle.floor.specs.declared.Refusal.{Refusal}
+use Rattle.floor.specs.declared.Shape.{Shape}
 use Rattle.sight.specs.Question.{sightNumber, obstacleNumber, obstaclePlace}
 use Rattle.sight.specs.declared.Obstacle.{Obstacle}
 use Rattle.sight.specs.declared.Obstacle.the-variants.{Clear, Cell, Step, Pinch}
 use Rattle.sight.specs.declared.Sight.{Sight}
-use Rattle.sight.specs.declared.Sight.the-variants.{Answered, Unasked}
-use Rattle.planner.specs.Plan.{CostSlices, FillsCosts, costedNumber}
+use Rattle.sight.specs.declared.Sight.the-variants.{Answered, Refused}
+use Rattle.planner.specs.Plan.{CostSlices, FillsCosts}
 use Rattle.planner.specs.Plan.{Slices, Finishes, planNumber, planCost, planTotal, planPoints}
-use Rattle.planner.specs.declared.Costed.{Costed}
 use Rattle.planner.specs.declared.Planned.{Planned}
 use Rattle.thinning.specs.Answer.{Thins, thinNumber, thinKept}
 use Rattle.thinning.specs.declared.Thinned.{Thinned}
-use Rattle.closures.specs.Plain.{postSlot, postNumber, strikeNumber, workNumber}
+use Rattle.closures.specs.Plain.{postSlot, postNumber}
 use Rattle.closures.specs.declared.Rectangle.{Rectangle}
 use Rattle.closures.specs.declared.Posting.{Posting}
-use Rattle.closures.specs.declared.Striking.{Striking}
-use Rattle.closures.specs.declared.Writing.{Writing}
 use Rattle.stored_closures.specs.Stored.{PostsIn, StrikesIn, WritesFrom}
 use Rattle.replay.specs.Replay.{ReplaySlices, Replays, replayNumber}
 use Rattle.replay.specs.Replay.{replayRead, replayCost, replayUnfollowed, replayBad, replayCheapest}
@@ -31,7 +29,7 @@ use Rattle.capi.specs.Results.{obstacleResult, planResult, thinResult, p
 use Rattle.capi.specs.Results.{FillsTo, FinishesTo, ThinsTo, PostsTo, StrikesTo, WritesTo}
 use Rattle.capi.specs.Results.{replayResult, ReplaysTo}
 
-pub obstacle-refused : {s : Sight} {x : Refusal} {r : ℕ} → s ≡ Unasked x → r ≡ refusalNumber x
+pub obstacle-refused : {s : Sight} {x : Refusal} {r : ℕ} → s ≡ Refused x → r ≡ refusalNumber x
     → record { place = 0; answer = r } ≡ obstacleResult s
 obstacle-refused e er = rw er (sym (ap obstacleResult e))
 
@@ -45,11 +43,11 @@ clear-alike (Answered Clear) = refl
 clear-alike (Answered (Cell c)) = refl
 clear-alike (Answered (Step v)) = refl
 clear-alike (Answered (Pinch v)) = refl
-clear-alike (Unasked r) = refl
+clear-alike (Refused r) = refl
 
-pub fills-to : {w h : ℕ} {map : List ℕ} {nb a : ℕ} {s s' : CostSlices} {c : Costed} {r : ℕ}
-    → FillsCosts w h map nb a s c s' → r ≡ costedNumber c → FillsTo w h map nb a s r s'
-fills-to F e = record { answer = e ∙ ap costedNumber (F .answer); left = F .left }
+pub fills-to : {w h : ℕ} {map : List ℕ} {nb a : ℕ} {s s' : CostSlices} {c : Shape} {r : ℕ}
+    → FillsCosts w h map nb a s c s' → r ≡ shapeNumber c → FillsTo w h map nb a s r s'
+fills-to F e = record { answer = e ∙ ap shapeNumber (F .answer); left = F .left }
 
 pub finishes-to : {w h : ℕ} {map : List ℕ} {nb a b : ℕ} {d : List ℕ} {s s' : Slices} {p : Planned} {t n c r : ℕ}
     → Finishes w h map nb a b d s p s'
@@ -66,13 +64,13 @@ pub posts-to : {w h : ℕ} {l l' : List ℕ} {x : Rectangle} {p : Posting} {k r 
     → k ≡ postSlot p → r ≡ postNumber p → PostsTo w h l x (record { slot = k; answer = r }) l'
 posts-to P ek er = record { answer = rw (ek, er) (ap postResult (P .answers)); left = P .leaves }
 
-pub strikes-to : {w h : ℕ} {l l' : List ℕ} {k r : ℕ} {s : Striking} → StrikesIn w h l k s l' → r ≡ strikeNumber s
+pub strikes-to : {w h : ℕ} {l l' : List ℕ} {k r : ℕ} {s : Shape} → StrikesIn w h l k s l' → r ≡ shapeNumber s
     → StrikesTo w h l k r l'
-strikes-to S e = record { answer = e ∙ ap strikeNumber (S .answers); left = S .leaves }
+strikes-to S e = record { answer = e ∙ ap shapeNumber (S .answers); left = S .leaves }
 
-pub writes-to : {w h : ℕ} {l base map map' : List ℕ} {r : ℕ} {s : Writing} → WritesFrom w h l base map s map'
-    → r ≡ workNumber s → WritesTo w h l base map r map'
-writes-to W e = record { answer = e ∙ ap workNumber (W .answers); left = W .leaves }
+pub writes-to : {w h : ℕ} {l base map map' : List ℕ} {r : ℕ} {s : Shape} → WritesFrom w h l base map s map'
+    → r ≡ shapeNumber s → WritesTo w h l base map r map'
+writes-to W e = record { answer = e ∙ ap shapeNumber (W .answers); left = W .leaves }
 
 pub replays-to : {w h : ℕ} {map : List ℕ} {nb : ℕ} {log : List ℕ} {s s' : ReplaySlices} {a : Replayed}
     {n u k c r f : ℕ} {b : Bool}

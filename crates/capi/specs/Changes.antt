@@ -3,12 +3,13 @@
 --
 --   changesResult r == an answer of the first report
 --   CellsTo ..      == the first report's statement: the answer r, and the slice of cell numbers afterwards
---   CostsTo ..      == that of the second: the answer r, and the four lent slices afterwards
+--   CostsTo ..      == the second report's statement: the answer r, and the four lent slices afterwards
 use Prim.Native.Nat.{ℕ}
 use mathlib.Core.Path.{_≡_}
 use mathlib.Core.List.{List}
+use Rattle.floor.specs.Refusals.{shapeNumber}
 use Rattle.changes.specs.Changes.{GivenFloor, cellsAnswer, cellsLeft, cellsNumber, closedCount, openedCount}
-use Rattle.changes.specs.Changes.{ReportSlices, costsAnswer, costsLeft, costsNumber}
+use Rattle.changes.specs.Changes.{ReportSlices, costsAnswer, costsLeft}
 use Rattle.changes.specs.declared.CellReport.{CellReport}
 use Rattle.capi.specs.declared.change_reports.ChangesResult.{ChangesResult}
 
@@ -20,5 +21,5 @@ pub record CellsTo (p q : GivenFloor) (l : List ℕ) (r : ChangesResult) (l' : L
   pub left : l' ≡ cellsLeft p q l
 
 pub record CostsTo (p q : GivenFloor) (nb a : ℕ) (s : ReportSlices) (r : ℕ) (s' : ReportSlices) : Type 0 where
-  pub answer : r ≡ costsNumber (costsAnswer p q nb a s)
+  pub answer : r ≡ shapeNumber (costsAnswer p q nb a s)
   pub left : s' ≡ costsLeft p q nb a s

@@ -1,4 +1,4 @@
--- The statement of the C interface for our own proposer (request 12). The checker's answer is the number of the
+-- The statement of the C interface for our own proposer (rule 10.6). The checker's answer is the number of the
 -- operation's own.
 --
 --   ProposesTo ..    == the answer r, and both lent slices afterwards

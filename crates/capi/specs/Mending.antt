@@ -1,4 +1,4 @@
--- The C function that mends a damaged sheet (request 14 of document 02).
+-- The C function that mends a damaged sheet (docs/RULES.md, section 14).
 --
 --   mendResult m == an answer of the mending: its number with the number of points, and for each slice at how many places
 --                   the damaged one and the true one differ

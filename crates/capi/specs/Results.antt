@@ -6,7 +6,8 @@
 --   postResult p     == an answer of post
 --   replayResult r   == an answer of the replay; `cheapest` is 1 or 0
 --   FillsTo ..       == the statement of the planner's first operation: the answer r, and both lent slices afterwards
---   FinishesTo ..    == that of its second: the answer r, and every slice lent to be written afterwards
+--   FinishesTo ..    == the statement of the planner's second operation: the answer r, and every slice lent to be
+--                       written afterwards
 --   ThinsTo ..       == the thinning's statement: the answer r, and the output slice afterwards
 --   PostsTo, StrikesTo == the statements of post and strike: the answer, and the 64 numbers afterwards
 --   WritesTo ..      == the statement of writing the working map: the answer, and the slice afterwards
@@ -15,16 +16,17 @@ use Prim.Native.Nat.{ℕ}
 use mathlib.Core.Path.{_≡_}
 use mathlib.Core.List.{List}
 use lib.ListN.{length}
+use Rattle.floor.specs.Refusals.{shapeNumber}
 use Rattle.basics.specs.Bounded.{pick}
 use Rattle.sight.specs.Question.{sightCase, sightPlace}
 use Rattle.sight.specs.declared.Sight.{Sight}
-use Rattle.planner.specs.Plan.{CostSlices, costsAnswer, costsLeft, costedNumber}
+use Rattle.planner.specs.Plan.{CostSlices, costsAnswer, costsLeft}
 use Rattle.planner.specs.Plan.{Slices, finishAnswer, finishLeft, planNumber, planCost, planTotal, planPoints}
 use Rattle.planner.specs.declared.Planned.{Planned}
 use Rattle.thinning.specs.Answer.{thinAnswer, thinOutput, thinNumber, thinKept}
 use Rattle.thinning.specs.declared.Thinned.{Thinned}
-use Rattle.closures.specs.Plain.{postAnswer, postSlot, postNumber, strikeAnswer, strikeNumber}
-use Rattle.closures.specs.Plain.{workAnswer, workLeft, workNumber}
+use Rattle.closures.specs.Plain.{postAnswer, postSlot, postNumber, strikeShape}
+use Rattle.closures.specs.Plain.{workShape, workLeft}
 use Rattle.closures.specs.declared.Rectangle.{Rectangle}
 use Rattle.closures.specs.declared.Posting.{Posting}
 use Rattle.stored_closures.specs.Stored.{storedIn, postStored, strikeStored}
@@ -60,7 +62,7 @@ replayResult r = record {
 }
 
 pub record FillsTo (w h : ℕ) (map : List ℕ) (nb a : ℕ) (s : CostSlices) (r : ℕ) (s' : CostSlices) : Type 0 where
-  pub answer : r ≡ costedNumber (costsAnswer w h map nb a s)
+  pub answer : r ≡ shapeNumber (costsAnswer w h map nb a s)
   pub left : s' ≡ costsLeft w h map nb a s
 
 pub record FinishesTo (w h : ℕ) (map : List ℕ) (nb a b : ℕ) (d : List ℕ) (s : Slices) (r : PlanResult) (s' : Slices)
@@ -77,11 +79,11 @@ pub record PostsTo (w h : ℕ) (l : List ℕ) (x : Rectangle) (r : PostResult) (
   pub left : l' ≡ postStored w h l x
 
 pub record StrikesTo (w h : ℕ) (l : List ℕ) (k r : ℕ) (l' : List ℕ) : Type 0 where
-  pub answer : r ≡ strikeNumber (strikeAnswer w h (storedIn l) k)
+  pub answer : r ≡ shapeNumber (strikeShape w h (storedIn l) k)
   pub left : l' ≡ strikeStored w h l k
 
 pub record WritesTo (w h : ℕ) (l base map : List ℕ) (r : ℕ) (map' : List ℕ) : Type 0 where
-  pub answer : r ≡ workNumber (workAnswer w h base (length map))
+  pub answer : r ≡ shapeNumber (workShape w h base (length map))
   pub left : map' ≡ workLeft w h base (storedIn l) map
 
 pub record ReplaysTo (w h : ℕ) (map : List ℕ) (nb : ℕ) (log : List ℕ) (s : ReplaySlices) (r : ReplayResult)

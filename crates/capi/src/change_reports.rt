@@ -76,5 +76,5 @@ pub extern "C" fn lurfanzi_cost_changes(
         changes,
         work,
     );
-    changes::costs_number(r)
+    floor::shape_number(r)
 }

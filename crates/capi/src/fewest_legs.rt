@@ -1,6 +1,7 @@
 // Fewest stops: the checker of a proposal, and our own proposer.
 ghost use mathlib.Core.Path.{_≡_};
-ghost use Rattle.legs.specs.Answer.{checkAnswer, checkNumber};
+ghost use Rattle.floor.specs.Refusals.{shapeNumber};
+ghost use Rattle.legs.specs.Answer.{checkAnswer};
 ghost use Rattle.capi.specs.Legs.{ProposesTo};
 use crate::ThinResult;
 
@@ -16,7 +17,7 @@ pub extern "C" fn lurfanzi_check_legs(
     count: usize,
     legs: &[u16],
 ) -> u8
-    ensures { λ r. ⌜ r ≡ checkNumber (checkAnswer width height (now (map .entry)) (now (list .entry)) n
+    ensures { λ r. ⌜ r ≡ shapeNumber (checkAnswer width height (now (map .entry)) (now (list .entry)) n
         (now (kept .entry)) count (now (legs .entry))) ⌝ }
 {
     let c = legs::check(
@@ -29,7 +30,7 @@ pub extern "C" fn lurfanzi_check_legs(
         count,
         legs,
     );
-    legs::check_number(c)
+    floor::shape_number(c)
 }
 
 // Our own proposer.

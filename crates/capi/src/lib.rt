@@ -106,7 +106,7 @@ pub extern "C" fn lurfanzi_obstacle(
 {
     let found = sight::ask(width as usize, height as usize, map, a as usize, b as usize);
     match found {
-        Sight::Unasked(r) => ObstacleResult {
+        Sight::Refused(r) => ObstacleResult {
             place: 0,
             answer: floor::refusal_number(r),
         },
@@ -143,7 +143,7 @@ pub extern "C" fn lurfanzi_costs(
         d,
         work,
     );
-    planner::costed_number(c)
+    floor::shape_number(c)
 }
 
 // The planner's second operation: the rest of a job from given costs.
@@ -286,7 +286,7 @@ pub extern "C" fn lurfanzi_strike(width: u32, height: u32, slots: &mut [u32; 64]
     ensures { λ r. ⌜ StrikesTo width height (now (slots .entry)) slot r (now (slots .exit)) ⌝ }
 {
     let s = stored_closures::strike(width as usize, height as usize, slots, slot as usize);
-    closures::strike_number(s)
+    floor::shape_number(s)
 }
 
 // The working map.
@@ -302,7 +302,7 @@ pub extern "C" fn lurfanzi_working_map(
         ⌜ WritesTo width height (now (slots .entry)) (now (base .entry)) (now (map .entry)) r (now (map .exit)) ⌝ }
 {
     let s = stored_closures::working_map(width as usize, height as usize, slots, base, map);
-    closures::work_number(s)
+    floor::shape_number(s)
 }
 
 // A truth value as a number.

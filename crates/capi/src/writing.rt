@@ -29,7 +29,7 @@ pub extern "C" fn lurfanzi_write_map(
     let answer = done.answer;
     WriteResult {
         writer: left,
-        answer: writer::writing_number(answer),
+        answer: floor::shape_number(answer),
     }
 }
 
@@ -50,6 +50,6 @@ pub extern "C" fn lurfanzi_write_job(
     let answer = done.answer;
     WriteResult {
         writer: left,
-        answer: writer::writing_number(answer),
+        answer: floor::shape_number(answer),
     }
 }

@@ -4,7 +4,7 @@
 --   Same f f'          == every cell of the first floor is the same on the second
 --   counts-add         == closed and opened together are as many as the cells listed
 --   Lists f f' n l     == the first n numbers of l are exactly the cells that differ, ascending; past them l is 0
---   listed-cells       == so it is of the slice that the report leaves, with closed and opened together for n
+--   listed-cells       == `Lists f f' n l` of the slice l that the report leaves, with closed and opened together for n
 --   same-cells         == on floors with the same cells both counts are 0, and so is every place of the slice
 --   same-counts        == only on such floors are both counts 0
 use Prim.Native.Nat.{ℕ, _+_, _-_, _*_, _≤_, _<_}
@@ -26,7 +26,7 @@ use Rattle.basics.proofs.Counting.{
 }
 use Rattle.floor.specs.Floor.{Floor, cellNumbered}
 use Rattle.floor.specs.declared.Shape.{Shape}
-use Rattle.floor.specs.declared.Shape.the-variants.{Good, Refused as BadShape}
+use Rattle.floor.specs.declared.Shape.the-variants.{Good, Refused}
 use Rattle.changes.specs.Changes.{
   GivenFloor,
   floorIn,
@@ -114,7 +114,7 @@ padded-none n = let e : n - 0 ≡ n = omega arith in ap zeros e
 
 listed-good : (s : Shape) (x t : Tally) → listedBy s x ≡ CellsListed t → (s ≡ Good) × (x ≡ t)
 listed-good Good x t e = (refl, cc)
-listed-good (BadShape r) x t e = let z : _≡_ {A = ℕ} 0 1 = cc in absurd (omega arith)
+listed-good (Refused r) x t e = let z : _≡_ {A = ℕ} 0 1 = cc in absurd (omega arith)
 
 module _ (p q : GivenFloor) (l : List ℕ) where
   module _ {t : Tally} (answer : cellsAnswer p q l ≡ CellsListed t) where

@@ -24,7 +24,7 @@ use Rattle.basics.proofs.Lists.{getD-tabulate, zeros-of, length-tabulate}
 use Rattle.floor.specs.Floor.{Floor, cellNumber, cellNumbered, vertices}
 use Rattle.floor.proofs.Numbers.{cell-lt}
 use Rattle.floor.proofs.Maps.{numbered-cell}
-use Rattle.moves.specs.declared.Rows.{Rows}
+use Rattle.moves.specs.declared.Directions.{Directions}
 use Rattle.moves.specs.Table.{Listed}
 use Rattle.moves.proofs.Table.{listed-lawful}
 use Rattle.paths.specs.Graph.{Graph}
@@ -34,7 +34,7 @@ use Rattle.paths.proofs.Distance.{distance-le}
 use Rattle.paths.proofs.Bound.{reached-exact, unreachable-exact}
 use Rattle.grid.specs.Grid.{floorGraph}
 use Rattle.grid.specs.Known.{GoodJob}
-use Rattle.grid.specs.declared.Job.the-variants.{Fit}
+use Rattle.grid.specs.declared.JobShape.the-variants.{Fit}
 use Rattle.grid.proofs.Lawful.{floor-lawful, size-le, graph-same}
 use Rattle.changes.specs.Changes.{
   GivenFloor,
@@ -42,7 +42,7 @@ use Rattle.changes.specs.Changes.{
   changeOf,
   ReportSlices,
   reportSlicesOf,
-  jobFor,
+  shapeFor,
   costsOn,
   costsLeft,
 }
@@ -108,30 +108,31 @@ record Reach (g : Graph) (a v : ℕ) : Type 0 where
   there : (distance g a v < unreachable) ↔ SomeWalk g a v
   none : (distance g a v ≡ unreachable) ↔ NoWalk g a v
 
-reach : (f : Floor) {rows : Rows} (a v : ℕ) → f .wide ≤ 127 → f .high ≤ 127 → Listed rows
-    → a < vertices (f .wide) (f .high) → Reach (floorGraph f rows) a v
-reach f {rows} a v w h r i =
-    let g = floorGraph f rows in
-    let L = floor-lawful f rows (listed-lawful r) in
-    let small = size-le f w h rows in
+reach : (f : Floor) {dirs : Directions} (a v : ℕ) → f .wide ≤ 127 → f .high ≤ 127 → Listed dirs
+    → a < vertices (f .wide) (f .high) → Reach (floorGraph f dirs) a v
+reach f {dirs} a v w h r i =
+    let g = floorGraph f dirs in
+    let L = floor-lawful f dirs (listed-lawful r) in
+    let small = size-le f w h dirs in
     record { there = reached-exact g L a i small v; none = unreachable-exact g L a i small v }
 
 -- Floors of one size with the same cells have the same graph.
-same-graph : (f f' : Floor) (rows : Rows) → f .wide ≡ f' .wide → f .high ≡ f' .high → Same f f'
-    → floorGraph f rows ≡ floorGraph f' rows
-same-graph f f' rows w h s =
-    graph-same f f' rows w h (λ i j k l.
+same-graph : (f f' : Floor) (dirs : Directions) → f .wide ≡ f' .wide → f .high ≡ f' .high → Same f f'
+    → floorGraph f dirs ≡ floorGraph f' dirs
+same-graph f f' dirs w h s =
+    graph-same f f' dirs w h (λ i j k l.
     let c = cellNumber (f .wide) i j in
     sym (numbered-cell f i j k)
     ∙ s c (cell-lt (f .wide) (f .high) i j k l)
     ∙ ap (λ n. cellNumbered f' (cellNumber n i j)) w ∙ numbered-cell f' i j (omega (arith, w)))
 
-module _ (p q : GivenFloor) (nb a : ℕ) (s : ReportSlices) {rows : Rows} (fit : jobFor p q nb a s ≡ Fit rows) where
+module _ (p q : GivenFloor) (nb a : ℕ) (s : ReportSlices) {dirs : Directions}
+    (fit : shapeFor p q nb a s ≡ Fit dirs) where
   abbrev g : Graph
-  g = floorGraph (floorIn p) rows
+  g = floorGraph (floorIn p) dirs
 
   abbrev g' : Graph
-  g' = floorGraph (floorIn q) rows
+  g' = floorGraph (floorIn q) dirs
 
   left-is : costsLeft p q nb a s ≡ costsOn g g' a
   unfolding costsLeft
@@ -140,7 +141,7 @@ module _ (p q : GivenFloor) (nb a : ℕ) (s : ReportSlices) {rows : Rows} (fit :
   floors : GoodFloors p q
   floors = fit-floors p q nb a s fit
 
-  job : GoodJob (p .wide) (p .high) (p .map) rows a a
+  job : GoodJob (p .wide) (p .high) (p .map) dirs a a
   job = job-reportable p q nb a s fit .first
 
   first-reach : (v : ℕ) → Reach g a v
@@ -184,7 +185,7 @@ module _ (p q : GivenFloor) (nb a : ℕ) (s : ReportSlices) {rows : Rows} (fit :
   unfolding costsOn
   same-costs e =
       let d = distance g a in
-      let graphs : g ≡ g' = same-graph (floorIn p) (floorIn q) rows (floors .wide) (floors .high) e in
+      let graphs : g ≡ g' = same-graph (floorIn p) (floorIn q) dirs (floors .wide) (floors .high) e in
       let none : tabulate (g .size) (λ v. changeOf (d v) (d v)) ≡ zeros (g .size) =
       zeros-of (g .size) _ (length-tabulate (g .size) _) (λ v i.
       getD-tabulate (g .size) v (λ u. changeOf (d u) (d u)) i ∙ sym (change-equal (d v) (d v) refl)) in

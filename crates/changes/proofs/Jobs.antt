@@ -5,7 +5,7 @@
 --   report-floors, -first, -second, -lengths, -fit == the shape by the tests in order: the two floors, the job on each
 --                           floor, the lengths of the slices
 --   fit-floors, job-reportable == what a fit report has
---   costs-unfit, costs-fit == the answer and the slices by the shape
+--   costs-refused, costs-fit == the answer and the slices by the shape
 use Prim.Native.Nat.{ℕ, _*_}
 use mathlib.Core.Path.{_≡_, refl, sym, ap, ap₂, _∙_}
 use mathlib.Core.Bool.{_&&_}
@@ -20,14 +20,14 @@ use Rattle.floor.specs.declared.Refusal.the-variants.{SliceLength}
 use Rattle.floor.specs.declared.Shape.{Shape}
 use Rattle.floor.specs.declared.Shape.the-variants.{Good, Refused as BadShape}
 use Rattle.floor.proofs.Shapes.{good-first, good-second, good-pick}
-use Rattle.moves.specs.declared.Rows.{Rows}
+use Rattle.moves.specs.declared.Directions.{Directions}
 use Rattle.moves.specs.declared.Neighbourhood.{Neighbourhood}
-use Rattle.moves.specs.declared.Neighbourhood.the-variants.{Known, Unknown}
+use Rattle.moves.specs.declared.Neighbourhood.the-variants.{Known, Refused as NotKnown}
 use Rattle.moves.specs.Moves.{neighbourhoodOf}
-use Rattle.grid.specs.Grid.{floorGraph, orUnfit, withRows, pinchShape, endsShape, jobOf}
-use Rattle.grid.specs.declared.Job.{Job}
-use Rattle.grid.specs.declared.Job.the-variants.{Fit, Unfit}
-use Rattle.grid.proofs.Jobs.{good-job, unfit-fit}
+use Rattle.grid.specs.Grid.{floorGraph, orRefused, withDirs, pinchShape, endsShape, jobShape}
+use Rattle.grid.specs.declared.JobShape.{JobShape}
+use Rattle.grid.specs.declared.JobShape.the-variants.{Fit, Refused}
+use Rattle.grid.proofs.Jobs.{good-job, refused-fit}
 use Rattle.changes.specs.Changes.{
   GivenFloor,
   shapeOf,
@@ -36,15 +36,14 @@ use Rattle.changes.specs.Changes.{
   ReportSlices,
   slicesShape,
   startShape,
-  reportJob,
-  jobFor,
+  reportShape,
+  shapeFor,
   costsOn,
   costsAnswer,
   costsLeft,
   ReportsCosts,
 }
 use Rattle.changes.specs.Known.{Reportable}
-use Rattle.changes.specs.declared.CostReport.the-variants.{Written, Refused as CostsRefused}
 use Rattle.changes.proofs.Shaped.{GoodFloors, good-floors}
 
 -- ---- the lengths
@@ -96,50 +95,50 @@ module _ (v c c' n k : ℕ) where
 
 -- ---- the start on two floors
 
--- The rows, or the refusal, from the neighbourhood N, the shape E of the start and those of its pinches P and Q on the
--- two floors, and the shape L of the lengths.
-abbrev first : Neighbourhood → Shape → Shape → Job
-first N E P = withRows N (andThen E P)
+-- The directions, or the refusal, from the neighbourhood N, the shape E of the start and those of its pinches P and Q
+-- on the two floors, and the shape L of the lengths.
+abbrev first : Neighbourhood → Shape → Shape → JobShape
+first N E P = withDirs N (andThen E P)
 
-abbrev whole : Neighbourhood → Shape → Shape → Shape → Shape → Job
-whole N E P Q L = withRows N (andThen (andThen E (andThen P Q)) L)
+abbrev whole : Neighbourhood → Shape → Shape → Shape → Shape → JobShape
+whole N E P Q L = withDirs N (andThen (andThen E (andThen P Q)) L)
 
-first-stops : (N : Neighbourhood) (E P Q L : Shape) {r : Refusal} → first N E P ≡ Unfit r
+first-stops : (N : Neighbourhood) (E P Q L : Shape) {r : Refusal} → first N E P ≡ Refused r
     → first N E P ≡ whole N E P Q L
-first-stops Unknown E P Q L e = refl
+first-stops NotKnown E P Q L e = refl
 first-stops (Known k) (BadShape z) P Q L e = refl
 first-stops (Known k) Good (BadShape z) Q L e = refl
-first-stops (Known k) Good Good Q L e = unfit-fit (sym e)
+first-stops (Known k) Good Good Q L e = refused-fit (sym e)
 
-second-stops : (N : Neighbourhood) (E P Q L : Shape) {rows : Rows} {r : Refusal} → first N E P ≡ Fit rows
-    → first N E Q ≡ Unfit r → first N E Q ≡ whole N E P Q L
-second-stops Unknown E P Q L f e = unfit-fit f
-second-stops (Known k) (BadShape z) P Q L f e = unfit-fit f
-second-stops (Known k) Good (BadShape z) Q L f e = unfit-fit f
+second-stops : (N : Neighbourhood) (E P Q L : Shape) {dirs : Directions} {r : Refusal} → first N E P ≡ Fit dirs
+    → first N E Q ≡ Refused r → first N E Q ≡ whole N E P Q L
+second-stops NotKnown E P Q L f e = refused-fit f
+second-stops (Known k) (BadShape z) P Q L f e = refused-fit f
+second-stops (Known k) Good (BadShape z) Q L f e = refused-fit f
 second-stops (Known k) Good Good (BadShape z) L f e = refl
-second-stops (Known k) Good Good Good L f e = unfit-fit (sym e)
+second-stops (Known k) Good Good Good L f e = refused-fit (sym e)
 
-both-pass : (N : Neighbourhood) (E P Q L : Shape) {rows rows′ : Rows} → first N E P ≡ Fit rows
-    → first N E Q ≡ Fit rows′ → orUnfit L (Fit rows) ≡ whole N E P Q L
-both-pass Unknown E P Q L f g = unfit-fit f
-both-pass (Known k) (BadShape z) P Q L f g = unfit-fit f
-both-pass (Known k) Good (BadShape z) Q L f g = unfit-fit f
-both-pass (Known k) Good Good (BadShape z) L f g = unfit-fit g
-both-pass (Known k) Good Good Good L f g = ap (orUnfit L) (sym f)
+both-pass : (N : Neighbourhood) (E P Q L : Shape) {dirs dirs′ : Directions} → first N E P ≡ Fit dirs
+    → first N E Q ≡ Fit dirs′ → orRefused L (Fit dirs) ≡ whole N E P Q L
+both-pass NotKnown E P Q L f g = refused-fit f
+both-pass (Known k) (BadShape z) P Q L f g = refused-fit f
+both-pass (Known k) Good (BadShape z) Q L f g = refused-fit f
+both-pass (Known k) Good Good (BadShape z) L f g = refused-fit g
+both-pass (Known k) Good Good Good L f g = ap (orRefused L) (sym f)
 
 -- What a fit report has.
-record Passed (N : Neighbourhood) (E P Q L : Shape) (rows : Rows) : Type 0 where
-  one : first N E P ≡ Fit rows
-  two : first N E Q ≡ Fit rows
+record Passed (N : Neighbourhood) (E P Q L : Shape) (dirs : Directions) : Type 0 where
+  one : first N E P ≡ Fit dirs
+  two : first N E Q ≡ Fit dirs
   lengths : L ≡ Good
 
-whole-passed : (N : Neighbourhood) (E P Q L : Shape) {rows : Rows} → whole N E P Q L ≡ Fit rows
-    → Passed N E P Q L rows
-whole-passed Unknown E P Q L e = unfit-fit e
-whole-passed (Known k) (BadShape z) P Q L e = unfit-fit e
-whole-passed (Known k) Good (BadShape z) Q L e = unfit-fit e
-whole-passed (Known k) Good Good (BadShape z) L e = unfit-fit e
-whole-passed (Known k) Good Good Good (BadShape z) e = unfit-fit e
+whole-passed : (N : Neighbourhood) (E P Q L : Shape) {dirs : Directions} → whole N E P Q L ≡ Fit dirs
+    → Passed N E P Q L dirs
+whole-passed NotKnown E P Q L e = refused-fit e
+whole-passed (Known k) (BadShape z) P Q L e = refused-fit e
+whole-passed (Known k) Good (BadShape z) Q L e = refused-fit e
+whole-passed (Known k) Good Good (BadShape z) L e = refused-fit e
+whole-passed (Known k) Good Good Good (BadShape z) e = refused-fit e
 whole-passed (Known k) Good Good Good Good e = record { one = e; two = e; lengths = refl }
 
 then-same : (s : Shape) → andThen s s ≡ s
@@ -147,9 +146,9 @@ then-same Good = refl
 then-same (BadShape r) = refl
 
 pub start-job : (p : GivenFloor) (nb a : ℕ) → shapeOf p ≡ Good
-    → jobOf (p .wide) (p .high) (p .map) nb a a
+    → jobShape (p .wide) (p .high) (p .map) nb a a
     ≡ first (neighbourhoodOf nb) (endShape (p .wide) (p .high) a) (pinchShape (floorIn p) a)
-unfolding jobOf endsShape
+unfolding jobShape endsShape
 start-job p nb a e = rw (e, then-same (endShape (p .wide) (p .high) a), then-same (pinchShape (floorIn p) a))
 
 -- ---- the shape by the tests in order
@@ -158,11 +157,11 @@ module _ (p q : GivenFloor) (nb a c c' n k : ℕ) where
   abbrev lengths : Shape
   lengths = slicesShape (vertices (p .wide) (p .high)) c c' n k
 
-  abbrev firstJob : Job
-  firstJob = jobOf (p .wide) (p .high) (p .map) nb a a
+  abbrev firstShape : JobShape
+  firstShape = jobShape (p .wide) (p .high) (p .map) nb a a
 
-  abbrev secondJob : Job
-  secondJob = jobOf (q .wide) (q .high) (q .map) nb a a
+  abbrev secondShape : JobShape
+  secondShape = jobShape (q .wide) (q .high) (q .map) nb a a
 
   abbrev end : Shape
   end = endShape (p .wide) (p .high) a
@@ -170,17 +169,17 @@ module _ (p q : GivenFloor) (nb a c c' n k : ℕ) where
   abbrev free : GivenFloor → Shape
   free f = pinchShape (floorIn f) a
 
-  pub report-floors : {r : Refusal} → floorsShape p q ≡ BadShape r → Unfit r ≡ reportJob p q nb a c c' n k
-  unfolding reportJob
+  pub report-floors : {r : Refusal} → floorsShape p q ≡ BadShape r → Refused r ≡ reportShape p q nb a c c' n k
+  unfolding reportShape
   report-floors e = rw e
 
   module _ (floors : floorsShape p q ≡ Good) where
     -- Each job, and the whole, by the same shapes.
-    first-is : firstJob ≡ first (neighbourhoodOf nb) end (free p)
+    first-is : firstShape ≡ first (neighbourhoodOf nb) end (free p)
     unfolding floorsShape
     first-is = start-job p nb a (good-first (shapeOf p) _ floors)
 
-    second-is : secondJob ≡ first (neighbourhoodOf nb) end (free q)
+    second-is : secondShape ≡ first (neighbourhoodOf nb) end (free q)
     unfolding floorsShape
     second-is =
         let G = good-floors p q floors in
@@ -188,59 +187,60 @@ module _ (p q : GivenFloor) (nb a c c' n k : ℕ) where
         ∙ ap₂ (λ w h. first (neighbourhoodOf nb) (endShape w h a) (free q)) (sym (G .wide))
         (sym (G .high))
 
-    whole-is : reportJob p q nb a c c' n k
+    whole-is : reportShape p q nb a c c' n k
         ≡ whole (neighbourhoodOf nb) end (free p) (free q) lengths
-    unfolding reportJob startShape
+    unfolding reportShape startShape
     whole-is = rw floors
 
-    pub report-first : {r : Refusal} → firstJob ≡ Unfit r → firstJob ≡ reportJob p q nb a c c' n k
+    pub report-first : {r : Refusal} → firstShape ≡ Refused r → firstShape ≡ reportShape p q nb a c c' n k
     report-first e =
         first-is ∙ first-stops (neighbourhoodOf nb) end (free p) (free q) lengths (sym first-is ∙ e) ∙ sym whole-is
 
-    module _ {rows : Rows} (one : firstJob ≡ Fit rows) where
-      pub report-second : {r : Refusal} → secondJob ≡ Unfit r → secondJob ≡ reportJob p q nb a c c' n k
+    module _ {dirs : Directions} (one : firstShape ≡ Fit dirs) where
+      pub report-second : {r : Refusal} → secondShape ≡ Refused r → secondShape ≡ reportShape p q nb a c c' n k
       report-second e =
           second-is
           ∙ second-stops (neighbourhoodOf nb) end (free p) (free q) lengths (sym first-is ∙ one) (sym second-is ∙ e)
           ∙ sym whole-is
 
-      module _ {rows′ : Rows} (two : secondJob ≡ Fit rows′) where
-        both : orUnfit lengths (Fit rows) ≡ reportJob p q nb a c c' n k
+      module _ {dirs′ : Directions} (two : secondShape ≡ Fit dirs′) where
+        both : orRefused lengths (Fit dirs) ≡ reportShape p q nb a c c' n k
         both =
             both-pass (neighbourhoodOf nb) end (free p) (free q) lengths (sym first-is ∙ one) (sym second-is ∙ two)
             ∙ sym whole-is
 
-        pub report-lengths : {r : Refusal} → lengths ≡ BadShape r → Unfit r ≡ reportJob p q nb a c c' n k
+        pub report-lengths : {r : Refusal} → lengths ≡ BadShape r → Refused r ≡ reportShape p q nb a c c' n k
         report-lengths e = sym (rw e) ∙ both
 
-        pub report-fit : lengths ≡ Good → Fit rows ≡ reportJob p q nb a c c' n k
+        pub report-fit : lengths ≡ Good → Fit dirs ≡ reportShape p q nb a c c' n k
         report-fit e = sym (rw e) ∙ both
 
 -- ---- what a fit report has, and its answer
 
-fit-shape : (p q : GivenFloor) (nb a c c' n k : ℕ) {rows : Rows} → reportJob p q nb a c c' n k ≡ Fit rows
+fit-shape : (p q : GivenFloor) (nb a c c' n k : ℕ) {dirs : Directions} → reportShape p q nb a c c' n k ≡ Fit dirs
     → floorsShape p q ≡ Good
-unfolding reportJob
-fit-shape p q nb a c c' n k {rows} e = cases (floorsShape p q) refl e
+unfolding reportShape
+fit-shape p q nb a c c' n k {dirs} e = cases (floorsShape p q) refl e
   where
-    rest : Job
+    rest : JobShape
     rest =
-        withRows (neighbourhoodOf nb)
+        withDirs (neighbourhoodOf nb)
         (andThen (startShape p q a) (slicesShape (vertices (p .wide) (p .high)) c c' n k))
 
-    cases : (s : Shape) → floorsShape p q ≡ s → orUnfit s rest ≡ Fit rows → floorsShape p q ≡ Good
+    cases : (s : Shape) → floorsShape p q ≡ s → orRefused s rest ≡ Fit dirs → floorsShape p q ≡ Good
     cases Good t x = t
-    cases (BadShape z) t x = unfit-fit x
+    cases (BadShape z) t x = refused-fit x
 
-pub fit-floors : (p q : GivenFloor) (nb a : ℕ) (s : ReportSlices) {rows : Rows} → jobFor p q nb a s ≡ Fit rows
+pub fit-floors : (p q : GivenFloor) (nb a : ℕ) (s : ReportSlices) {dirs : Directions} → shapeFor p q nb a s ≡ Fit dirs
     → GoodFloors p q
 fit-floors p q nb a s e =
     good-floors p q (fit-shape p q nb a (length (s .first)) (length (s .second)) (length (s .change))
     (length (s .work)) e)
 
-pub job-reportable : (p q : GivenFloor) (nb a : ℕ) (s : ReportSlices) {rows : Rows} → jobFor p q nb a s ≡ Fit rows
-    → Reportable (p .wide) (p .high) (p .map) (q .map) rows a (s .first) (s .second) (s .change) (s .work)
-job-reportable p q nb a s {rows} e =
+pub job-reportable : (p q : GivenFloor) (nb a : ℕ) (s : ReportSlices) {dirs : Directions}
+    → shapeFor p q nb a s ≡ Fit dirs
+    → Reportable (p .wide) (p .high) (p .map) (q .map) dirs a (s .first) (s .second) (s .change) (s .work)
+job-reportable p q nb a s {dirs} e =
     let c = length (s .first) in
     let c' = length (s .second) in
     let n = length (s .change) in
@@ -252,25 +252,25 @@ job-reportable p q nb a s {rows} e =
     (pinchShape (floorIn q) a) (slicesShape v c c' n k) (sym (whole-is p q nb a c c' n k floors) ∙ e) in
     let sizes = slices-fitting v c c' n k (passed .lengths) in
     record {
-      first = good-job (p .wide) (p .high) (p .map) nb a a rows (first-is p q nb a c c' n k floors ∙ passed .one);
+      first = good-job (p .wide) (p .high) (p .map) nb a a dirs (first-is p q nb a c c' n k floors ∙ passed .one);
       second = rw (G .wide, G .high)
-          (good-job (q .wide) (q .high) (q .map) nb a a rows (second-is p q nb a c c' n k floors ∙ passed .two));
+          (good-job (q .wide) (q .high) (q .map) nb a a dirs (second-is p q nb a c c' n k floors ∙ passed .two));
       first-len = sizes .first;
       second-len = sizes .second;
       change-len = sizes .change;
       work-len = sizes .work;
     }
 
-module _ {p q : GivenFloor} {nb a : ℕ} {s : ReportSlices} {j : Job} (told : j ≡ jobFor p q nb a s) where
-  pub costs-unfit : {r : Refusal} → j ≡ Unfit r → ReportsCosts p q nb a s (CostsRefused r) s
+module _ {p q : GivenFloor} {nb a : ℕ} {s : ReportSlices} {j : JobShape} (told : j ≡ shapeFor p q nb a s) where
+  pub costs-refused : {r : Refusal} → j ≡ Refused r → ReportsCosts p q nb a s (BadShape r) s
   unfolding costsAnswer costsLeft
-  costs-unfit t = let e = sym told ∙ t in record { answer = rw e; left = rw e }
+  costs-refused t = let e = sym told ∙ t in record { answer = rw e; left = rw e }
 
-  pub costs-fit : {rows : Rows} {s′ : ReportSlices} → j ≡ Fit rows
-      → s′ ≡ costsOn (floorGraph (floorIn p) rows) (floorGraph (floorOf (p .wide) (p .high) (q .map)) rows) a
-      → ReportsCosts p q nb a s Written s′
+  pub costs-fit : {dirs : Directions} {s′ : ReportSlices} → j ≡ Fit dirs
+      → s′ ≡ costsOn (floorGraph (floorIn p) dirs) (floorGraph (floorOf (p .wide) (p .high) (q .map)) dirs) a
+      → ReportsCosts p q nb a s Good s′
   unfolding costsAnswer costsLeft
-  costs-fit {rows} t left =
+  costs-fit {dirs} t left =
       let e = sym told ∙ t in
       let G = fit-floors p q nb a s e in
       let same : floorOf (p .wide) (p .high) (q .map) ≡ floorIn q =

@@ -3,9 +3,10 @@
 --   floors-first, -second, -wide, -high, -good == refusals 1 to 3 of either floor and 15, by the tests in order
 --   GoodFloors, good-floors             == what two floors of good shape have
 --   cells-floors, -length, -good        == the first report's refusals by the tests in order
---   GoodCells, good-cells               == what its input of good shape has
---   cells-maps                          == so both maps have as many cells as the slice has places
---   reports-refused, reports-listed     == its answer and slice by the shape
+--   GoodCells, good-cells               == what an input of good shape of the first report has
+--   cells-maps                          == in an input of good shape of the first report both maps have as many cells
+--                                          as the slice has places
+--   reports-refused, reports-listed     == the first report's answer and slice by the shape
 use Prim.Native.Nat.{ℕ, _*_}
 use mathlib.Core.Path.{_≡_, sym, ap, ap₂, _∙_}
 use mathlib.Core.Bool.{_&&_}
@@ -32,7 +33,7 @@ use Rattle.changes.specs.Changes.{
 }
 use Rattle.changes.specs.Known.{MapsOf, Noted}
 use Rattle.changes.specs.declared.Tally.{Tally}
-use Rattle.changes.specs.declared.CellReport.the-variants.{Listed, Refused as CellsRefused}
+use Rattle.changes.specs.declared.CellReport.the-variants.{Listed, Refused}
 use Rattle.changes.proofs.Noting.{noted-tally, noted-listed}
 
 -- ---- two floors
@@ -121,7 +122,7 @@ module _ (p q : GivenFloor) (n : ℕ) where
       }
 
 module _ {p q : GivenFloor} {l : List ℕ} {s : Shape} (told : s ≡ cellsShape p q (length l)) where
-  pub reports-refused : {r : Refusal} → s ≡ BadShape r → ReportsCells p q l (CellsRefused r) l
+  pub reports-refused : {r : Refusal} → s ≡ BadShape r → ReportsCells p q l (Refused r) l
   unfolding cellsAnswer cellsLeft
   reports-refused t = let e = sym told ∙ t in record { answer = rw e; left = rw e }
 

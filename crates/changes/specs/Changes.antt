@@ -1,5 +1,5 @@
--- Request 10, "What changed between two floors": what the two reports answer, and what they leave in every lent slice,
--- for every input. The first floor is the one before the change, the second the one after it.
+-- docs/RULES.md, section 13: what the two reports answer, and what they leave in every lent slice, for every input. The
+-- first floor is the one before the change, the second the one after it.
 --
 --   GivenFloor, givenFloorOf w h map == a floor as it is handed in: its sides, and the bytes of its map
 --   shapeOf p            == refusals 1 to 3 of the given floor p
@@ -7,29 +7,30 @@
 --   floorsShape p q      == 1 to 3 of the first floor, then of the second, then 15 where the sizes differ
 --   closes f f' c        == cell c is open on the first floor and blocked on the second
 --   opens f f' c         == cell c is blocked on the first floor and open on the second
---   differs f f' c       == cell c does one or the other
+--   differs f f' c       == cell c closes or opens: `closes f f' c || opens f f' c`
 --   differing f f'       == the numbers of the differing cells, ascending
 --   tally c o            == c cells closed and o opened
 --   tallyOf f f'         == how many cells closed and how many opened from f to f'
 --   cellsShape p q n     == the refusals of the first report, for a slice of n places: those of the floors, then 6
 --   listedBy s t         == the first report's answer for the shape s: the tally t, or the refusal
 --   cellsAnswer p q l    == the first report's answer, for every input; l is the lent slice
---   cellsLeft p q l      == that slice afterwards: the differing cells, then 0; untouched at a refusal
---   ReportsCells ..      == both, as the first report promises them
+--   cellsLeft p q l      == the slice l after the first report: the differing cells, then 0; untouched at a refusal
+--   ReportsCells ..      == the first report's promise: `cellsAnswer` and `cellsLeft`, for every input
 --   changeOf x y         == how a cost changed from x to y: 0 equal, 1 fell, 2 rose, but 3 from M and 4 to M
 --   ReportSlices, reportSlicesOf c c' l k == the slices of the second report: the costs on the first floor and on the
 --                           second, the changes, and the working slice
---   slicesShape v c c' n k == 6 on a floor of v vertices, for those slices of these lengths
+--   slicesShape v c c' n k == refusal 6 of the second report on a floor of v vertices, for slices of c, c', n and k
+--                           places
 --   startShape p q a     == 5 of the start a, then 11 where it is a pinch of the first floor or of the second
---   reportJob ..         == the rows of the neighbourhood, or the first refusal of the second report, for slices of
---                           these lengths: those of the floors, 4, 5, 11, then 6
---   jobFor p q nb a s    == the same for the slices s
+--   reportShape ..       == the directions of the neighbourhood, or the first refusal of the second report, for slices
+--                           of these lengths: those of the floors, 4, 5, 11, then 6
+--   shapeFor p q nb a s  == `reportShape` for the lengths of the slices s
 --   costsOn g g' a       == the slices with the costs from a on the graphs of the two floors, and their changes
---   jobAnswer, jobLeft   == the second report's answer, and its slices afterwards, by the rows or the refusal
+--   jobAnswer, jobLeft   == the second report's answer, and its slices afterwards, by the directions or the refusal
 --   costsAnswer ..       == the second report's answer, for every input
---   costsLeft ..         == its slices afterwards, for every input: untouched at a refusal
---   ReportsCosts ..      == both, as the second report promises them
---   cellsNumber, costsNumber == the number of an answer
+--   costsLeft ..         == the second report's slices afterwards, for every input: untouched at a refusal
+--   ReportsCosts ..      == the second report's promise: `costsAnswer` and `costsLeft`, for every input
+--   cellsNumber a        == the number of the first report's answer a
 --   closedCount, openedCount == how many cells closed and opened, as the first report's answer says; 0 at a refusal
 use Prim.Native.Nat.{ℕ, _*_}
 use mathlib.Core.Path.{_≡_}
@@ -47,14 +48,12 @@ use Rattle.floor.specs.declared.Shape.the-variants.{Good, Refused as BadShape}
 use Rattle.moves.specs.Moves.{neighbourhoodOf}
 use Rattle.paths.specs.Graph.{Graph}
 use Rattle.paths.specs.Distance.{unreachable, distance}
-use Rattle.grid.specs.Grid.{floorGraph, orUnfit, withRows, pinchShape}
-use Rattle.grid.specs.declared.Job.{Job}
-use Rattle.grid.specs.declared.Job.the-variants.{Fit, Unfit}
+use Rattle.grid.specs.Grid.{floorGraph, orRefused, withDirs, pinchShape}
+use Rattle.grid.specs.declared.JobShape.{JobShape}
+use Rattle.grid.specs.declared.JobShape.the-variants.{Fit, Refused as BadJob}
 use Rattle.changes.specs.declared.Tally.{Tally}
 use Rattle.changes.specs.declared.CellReport.{CellReport}
-use Rattle.changes.specs.declared.CellReport.the-variants.{Listed, Refused as CellsRefused}
-use Rattle.changes.specs.declared.CostReport.{CostReport}
-use Rattle.changes.specs.declared.CostReport.the-variants.{Written, Refused as CostsRefused}
+use Rattle.changes.specs.declared.CellReport.the-variants.{Listed, Refused}
 
 -- ---- two floors
 
@@ -102,7 +101,7 @@ cellsShape p q n = andThen (floorsShape p q) (pick (eqb n (p .wide * p .high)) G
 
 abbrev pub listedBy : Shape → Tally → CellReport
 listedBy Good t = Listed t
-listedBy (BadShape r) t = CellsRefused r
+listedBy (BadShape r) t = Refused r
 
 unfoldable pub cellsAnswer : GivenFloor → GivenFloor → List ℕ → CellReport
 cellsAnswer p q l = listedBy (cellsShape p q (length l)) (tallyOf (floorIn p) (floorIn q))
@@ -138,15 +137,15 @@ unfoldable pub startShape : GivenFloor → GivenFloor → ℕ → Shape
 startShape p q a =
     andThen (endShape (p .wide) (p .high) a) (andThen (pinchShape (floorIn p) a) (pinchShape (floorIn q) a))
 
-unfoldable pub reportJob : GivenFloor → GivenFloor → ℕ → ℕ → ℕ → ℕ → ℕ → ℕ → Job
-reportJob p q nb a c c' n k =
-    orUnfit (floorsShape p q)
-    (withRows (neighbourhoodOf nb)
+unfoldable pub reportShape : GivenFloor → GivenFloor → ℕ → ℕ → ℕ → ℕ → ℕ → ℕ → JobShape
+reportShape p q nb a c c' n k =
+    orRefused (floorsShape p q)
+    (withDirs (neighbourhoodOf nb)
     (andThen (startShape p q a) (slicesShape (vertices (p .wide) (p .high)) c c' n k)))
 
-abbrev pub jobFor : GivenFloor → GivenFloor → ℕ → ℕ → ReportSlices → Job
-jobFor p q nb a s =
-    reportJob p q nb a (length (s .first)) (length (s .second)) (length (s .change)) (length (s .work))
+abbrev pub shapeFor : GivenFloor → GivenFloor → ℕ → ℕ → ReportSlices → JobShape
+shapeFor p q nb a s =
+    reportShape p q nb a (length (s .first)) (length (s .second)) (length (s .change)) (length (s .work))
 
 unfoldable pub costsOn : Graph → Graph → ℕ → ReportSlices
 costsOn g g' a = record {
@@ -156,22 +155,22 @@ costsOn g g' a = record {
   work = zeros (4 * g .size);
 }
 
-abbrev pub jobAnswer : Job → CostReport
-jobAnswer (Fit rows) = Written
-jobAnswer (Unfit r) = CostsRefused r
+abbrev pub jobAnswer : JobShape → Shape
+jobAnswer (Fit dirs) = Good
+jobAnswer (BadJob r) = BadShape r
 
-abbrev pub jobLeft : Floor → Floor → ℕ → ReportSlices → Job → ReportSlices
-jobLeft f f' a s (Fit rows) = costsOn (floorGraph f rows) (floorGraph f' rows) a
-jobLeft f f' a s (Unfit r) = s
+abbrev pub jobLeft : Floor → Floor → ℕ → ReportSlices → JobShape → ReportSlices
+jobLeft f f' a s (Fit dirs) = costsOn (floorGraph f dirs) (floorGraph f' dirs) a
+jobLeft f f' a s (BadJob r) = s
 
-unfoldable pub costsAnswer : GivenFloor → GivenFloor → ℕ → ℕ → ReportSlices → CostReport
-costsAnswer p q nb a s = jobAnswer (jobFor p q nb a s)
+unfoldable pub costsAnswer : GivenFloor → GivenFloor → ℕ → ℕ → ReportSlices → Shape
+costsAnswer p q nb a s = jobAnswer (shapeFor p q nb a s)
 
 unfoldable pub costsLeft : GivenFloor → GivenFloor → ℕ → ℕ → ReportSlices → ReportSlices
-costsLeft p q nb a s = jobLeft (floorIn p) (floorIn q) a s (jobFor p q nb a s)
+costsLeft p q nb a s = jobLeft (floorIn p) (floorIn q) a s (shapeFor p q nb a s)
 
 -- The second report's promise: the slices s before, s' after, and the answer r.
-pub record ReportsCosts (p q : GivenFloor) (nb a : ℕ) (s : ReportSlices) (r : CostReport) (s' : ReportSlices)
+pub record ReportsCosts (p q : GivenFloor) (nb a : ℕ) (s : ReportSlices) (r : Shape) (s' : ReportSlices)
     : Type 0 where
   pub answer : r ≡ costsAnswer p q nb a s
   pub left : s' ≡ costsLeft p q nb a s
@@ -180,16 +179,12 @@ pub record ReportsCosts (p q : GivenFloor) (nb a : ℕ) (s : ReportSlices) (r : 
 
 abbrev pub cellsNumber : CellReport → ℕ
 cellsNumber (Listed t) = 0
-cellsNumber (CellsRefused r) = refusalNumber r
+cellsNumber (Refused r) = refusalNumber r
 
 abbrev pub closedCount : CellReport → ℕ
 closedCount (Listed t) = t .closed
-closedCount (CellsRefused r) = 0
+closedCount (Refused r) = 0
 
 abbrev pub openedCount : CellReport → ℕ
 openedCount (Listed t) = t .opened
-openedCount (CellsRefused r) = 0
-
-abbrev pub costsNumber : CostReport → ℕ
-costsNumber Written = 0
-costsNumber (CostsRefused r) = refusalNumber r
+openedCount (Refused r) = 0

@@ -15,7 +15,7 @@ use lib.ListN.{length, getD}
 use Rattle.basics.specs.Bounded.{count}
 use Rattle.basics.specs.Lists.{padded, chosen}
 use Rattle.floor.specs.Floor.{bitAt, vertices}
-use Rattle.moves.specs.declared.Rows.{Rows}
+use Rattle.moves.specs.declared.Directions.{Directions}
 use Rattle.grid.specs.Known.{GoodJob}
 use Rattle.changes.specs.Changes.{changeOf}
 use Rattle.changes.specs.declared.Tally.{Tally}
@@ -49,9 +49,9 @@ pub record Noted (map map' : List ℕ) (n k : ℕ) (t : Tally) (l : List ℕ) : 
 abbrev pub changeAt : List ℕ → List ℕ → ℕ → ℕ
 changeAt c c' v = changeOf (getD c v 0) (getD c' v 0)
 
-pub record Reportable (w h : ℕ) (map map' : List ℕ) (rows : Rows) (a : ℕ) (c c' l k : List ℕ) : Type 0 where
-  pub first : GoodJob w h map rows a a
-  pub second : GoodJob w h map' rows a a
+pub record Reportable (w h : ℕ) (map map' : List ℕ) (dirs : Directions) (a : ℕ) (c c' l k : List ℕ) : Type 0 where
+  pub first : GoodJob w h map dirs a a
+  pub second : GoodJob w h map' dirs a a
   pub first-len : length c ≡ vertices w h
   pub second-len : length c' ≡ vertices w h
   pub change-len : length l ≡ vertices w h

@@ -7,15 +7,15 @@ ghost use Rattle.basics.specs.Lists.{tabulate};
 ghost use Rattle.floor.specs.Floor.{floorOf};
 ghost use Rattle.grid.specs.Grid.{floorGraph};
 ghost use Rattle.changes.specs.Changes.{givenFloorOf, floorsShape, cellsShape, ReportsCells, changeOf};
-ghost use Rattle.changes.specs.Changes.{reportSlicesOf, slicesShape, reportJob, costsOn, ReportsCosts};
-ghost use Rattle.changes.specs.Changes.{cellsNumber, closedCount, openedCount, costsNumber};
+ghost use Rattle.changes.specs.Changes.{reportSlicesOf, slicesShape, reportShape, costsOn, ReportsCosts};
+ghost use Rattle.changes.specs.Changes.{cellsNumber, closedCount, openedCount};
 ghost use Rattle.changes.specs.Known.{MapsOf, Noted, changeAt, Reportable};
 use floor::Cell;
 use floor::Refusal;
 use floor::Shape;
 use floor::Vertex;
-use grid::Job;
-use moves::Rows;
+use grid::JobShape;
+use moves::Directions;
 
 // How many cells closed, open on the first floor and blocked on the second, and how many opened.
 pub struct Tally {
@@ -29,13 +29,7 @@ pub enum CellReport {
     Refused(Refusal),
 }
 
-// The second report's answer: the costs and their changes are written, or a refusal.
-pub enum CostReport {
-    Written,
-    Refused(Refusal),
-}
-
-// The papers' number of the first report's answer.
+// The number of the first report's answer (rule 6.1).
 pub fn cells_number(r: CellReport) -> u8
     ensures { λ n. ⌜ n ≡ cellsNumber r ⌝ }
 {
@@ -62,16 +56,6 @@ pub fn opened_count(r: CellReport) -> usize
     match r {
         CellReport::Listed(t) => t.opened,
         CellReport::Refused(_) => 0,
-    }
-}
-
-// The papers' number of the second report's answer.
-pub fn costs_number(r: CostReport) -> u8
-    ensures { λ n. ⌜ n ≡ costsNumber r ⌝ }
-{
-    match r {
-        CostReport::Written => 0,
-        CostReport::Refused(x) => floor::refusal_number(x),
     }
 }
 
@@ -162,8 +146,8 @@ fn list_cells(map: &[u8], map2: &[u8], cells: &mut [u16]) -> Tally
     t
 }
 
-// The first report: which cells differ. For every input it gives the answer and leaves the lent slice as the papers
-// say: a refusal of 1 to 3 of either floor, 15 and 6 touches nothing.
+// The first report: which cells differ. For every input it gives the answer of rule 13.3 and leaves the lent slice as
+// rule 6.4 says: a refusal of 1 to 3 of either floor, 15 and 6 touches nothing.
 //
 // Lent is a slice for the numbers of cells, of W * H places.
 pub fn cell_changes(
@@ -220,20 +204,20 @@ fn report_costs(
     h: usize,
     map: &[u8],
     map2: &[u8],
-    rows: Rows,
+    dirs: Directions,
     a: Vertex,
     costs: &mut [u32],
     costs2: &mut [u32],
     changes: &mut [u8],
     work: &mut [u32],
 )
-    requires { ⌜ Reportable w h (now map) (now map2) rows (a .0) (now costs) (now costs2) (now changes) (now work) ⌝ }
+    requires { ⌜ Reportable w h (now map) (now map2) dirs (a .0) (now costs) (now costs2) (now changes) (now work) ⌝ }
     ensures { λ _. ⌜ reportSlicesOf (now (costs .exit)) (now (costs2 .exit)) (now (changes .exit)) (now (work .exit))
-        ≡ costsOn (floorGraph (floorOf w h (now (map .entry))) rows)
-        (floorGraph (floorOf w h (now (map2 .entry))) rows) (a .0) ⌝ }
+        ≡ costsOn (floorGraph (floorOf w h (now (map .entry))) dirs)
+        (floorGraph (floorOf w h (now (map2 .entry))) dirs) (a .0) ⌝ }
 {
-    distances::costs_from(w, h, map, rows, a, costs, work);
-    distances::costs_from(w, h, map2, rows, a, costs2, work);
+    distances::costs_from(w, h, map, dirs, a, costs, work);
+    distances::costs_from(w, h, map2, dirs, a, costs2, work);
     write_changes(costs, costs2, changes);
 }
 
@@ -257,9 +241,9 @@ fn slices_shape(v: usize, costs: usize, costs2: usize, changes: usize, work: usi
     Shape::Good
 }
 
-// The rows of the neighbourhood, or the first refusal of the second report, for slices of these lengths: those of the
-// two floors, 4, 5, 11 of either floor, then 6.
-fn report_job(
+// The directions of the neighbourhood, or the first refusal of the second report, for slices of these lengths: those of
+// the two floors, 4, 5, 11 of either floor, then 6.
+fn report_shape(
     w: usize,
     h: usize,
     map: &[u8],
@@ -272,31 +256,31 @@ fn report_job(
     costs2: usize,
     changes: usize,
     work: usize,
-) -> Job
-    ensures { λ r. ⌜ r ≡ reportJob (givenFloorOf w h (now (map .entry))) (givenFloorOf w2 h2 (now (map2 .entry))) nb a
+) -> JobShape
+    ensures { λ r. ⌜ r ≡ reportShape (givenFloorOf w h (now (map .entry))) (givenFloorOf w2 h2 (now (map2 .entry))) nb a
         costs costs2 changes work ⌝ }
 {
     let floors = floors_shape(w, h, map, w2, h2, map2);
     if let Shape::Refused(r) = floors {
-        return Job::Unfit(r);
+        return JobShape::Refused(r);
     }
-    let first = grid::job_of(w, h, map, nb, a, a);
-    let Job::Fit(rows) = first else {
+    let first = grid::job_shape(w, h, map, nb, a, a);
+    let JobShape::Fit(dirs) = first else {
         return first;
     };
-    let second = grid::job_of(w2, h2, map2, nb, a, a);
-    let Job::Fit(_) = second else {
+    let second = grid::job_shape(w2, h2, map2, nb, a, a);
+    let JobShape::Fit(_) = second else {
         return second;
     };
     let lengths = slices_shape(floor::vertex_count(w, h), costs, costs2, changes, work);
     if let Shape::Refused(r) = lengths {
-        return Job::Unfit(r);
+        return JobShape::Refused(r);
     }
-    Job::Fit(rows)
+    JobShape::Fit(dirs)
 }
 
 // The second report: how the costs from a start changed. For every input it gives the answer and leaves the lent slices
-// as the papers say: a refusal of 1 to 3 of either floor, 15, 4, 5, 11 and 6 touches nothing.
+// as rule 6.4 says: a refusal of 1 to 3 of either floor, 15, 4, 5, 11 and 6 touches nothing.
 //
 // Lent are slices for the costs on each floor and for their changes, of V places each, and a working slice of 4 * V.
 pub fn cost_changes(
@@ -312,12 +296,12 @@ pub fn cost_changes(
     costs2: &mut [u32],
     changes: &mut [u8],
     work: &mut [u32],
-) -> CostReport
+) -> Shape
     ensures { λ r. ⌜ ReportsCosts (givenFloorOf w h (now (map .entry))) (givenFloorOf w2 h2 (now (map2 .entry))) nb a
         (reportSlicesOf (now (costs .entry)) (now (costs2 .entry)) (now (changes .entry)) (now (work .entry))) r
         (reportSlicesOf (now (costs .exit)) (now (costs2 .exit)) (now (changes .exit)) (now (work .exit))) ⌝ }
 {
-    let job = report_job(
+    let shape = report_shape(
         w,
         h,
         map,
@@ -331,22 +315,22 @@ pub fn cost_changes(
         changes.len(),
         work.len(),
     );
-    match job {
-        Job::Unfit(r) => CostReport::Refused(r),
-        Job::Fit(rows) => {
+    match shape {
+        JobShape::Refused(r) => Shape::Refused(r),
+        JobShape::Fit(dirs) => {
             report_costs(
                 w,
                 h,
                 map,
                 map2,
-                rows,
+                dirs,
                 Vertex(a),
                 costs,
                 costs2,
                 changes,
                 work,
             );
-            CostReport::Written
+            Shape::Good
         }
     }
 }

@@ -1,7 +1,7 @@
 -- A loop that adds up how many places of a list are not 0.
 --
 --   ZeroScan l i j n        == n is 0 exactly where the list l has 0 from place i to place j
---   zero-start, -more, -end == so it is at the start and after the test of one more was added; what it says at the end
+--   zero-start, -more, -end == `ZeroScan` at the start and after one place more; what it says at the end
 use Prim.Native.Nat.{ℕ, suc, _+_, _≤_}
 use mathlib.Core.Path.{_≡_, _∙_, subst}
 use mathlib.Core.Logic.{⊎-elim, _↔_}

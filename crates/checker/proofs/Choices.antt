@@ -20,7 +20,7 @@ use Rattle.basics.proofs.Bools.{iff-eq}
 use Rattle.basics.proofs.Bounded.{every-all, every-at, every-rows}
 use Rattle.floor.specs.Floor.{floorOf, vertices, number}
 use Rattle.floor.proofs.Numbers.{number-lt}
-use Rattle.moves.specs.declared.Rows.{Rows}
+use Rattle.moves.specs.declared.Directions.{Directions}
 use Rattle.moves.specs.Table.{OnFloor}
 use Rattle.masks.specs.Masks.{Leaving}
 use Rattle.offsets.specs.Offsets.{Shifts}
@@ -36,15 +36,16 @@ use Rattle.neighbours.specs.Choice.{Choosing, OffWay, nextOf, LeadsBy}
 use Rattle.neighbours.proofs.Agree.{Agrees}
 use Rattle.neighbours.proofs.Columns.{flag-stops, flag-keeps}
 use Rattle.checker.specs.Tests.{chosenOf, nextsTest, nextColumnTest, nextRowTest, Zeros, Choosable}
-use Rattle.checker.proofs.Posed.{posed-agrees}
+use Rattle.checker.proofs.CheckInput.{input-agrees}
 use Rattle.checker.proofs.Passes.{column-readable, column-mask}
 use Rattle.checker.proofs.Leaving.{leads-leaving, right-leaving}
 
 -- ---- one vertex
 
-module _ (rows : Rows) (shifts : List ℕ) (mask b : ℕ) (d e f back next : List ℕ) (v x : ℕ) (is : x ≡ entry next v) where
+module _ (dirs : Directions) (shifts : List ℕ) (mask b : ℕ) (d e f back next : List ℕ) (v x : ℕ)
+    (is : x ≡ entry next v) where
   abbrev graph : Graph
-  graph = maskGraph (length d) rows shifts mask
+  graph = maskGraph (length d) dirs shifts mask
 
   abbrev sheet : Sheet
   sheet = chosenOf d e f back next
@@ -62,7 +63,7 @@ module _ (rows : Rows) (shifts : List ℕ) (mask b : ℕ) (d e f back next : Lis
       unfolding rightNext localOn
       next-goal q = rw (way, eq-eqb v b q, is)
 
-      pub next-to : (v ≡ b → ⊥) → (w : ℕ) → nextOf rows shifts mask d e f back b v ≡ some w
+      pub next-to : (v ≡ b → ⊥) → (w : ℕ) → nextOf dirs shifts mask d e f back b v ≡ some w
           → eqb x w ≡ rightNext graph b sheet v
       unfolding rightNext localOn localNext is-there
       next-to ne w there = rw (way, ne-eqb v b ne, there, is)
@@ -93,12 +94,12 @@ next-row-blank g b s w y {i} {j} p q off k zeros = iff-eq k (nextRowTest g b s w
     blank : (x : ℕ) → x < suc w → nextColumnTest g b s w y x ≡ eqb (entry (s .next) (number w x y)) 0
     blank x l = rw (off .at (number w x y) (from x) (within x l))
 
-pub nexts-rows : (w h : ℕ) (l : List ℕ) (r : Rows) (b : ℕ) (s : Sheet)
+pub nexts-rows : (w h : ℕ) (l : List ℕ) (r : Directions) (b : ℕ) (s : Sheet)
     → let g = floorGraph (floorOf w h l) r in every (suc h) (nextRowTest g b s w) ≡ nextsTest g b s
 unfolding nextsTest
 nexts-rows w h l r b s = sym (every-rows (suc h) (suc w) (rightNext (floorGraph (floorOf w h l) r) b s))
 
-module _ {w h : ℕ} {l : List ℕ} {r : Rows} {b : ℕ} {s : Sheet} (p : Choosable w h l r b s) {m : List ℕ}
+module _ {w h : ℕ} {l : List ℕ} {r : Directions} {b : ℕ} {s : Sheet} (p : Choosable w h l r b s) {m : List ℕ}
     (S : Shifts w r m) {x y mask v : ℕ} (o : OnFloor w h x y) (k : Leaving (floorOf w h l) r x y mask)
     (numbered : v ≡ number w x y) where
   abbrev g : Graph
@@ -106,9 +107,9 @@ module _ {w h : ℕ} {l : List ℕ} {r : Rows} {b : ℕ} {s : Sheet} (p : Choosa
 
   pub next-choosing : Choosing r m mask (s .d) (s .e) b v
   next-choosing = record {
-    readable = column-readable (p .posed) S o k numbered;
-    goal-in = omega (arith, p .posed .job .goal-in, p .posed .shape .d);
-    e-len = p .posed .shape .e ∙ sym (p .posed .shape .d);
+    readable = column-readable (p .input) S o k numbered;
+    goal-in = omega (arith, p .input .job .goal-in, p .input .shape .d);
+    e-len = p .input .shape .e ∙ sym (p .input .shape .d);
   }
 
   module _ (small : entry (s .d) v ≤ unreachable) where
@@ -116,11 +117,11 @@ module _ {w h : ℕ} {l : List ℕ} {r : Rows} {b : ℕ} {s : Sheet} (p : Choosa
     inside = number-lt w h x y (o .column) (o .row)
 
     agrees : Agrees (maskGraph (length (s .d)) r m mask) (leavingGraph (floorOf w h l) r) (number w x y)
-    agrees = posed-agrees (p .posed) S inside (column-mask (p .posed) S o k numbered)
+    agrees = input-agrees (p .input) S inside (column-mask (p .input) S o k numbered)
 
     pub next-leads : LeadsBy r m mask (s .d) (s .e) (s .f) (s .b) b v
     next-leads =
-        rw numbered (leads-leaving (p .posed .job) s (p .pinches) (p .near) inside (rw numbered at small) agrees
+        rw numbered (leads-leaving (p .input .job) s (p .pinches) (p .reached) inside (rw numbered at small) agrees
         (p .leads (number w x y) inside))
 
     module _ {old new : Bool} (before : old ≡ every x (nextColumnTest g b s w y))
@@ -128,7 +129,7 @@ module _ {w h : ℕ} {l : List ℕ} {r : Rows} {b : ℕ} {s : Sheet} (p : Choosa
       on-floor : new ≡ nextColumnTest g b s w y x
       on-floor =
           rw numbered at is
-          ∙ right-leaving (p .posed .job) s (p .pinches) (p .near) inside (rw numbered at small) agrees
+          ∙ right-leaving (p .input .job) s (p .pinches) (p .reached) inside (rw numbered at small) agrees
 
       pub next-stops : not new ≡ true → false ≡ every (x + 1) (nextColumnTest g b s w y)
       next-stops = flag-stops (nextColumnTest g b s w y) x on-floor

@@ -3,8 +3,8 @@
 --   costs-all, -at               == the test of a cost at every vertex is that of paths
 --   tests-numbers, numbers-tests == the tests of the costs and counts are `localNumbers`
 --   routeTest-local, noRouteTest-local == the tests of a whole sheet are `localRoute` and `localNoRoute`
---   counts-fit, counts-lead      == where they pass, the traversal counts fit 64 bits, and a move leads on from each
---                                   vertex on the way before b
+--   counts-fit, counts-lead      == where costs and counts pass the tests, the traversal counts fit 64 bits, and a move
+--                                   leads on from each vertex on the way before b
 --   route-.., noRoute-..         == what the code finds in turn, said of `routeTest` and `noRouteTest`
 --   vertices-uncounted, nexts-alone, points-alone == what the tests do not look at
 use Prim.Native.Nat.{ℕ, _^_, _<_}

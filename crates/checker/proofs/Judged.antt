@@ -10,18 +10,18 @@ use Rattle.basics.specs.Bounded.{pick}
 use Rattle.basics.proofs.Bools.{all-six}
 use Rattle.floor.specs.Floor.{floorOf, vertices}
 use Rattle.floor.specs.declared.Refusal.the-variants.{SliceLength, FalseSheet}
-use Rattle.moves.specs.declared.Rows.{Rows}
+use Rattle.moves.specs.declared.Directions.{Directions}
 use Rattle.moves.proofs.Table.{listed-lawful}
 use Rattle.paths.specs.Graph.{Graph}
 use Rattle.paths.specs.Sheet.{Sheet, sheetOf}
 use Rattle.paths.specs.Local.{entry, Shaped}
 use Rattle.grid.specs.Grid.{floorGraph}
 use Rattle.grid.specs.Known.{GoodJob}
-use Rattle.grid.specs.declared.Job.the-variants.{Fit}
+use Rattle.grid.specs.declared.JobShape.the-variants.{Fit}
 use Rattle.grid.proofs.Lawful.{floor-lawful}
 use Rattle.checker.specs.declared.Checked.the-variants.{Route, NoRoute, Refused}
 use Rattle.checker.specs.Answer.{sheetSized, judged}
-use Rattle.checker.specs.Tests.{routeTest, noRouteTest, Posed}
+use Rattle.checker.specs.Tests.{routeTest, noRouteTest, CheckInput}
 use Rattle.checker.proofs.Verdict.{verdict-tests}
 
 -- The slices of a sheet that passes the test of their lengths.
@@ -44,7 +44,7 @@ sized-shaped n s t =
       next = eqb-true (length (s .next)) n (r .5);
     }
 
-module _ (w h : ℕ) (l : List ℕ) (r : Rows) (a b : ℕ) (d e f back route next : List ℕ) (n : ℕ) (v : ℕ)
+module _ (w h : ℕ) (l : List ℕ) (r : Directions) (a b : ℕ) (d e f back route next : List ℕ) (n : ℕ) (v : ℕ)
     (count : v ≡ vertices w h) {k : Bool}
     (sized : k ≡ sheetSized v (sheetOf d e f back route next 0)) where
   abbrev s : Sheet
@@ -66,8 +66,8 @@ module _ (w h : ℕ) (l : List ℕ) (r : Rows) (a b : ℕ) (d e f back route nex
     fits = sym sized-is ∙ not-false k good
 
     module _ (job : GoodJob w h l r a b) where
-      pub judged-posed : Posed w h l r a b s
-      judged-posed = record { job = job; shape = sized-shaped (g .size) s fits }
+      pub judged-input : CheckInput w h l r a b s
+      judged-input = record { job = job; shape = sized-shaped (g .size) s fits }
 
       module _ (total : entry f b < 2 ^ 64) {p : Bool} (route-is : p ≡ routeTest g a b s) where
         is-verdict : judged w h l a b s (Fit r) ≡ pick p Route

@@ -1,9 +1,10 @@
 -- The tests of a sheet over the moves that leave each vertex say the same as those over the open moves.
 --
 --   vertices-leaving   == the test of every vertex
---   pinches-far        == where it holds, every pinch is unreached
+--   pinches-far        == where every vertex passes `vertexTest`, every pinch is unreached
 --   leads-leaving      == where every pinch is unreached, a move leads on from a vertex over both
---   right-leaving      == and the test of a next vertex is the same
+--   right-leaving      == the test of a next vertex is the same over the moves that leave a vertex and over the open
+--                         moves
 use Prim.Native.Nat.{ℕ, _+_, _<_, _≤_}
 use mathlib.Core.Path.{_≡_, sym, ap, _∙_}
 use mathlib.Core.Bool.{Bool, true, false, _&&_, and-false}
@@ -14,7 +15,7 @@ use lib.Dec.{ltb, eqb}
 use Rattle.basics.proofs.Bools.{iff-eq, and-left}
 use Rattle.basics.proofs.Bounded.{every-all, every-at}
 use Rattle.floor.specs.Floor.{Floor, floorOf, vertices}
-use Rattle.moves.specs.declared.Rows.{Rows}
+use Rattle.moves.specs.declared.Directions.{Directions}
 use Rattle.moves.proofs.Table.{listed-lawful}
 use Rattle.paths.specs.Graph.{Graph}
 use Rattle.paths.specs.Distance.{unreachable}
@@ -34,7 +35,7 @@ use Rattle.neighbours.proofs.Leaving.{pinched, leaving-half}
 use Rattle.checker.specs.Tests.{PinchesFar, vertexTest, verticesTest}
 use Rattle.checker.proofs.Exact.{RightAt, right-at, at-right}
 
-module _ {w h : ℕ} {l : List ℕ} {r : Rows} {a b : ℕ} (J : GoodJob w h l r a b) (s : Sheet) where
+module _ {w h : ℕ} {l : List ℕ} {r : Directions} {a b : ℕ} (J : GoodJob w h l r a b) (s : Sheet) where
   abbrev f : Floor
   f = floorOf w h l
 

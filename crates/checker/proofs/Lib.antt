@@ -3,7 +3,7 @@ pub mod Exact
 pub mod Leaving
 pub mod Counts
 pub mod Vertex
-pub mod Posed
+pub mod CheckInput
 pub mod Passes
 pub mod Choices
 pub mod Blank

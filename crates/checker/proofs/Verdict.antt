@@ -4,8 +4,9 @@
 --   accepts-route, accepts-noRoute == the two tests of `verdict` say `TrueRoute` and `TrueNoRoute`
 --   verdict-tests     == `verdict` by the tests that the checker runs
 --   verdict-route, verdict-noRoute, verdict-else == the three answers of `verdict`, exactly
---   Exactly g a b s c == c is the answer that demand 3 asks for: with a walk in place of `joined`
---   check-exact       == so is the checker's answer to every job of good shape, whatever numbers stand on the sheet
+--   Exactly g a b s c == c is the answer that rule 8.2 asks for: with a walk in place of `joined`
+--   check-exact       == the checker's answer to every job of good shape is `Exactly` right, whatever numbers stand on
+--                        the sheet
 use Prim.Native.Nat.{ℕ, _^_, _≤_, _<_}
 use mathlib.Core.Path.{_≡_, refl, sym, ap, ap₂, _∙_}
 use mathlib.Core.Logic.{_↔_}
@@ -17,7 +18,7 @@ use Rattle.basics.specs.Bounded.{pick}
 use Rattle.basics.proofs.Bools.{iff-eq, and-intro, and-left, and-right, not-both}
 use Rattle.floor.specs.Floor.{floorOf, vertices}
 use Rattle.floor.specs.declared.Refusal.the-variants.{FalseSheet}
-use Rattle.moves.specs.declared.Rows.{Rows}
+use Rattle.moves.specs.declared.Directions.{Directions}
 use Rattle.paths.specs.Graph.{Graph, Lawful}
 use Rattle.paths.specs.Walk.{HasWalk}
 use Rattle.paths.specs.Distance.{pathCount}
@@ -25,8 +26,8 @@ use Rattle.paths.specs.Sheet.{Sheet, joined, fits, routeSheet, noRouteSheet, Tr
 use Rattle.paths.specs.Local.{entry, Shaped, localRoute, localNoRoute}
 use Rattle.paths.proofs.Sheets.{sameSheet-exact, joined-exact, fits-total, total-fits}
 use Rattle.paths.proofs.SheetTest.{localRoute-exact, localNoRoute-exact}
-use Rattle.grid.specs.Grid.{floorGraph, jobOf}
-use Rattle.grid.specs.declared.Job.the-variants.{Fit}
+use Rattle.grid.specs.Grid.{floorGraph, jobShape}
+use Rattle.grid.specs.declared.JobShape.the-variants.{Fit}
 use Rattle.grid.proofs.Jobs.{job-fit}
 use Rattle.grid.proofs.Lawful.{floor-lawful, size-le}
 use Rattle.checker.specs.declared.Checked.{Checked}
@@ -128,7 +129,7 @@ module _ (g : Graph) (a b : ℕ) (s : Sheet) where
       cases false true m n = absurd (n refl)
       cases false false m n = refl
 
--- ---- demand 3
+-- ---- rule 8.2
 
 pub record Exactly (g : Graph) (a b : ℕ) (s : Sheet) (c : Checked) : Type 0 where
   -- A route exactly when an open walk joins the ends, the cheapest routes are not too many, and every number is the
@@ -161,7 +162,7 @@ verdict-exact g L a b s i few =
     never-true true h = absurd (h refl)
     never-true false h = refl
 
-pub check-exact : (w h : ℕ) (l : List ℕ) (nb a b : ℕ) (r : Rows) (s : Sheet) → jobOf w h l nb a b ≡ Fit r
+pub check-exact : (w h : ℕ) (l : List ℕ) (nb a b : ℕ) (r : Directions) (s : Sheet) → jobShape w h l nb a b ≡ Fit r
     → sheetSized (vertices w h) s ≡ true → Exactly (floorGraph (floorOf w h l) r) a b s (checkAnswer w h l nb a b s)
 unfolding checkAnswer
 check-exact w h l nb a b r s fit sized =

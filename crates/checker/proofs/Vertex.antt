@@ -11,7 +11,7 @@ use mathlib.Core.Bool.{Bool, true, false, _&&_, not}
 use mathlib.Core.List.{List}
 use lib.Dec.{eqb}
 use lib.ListN.{length}
-use Rattle.moves.specs.declared.Rows.{Rows}
+use Rattle.moves.specs.declared.Directions.{Directions}
 use Rattle.offsets.specs.declared.Class.{Class}
 use Rattle.offsets.specs.Classes.{Classes}
 use Rattle.paths.specs.Graph.{Graph}
@@ -20,14 +20,14 @@ use Rattle.paths.specs.Route.{onShortest}
 use Rattle.paths.specs.Sheet.{Sheet}
 use Rattle.paths.specs.Local.{countAt, entry, localOn, blankAt}
 use Rattle.neighbours.specs.Reading.{maskGraph, Readable}
-use Rattle.neighbours.specs.Least.{rightCostIn, rightNear, ClassMoves}
+use Rattle.neighbours.specs.Least.{rightCostIn, rightLeast, ClassMoves}
 use Rattle.neighbours.proofs.Agree.{Agrees, countAt-agrees}
 use Rattle.neighbours.proofs.Least.{least-right}
 use Rattle.neighbours.proofs.Classed.{mask-classed}
 use Rattle.checker.specs.Tests.{numbersOf, blankOf, countsTest, vertexTest}
 use Rattle.checker.proofs.Chains.{fails, holds}
 
-module _ (r : Rows) (shifts : List ℕ) (mask a b : ℕ) (d e f back : List ℕ) (v : ℕ) where
+module _ (r : Directions) (shifts : List ℕ) (mask a b : ℕ) (d e f back : List ℕ) (v : ℕ) where
   abbrev graph : Graph
   graph = maskGraph (length d) r shifts mask
 
@@ -59,7 +59,7 @@ module _ (r : Rows) (shifts : List ℕ) (mask a b : ℕ) (d e f back : List ℕ)
         ∙ count-on graph b (entry e) (entry back)))
 
 -- A sheet whose numbers at v are tested in turn, where the moves from v can be read, and the classes have them all.
-module _ (j : Bool) (a b : ℕ) (s : Sheet) {r : Rows} {shifts : List ℕ} {classes : List Class} {mask v : ℕ}
+module _ (j : Bool) (a b : ℕ) (s : Sheet) {r : Directions} {shifts : List ℕ} {classes : List Class} {mask v : ℕ}
     (R : Readable (length (s .d)) r shifts mask v) (C : Classes r classes) (small : entry (s .d) v ≤ unreachable) where
   abbrev g : Graph
   g = maskGraph (length (s .d)) r shifts mask
@@ -68,7 +68,7 @@ module _ (j : Bool) (a b : ℕ) (s : Sheet) {r : Rows} {shifts : List ℕ} {clas
   moves = mask-classed C shifts mask v (R .lawful) (length (s .d))
 
   abbrev near : ℕ → List ℕ → Bool
-  near c l = rightNear shifts classes mask c (entry l) v
+  near c l = rightLeast shifts classes mask c (entry l) v
 
   -- A sheet with a route.
   module _ (with : j ≡ true) (small-e : entry (s .e) v ≤ unreachable) {k : Bool}

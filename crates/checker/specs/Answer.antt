@@ -1,12 +1,11 @@
--- Document 01, "The checker uses 1 to 6 and then .. 0 .. exactly when n and every slice are the true route sheet, 7 ..
--- exactly when they are the true no-route sheet, and 9 .. for every other sheet"; by request 5 of document 02 it uses
--- 11 too, after 5 and before 6, and by request 7 the next vertices are a slice of the sheet.
+-- docs/RULES.md, 8.1 to 8.3: what the checker answers. After the refusals over the shape of the job and of the six
+-- slices it is 0 exactly for the true route sheet, 7 exactly for the true no-route sheet, and 9 for every other sheet.
 --
 --   verdict g a b s      == the answer to the sheet s of the job from a to b on graph g
 --   sheetSized v s       == refusal 6 does not apply: each slice of the sheet s has v places
 --   judged ..            == the answer to a sheet, by the shape of its job
 --   checkAnswer ..       == the answer for every input
---   checkNumber r        == document 01's number of an answer
+--   checkNumber r        == the number of an answer (rule 6.1)
 use Prim.Native.Nat.{ℕ}
 use mathlib.Core.Bool.{Bool, _&&_, not}
 use mathlib.Core.List.{List}
@@ -18,9 +17,9 @@ use Rattle.floor.specs.Refusals.{refusalNumber}
 use Rattle.floor.specs.declared.Refusal.the-variants.{SliceLength, FalseSheet}
 use Rattle.paths.specs.Graph.{Graph}
 use Rattle.paths.specs.Sheet.{Sheet, joined, fits, routeSheet, noRouteSheet, sameSheet}
-use Rattle.grid.specs.Grid.{floorGraph, jobOf}
-use Rattle.grid.specs.declared.Job.{Job}
-use Rattle.grid.specs.declared.Job.the-variants.{Fit, Unfit}
+use Rattle.grid.specs.Grid.{floorGraph, jobShape}
+use Rattle.grid.specs.declared.JobShape.{JobShape}
+use Rattle.grid.specs.declared.JobShape.the-variants.{Fit, Refused as BadJob}
 use Rattle.checker.specs.declared.Checked.{Checked}
 use Rattle.checker.specs.declared.Checked.the-variants.{Route, NoRoute, Refused}
 
@@ -34,13 +33,13 @@ sheetSized v s =
     eqb (length (s .d)) v && eqb (length (s .e)) v && eqb (length (s .f)) v && eqb (length (s .b)) v
     && eqb (length (s .route)) v && eqb (length (s .next)) v
 
-abbrev pub judged : ℕ → ℕ → List ℕ → ℕ → ℕ → Sheet → Job → Checked
-judged w h map a b s (Fit rows) =
-    pick (sheetSized (vertices w h) s) (verdict (floorGraph (floorOf w h map) rows) a b s) (Refused SliceLength)
-judged w h map a b s (Unfit r) = Refused r
+abbrev pub judged : ℕ → ℕ → List ℕ → ℕ → ℕ → Sheet → JobShape → Checked
+judged w h map a b s (Fit dirs) =
+    pick (sheetSized (vertices w h) s) (verdict (floorGraph (floorOf w h map) dirs) a b s) (Refused SliceLength)
+judged w h map a b s (BadJob r) = Refused r
 
 unfoldable pub checkAnswer : ℕ → ℕ → List ℕ → ℕ → ℕ → ℕ → Sheet → Checked
-checkAnswer w h map nb a b s = judged w h map a b s (jobOf w h map nb a b)
+checkAnswer w h map nb a b s = judged w h map a b s (jobShape w h map nb a b)
 
 abbrev pub checkNumber : Checked → ℕ
 checkNumber Route = 0

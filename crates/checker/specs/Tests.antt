@@ -8,20 +8,20 @@
 --   countsTest g a b s v     == both counts of vertex v are right, by v and its neighbours
 --   vertexTest j g a b s v   == the numbers of vertex v are right: where j holds both costs and both counts, those of a
 --                               route sheet; otherwise the cost from a, and the others are 0
---   verticesTest j g a b s   == so it is at every vertex
---   columnTest .. w y x      == so it is at the vertex in column x and row y, on a floor of width w
---   rowTest .. w y           == so it is at the vertices of row y
+--   verticesTest j g a b s   == every vertex v passes `vertexTest j g a b s v`
+--   columnTest .. w y x      == the vertex in column x and row y of a floor of width w passes `vertexTest`
+--   rowTest .. w y           == the vertices of row y of a floor of width w pass `vertexTest`
 --   nextsTest g b s          == the next vertex of every vertex is right
---   nextColumnTest .. w y x  == so it is at the vertex in column x and row y, on a floor of width w
---   nextRowTest .. w y       == so it is at the vertices of row y
+--   nextColumnTest .. w y x  == the next vertex of the vertex in column x and row y of a floor of width w is right
+--   nextRowTest .. w y       == the next vertices of the vertices of row y of a floor of width w are right
 --   pointTest v b s i        == place i of the route is right, among v vertices
 --   pointsTest v a b s       == the route is right, and its point count
 --   routeTest g a b s        == s is the true route sheet
 --   noRouteTest g a b s      == s is the true no-route sheet
 --   Zeros l i j              == the list l has 0 from place i to place j
 --   PinchesFar f d           == the costs d have every pinch unreached
---   Posed w h l r a b s      == a good job, with a sheet whose slices have a place for each vertex
---   Choosable w h l r b s    == a sheet posed with a job to b, by whose costs and counts next vertices can be chosen: a
+--   CheckInput w h l r a b s == a good job, with a sheet whose slices have a place for each vertex
+--   Choosable w h l r b s    == a sheet with a job to b, by whose costs and counts next vertices can be chosen: a
 --                               move leads on from each vertex on the way before b
 use Prim.Native.Nat.{ℕ, suc, _≤_, _<_}
 use mathlib.Core.Path.{_≡_}
@@ -32,7 +32,7 @@ use lib.ListN.{length}
 use Rattle.basics.specs.Bounded.{pick, every}
 use Rattle.floor.specs.Floor.{Floor, floorOf, vertices, number, column, row}
 use Rattle.sight.specs.Sight.{pinch}
-use Rattle.moves.specs.declared.Rows.{Rows}
+use Rattle.moves.specs.declared.Directions.{Directions}
 use Rattle.paths.specs.Graph.{Graph}
 use Rattle.paths.specs.Distance.{unreachable}
 use Rattle.paths.specs.Route.{onShortest}
@@ -109,16 +109,16 @@ pub record PinchesFar (f : Floor) (d : List ℕ) : Type 0 where
   pub at : (v : ℕ) → v < vertices (f .wide) (f .high) → pinch f (column (f .wide) v) (row (f .wide) v) ≡ true
       → entry d v ≡ unreachable
 
-pub record Posed (w h : ℕ) (l : List ℕ) (r : Rows) (a b : ℕ) (s : Sheet) : Type 0 where
+pub record CheckInput (w h : ℕ) (l : List ℕ) (r : Directions) (a b : ℕ) (s : Sheet) : Type 0 where
   pub job : GoodJob w h l r a b
   pub shape : Shaped (vertices w h) s
 
 -- Where the costs and counts of a sheet are right.
-pub record Choosable (w h : ℕ) (l : List ℕ) (r : Rows) (b : ℕ) (s : Sheet) : Type 0 where
-  pub posed : Posed w h l r b b s
+pub record Choosable (w h : ℕ) (l : List ℕ) (r : Directions) (b : ℕ) (s : Sheet) : Type 0 where
+  pub input : CheckInput w h l r b b s
   pub counted : Counted (length (s .d)) (s .f) (s .b)
   pub pinches : PinchesFar (floorOf w h l) (s .d)
-  pub near : entry (s .d) b < unreachable
+  pub reached : entry (s .d) b < unreachable
   pub leads : (v : ℕ) → v < vertices w h
       → Leads (floorGraph (floorOf w h l) r) (onShortest (entry (s .d)) (entry (s .e)) b) (entry (s .d))
       (traversalOf (s .f) (s .b)) b v

@@ -1,4 +1,4 @@
-// The checker: accepts exactly the true sheets, with no memory to write in. `back` is document 01's slice b.
+// The checker: accepts exactly the true sheets, with no memory to write in. `back` is the slice b of rule 5.1.
 mod nexts; // nexts.rt: the test of the next vertices
 mod route; // route.rt: the test of the route
 mod vertices; // vertices.rt: the tests of costs and counts
@@ -9,13 +9,13 @@ ghost use Rattle.floor.specs.Floor.{floorOf};
 ghost use Rattle.paths.specs.Sheet.{sheetOf};
 ghost use Rattle.grid.specs.Grid.{floorGraph};
 ghost use Rattle.grid.specs.Known.{GoodJob};
-ghost use Rattle.grid.specs.declared.Job.the-variants.{Fit};
+ghost use Rattle.grid.specs.declared.JobShape.the-variants.{Fit};
 ghost use Rattle.checker.specs.Answer.{sheetSized, judged, checkAnswer, checkNumber};
-ghost use Rattle.checker.specs.Tests.{routeTest, noRouteTest, Posed};
+ghost use Rattle.checker.specs.Tests.{routeTest, noRouteTest, CheckInput};
 use floor::Refusal;
 use floor::Vertex;
-use grid::Job;
-use moves::Rows;
+use grid::JobShape;
+use moves::Directions;
 
 // The answer: the sheet is the true route sheet, the true no-route sheet, or refused.
 pub enum Checked {
@@ -24,7 +24,7 @@ pub enum Checked {
     Refused(Refusal),
 }
 
-// Document 01's number of an answer.
+// The number of an answer (rule 6.1).
 pub fn check_number(c: Checked) -> u8
     ensures { λ r. ⌜ r ≡ checkNumber c ⌝ }
 {
@@ -40,7 +40,7 @@ fn is_route(
     w: usize,
     h: usize,
     map: &[u8],
-    rows: Rows,
+    dirs: Directions,
     a: Vertex,
     b: Vertex,
     d: &[u32],
@@ -51,9 +51,9 @@ fn is_route(
     next: &[u16],
     n: usize,
 ) -> bool
-    requires { ⌜ Posed w h (now map) rows (a .0) (b .0)
+    requires { ⌜ CheckInput w h (now map) dirs (a .0) (b .0)
         (sheetOf (now d) (now e) (now f) (now back) (now route) (now next) n) ⌝ }
-    ensures { λ r. ⌜ r ≡ routeTest (floorGraph (floorOf w h (now (map .entry))) rows) (a .0) (b .0)
+    ensures { λ r. ⌜ r ≡ routeTest (floorGraph (floorOf w h (now (map .entry))) dirs) (a .0) (b .0)
         (sheetOf (now (d .entry)) (now (e .entry)) (now (f .entry)) (now (back .entry)) (now (route .entry))
         (now (next .entry)) n) ⌝ }
 {
@@ -68,10 +68,10 @@ fn is_route(
     if e[goal] != 0 {
         return false;
     }
-    if !vertices::vertices_right(w, h, map, rows, true, a, b, d, e, f, back, route, next) {
+    if !vertices::vertices_right(w, h, map, dirs, true, a, b, d, e, f, back, route, next) {
         return false;
     }
-    if !nexts::nexts_right(w, h, map, rows, b, d, e, f, back, next) {
+    if !nexts::nexts_right(w, h, map, dirs, b, d, e, f, back, next) {
         return false;
     }
     route::route_right(a, b, route, next, n)
@@ -82,7 +82,7 @@ fn is_no_route(
     w: usize,
     h: usize,
     map: &[u8],
-    rows: Rows,
+    dirs: Directions,
     a: Vertex,
     b: Vertex,
     d: &[u32],
@@ -93,9 +93,9 @@ fn is_no_route(
     next: &[u16],
     n: usize,
 ) -> bool
-    requires { ⌜ Posed w h (now map) rows (a .0) (b .0)
+    requires { ⌜ CheckInput w h (now map) dirs (a .0) (b .0)
         (sheetOf (now d) (now e) (now f) (now back) (now route) (now next) n) ⌝ }
-    ensures { λ r. ⌜ r ≡ noRouteTest (floorGraph (floorOf w h (now (map .entry))) rows) (a .0) (b .0)
+    ensures { λ r. ⌜ r ≡ noRouteTest (floorGraph (floorOf w h (now (map .entry))) dirs) (a .0) (b .0)
         (sheetOf (now (d .entry)) (now (e .entry)) (now (f .entry)) (now (back .entry)) (now (route .entry))
         (now (next .entry)) n) ⌝ }
 {
@@ -110,7 +110,7 @@ fn is_no_route(
     if d[start] != 0 {
         return false;
     }
-    vertices::vertices_right(w, h, map, rows, false, a, b, d, e, f, back, route, next)
+    vertices::vertices_right(w, h, map, dirs, false, a, b, d, e, f, back, route, next)
 }
 
 // Refusal 6 does not apply: each slice of the sheet has v places.
@@ -150,7 +150,7 @@ fn judge(
     w: usize,
     h: usize,
     map: &[u8],
-    rows: Rows,
+    dirs: Directions,
     a: Vertex,
     b: Vertex,
     d: &[u32],
@@ -161,20 +161,20 @@ fn judge(
     next: &[u16],
     n: usize,
 ) -> Checked
-    requires { ⌜ GoodJob w h (now map) rows (a .0) (b .0) ⌝ }
+    requires { ⌜ GoodJob w h (now map) dirs (a .0) (b .0) ⌝ }
     ensures { λ r. ⌜ r ≡ judged w h (now (map .entry)) (a .0) (b .0)
         (sheetOf (now (d .entry)) (now (e .entry)) (now (f .entry)) (now (back .entry)) (now (route .entry))
         (now (next .entry)) n)
-        (Fit rows) ⌝ }
+        (Fit dirs) ⌝ }
 {
     let v = floor::vertex_count(w, h);
     if !sheet_sized(v, d, e, f, back, route, next) {
         return Checked::Refused(Refusal::SliceLength);
     }
-    if is_route(w, h, map, rows, a, b, d, e, f, back, route, next, n) {
+    if is_route(w, h, map, dirs, a, b, d, e, f, back, route, next, n) {
         return Checked::Route;
     }
-    if is_no_route(w, h, map, rows, a, b, d, e, f, back, route, next, n) {
+    if is_no_route(w, h, map, dirs, a, b, d, e, f, back, route, next, n) {
         return Checked::NoRoute;
     }
     Checked::Refused(Refusal::FalseSheet)
@@ -202,13 +202,13 @@ pub fn check(
         (sheetOf (now (d .entry)) (now (e .entry)) (now (f .entry)) (now (back .entry)) (now (route .entry))
         (now (next .entry)) n) ⌝ }
 {
-    let job = grid::job_of(w, h, map, nb, a, b);
-    match job {
-        Job::Fit(rows) => judge(
+    let shape = grid::job_shape(w, h, map, nb, a, b);
+    match shape {
+        JobShape::Fit(dirs) => judge(
             w,
             h,
             map,
-            rows,
+            dirs,
             Vertex(a),
             Vertex(b),
             d,
@@ -219,6 +219,6 @@ pub fn check(
             next,
             n,
         ),
-        Job::Unfit(r) => Checked::Refused(r),
+        JobShape::Refused(r) => Checked::Refused(r),
     }
 }

@@ -12,7 +12,7 @@ ghost use Rattle.neighbours.specs.Reading.{maskGraph};
 ghost use Rattle.neighbours.specs.Choice.{Choosing, Counted, LeadsBy};
 ghost use Rattle.checker.specs.Tests.{chosenOf, nextRowTest, nextsTest, Choosable};
 use floor::Vertex;
-use moves::Rows;
+use moves::Directions;
 
 // A vertex number of 16 bits as an index.
 fn index(x: u16) -> usize
@@ -24,7 +24,7 @@ fn index(x: u16) -> usize
 // The next vertex of v is right: by the central rule on the way before b, where a move leads on, b at b, and 0 off the
 // way.
 fn next_right(
-    rows: Rows,
+    dirs: Directions,
     shifts: &[usize],
     mask: u32,
     b: usize,
@@ -35,10 +35,10 @@ fn next_right(
     next: &[u16],
     v: usize,
 ) -> bool
-    requires { ⌜ Choosing rows (now shifts) mask (now d) (now e) b v × Counted (length (now d)) (now f) (now back)
-        × LeadsBy rows (now shifts) mask (now d) (now e) (now f) (now back) b v
+    requires { ⌜ Choosing dirs (now shifts) mask (now d) (now e) b v × Counted (length (now d)) (now f) (now back)
+        × LeadsBy dirs (now shifts) mask (now d) (now e) (now f) (now back) b v
         × (length (now next) ≡ length (now d)) ⌝ }
-    ensures { λ r. ⌜ r ≡ rightNext (maskGraph (length (now (d .entry))) rows (now (shifts .entry)) mask) b
+    ensures { λ r. ⌜ r ≡ rightNext (maskGraph (length (now (d .entry))) dirs (now (shifts .entry)) mask) b
         (chosenOf (now (d .entry)) (now (e .entry)) (now (f .entry)) (now (back .entry)) (now (next .entry))) v ⌝ }
 {
     let x = index(next[v]);
@@ -48,7 +48,7 @@ fn next_right(
     if v == b {
         return x == b;
     }
-    x == neighbours::next_at(rows, shifts, mask, d, e, f, back, b, v).0
+    x == neighbours::next_at(dirs, shifts, mask, d, e, f, back, b, v).0
 }
 
 // The next vertices of row y are right, by the moves that leave each; where none is on the way, no move is asked for.
@@ -57,7 +57,7 @@ fn row_right(
     w: usize,
     h: usize,
     map: &[u8],
-    rows: Rows,
+    dirs: Directions,
     b: usize,
     d: &[u32],
     e: &[u32],
@@ -68,9 +68,9 @@ fn row_right(
     windows: [u32; 16],
     y: usize,
 ) -> bool
-    requires { ⌜ Choosable w h (now map) rows b (chosenOf (now d) (now e) (now f) (now back) (now next)) × (y ≤ h)
-        × WindowsTo rows 16 windows × Shifts w rows (now shifts) ⌝ }
-    ensures { λ r. ⌜ r ≡ nextRowTest (floorGraph (floorOf w h (now (map .entry))) rows) b
+    requires { ⌜ Choosable w h (now map) dirs b (chosenOf (now d) (now e) (now f) (now back) (now next)) × (y ≤ h)
+        × WindowsTo dirs 16 windows × Shifts w dirs (now shifts) ⌝ }
+    ensures { λ r. ⌜ r ≡ nextRowTest (floorGraph (floorOf w h (now (map .entry))) dirs) b
         (chosenOf (now (d .entry)) (now (e .entry)) (now (f .entry)) (now (back .entry)) (now (next .entry))) w y ⌝ }
 {
     let first = y * (w + 1);
@@ -78,10 +78,10 @@ fn row_right(
     if !neighbours::any_on_way(d, e, b, first, past) {
         return crate::zeros::all_zero(next, first, past);
     }
-    let leaving = masks::leaving_row(w, h, map, rows, y, windows);
+    let leaving = masks::leaving_row(w, h, map, dirs, y, windows);
     let mut right = true;
     for x in 0..w + 1 {
-        if !next_right(rows, shifts, leaving[x], b, d, e, f, back, next, first + x) {
+        if !next_right(dirs, shifts, leaving[x], b, d, e, f, back, next, first + x) {
             right = false;
         }
     }
@@ -94,7 +94,7 @@ pub fn nexts_right(
     w: usize,
     h: usize,
     map: &[u8],
-    rows: Rows,
+    dirs: Directions,
     b: Vertex,
     d: &[u32],
     e: &[u32],
@@ -102,19 +102,19 @@ pub fn nexts_right(
     back: &[u64],
     next: &[u16],
 ) -> bool
-    requires { ⌜ Choosable w h (now map) rows (b .0) (chosenOf (now d) (now e) (now f) (now back) (now next)) ⌝ }
-    ensures { λ r. ⌜ r ≡ nextsTest (floorGraph (floorOf w h (now (map .entry))) rows) (b .0)
+    requires { ⌜ Choosable w h (now map) dirs (b .0) (chosenOf (now d) (now e) (now f) (now back) (now next)) ⌝ }
+    ensures { λ r. ⌜ r ≡ nextsTest (floorGraph (floorOf w h (now (map .entry))) dirs) (b .0)
         (chosenOf (now (d .entry)) (now (e .entry)) (now (f .entry)) (now (back .entry)) (now (next .entry))) ⌝ }
 {
     let goal = b.0;
-    let shifts = offsets::shifts_of(w, rows);
-    let windows = masks::window_masks(rows);
+    let shifts = offsets::shifts_of(w, dirs);
+    let windows = masks::window_masks(dirs);
     for y in 0..h + 1 {
         if !row_right(
             w,
             h,
             map,
-            rows,
+            dirs,
             goal,
             d,
             e,

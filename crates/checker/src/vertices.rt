@@ -12,16 +12,24 @@ ghost use Rattle.paths.specs.Sheet.{sheetOf};
 ghost use Rattle.grid.specs.Grid.{floorGraph};
 ghost use Rattle.grid.specs.Leaving.{leavingGraph};
 ghost use Rattle.neighbours.specs.Reading.{maskGraph, Readable};
-ghost use Rattle.checker.specs.Tests.{numbersOf, blankOf, countsTest, vertexTest, rowTest, verticesTest, Posed};
+ghost use Rattle.checker.specs.Tests.{
+  numbersOf,
+  blankOf,
+  countsTest,
+  vertexTest,
+  rowTest,
+  verticesTest,
+  CheckInput,
+};
 use floor::Vertex;
-use moves::Rows;
+use moves::Directions;
 use neighbours::Sum;
 use offsets::Class;
 
 // The count f(v) from the source is right, as far as v and its neighbours can tell; `on` says whether v is on the way.
 // A sum that does not fit 64 bits is no number of the sheet.
 fn count_right(
-    rows: Rows,
+    dirs: Directions,
     shifts: &[usize],
     mask: u32,
     source: usize,
@@ -30,9 +38,9 @@ fn count_right(
     f: &[u64],
     v: usize,
 ) -> bool
-    requires { ⌜ Readable (length (now d)) rows (now shifts) mask v × (length (now f) ≡ length (now d)) ⌝ }
+    requires { ⌜ Readable (length (now d)) dirs (now shifts) mask v × (length (now f) ≡ length (now d)) ⌝ }
     ensures { λ r. ⌜ r ≡ eqb (entry (now (f .entry)) v) (countAt
-        (maskGraph (length (now (d .entry))) rows (now (shifts .entry)) mask)
+        (maskGraph (length (now (d .entry))) dirs (now (shifts .entry)) mask)
         source (λ u. on) (entry (now (d .entry))) (entry (now (f .entry))) v) ⌝ }
 {
     let x = f[v];
@@ -42,7 +50,7 @@ fn count_right(
     if v == source {
         return x == 1;
     }
-    let Sum::Is(s) = neighbours::inflow_at(rows, shifts, mask, d, f, v) else {
+    let Sum::Is(s) = neighbours::inflow_at(dirs, shifts, mask, d, f, v) else {
         return false;
     };
     x == s
@@ -50,7 +58,7 @@ fn count_right(
 
 // Both counts of v are those of a route sheet.
 fn counts_right(
-    rows: Rows,
+    dirs: Directions,
     shifts: &[usize],
     mask: u32,
     a: usize,
@@ -61,17 +69,17 @@ fn counts_right(
     back: &[u64],
     v: usize,
 ) -> bool
-    requires { ⌜ Readable (length (now d)) rows (now shifts) mask v × (b < length (now d))
+    requires { ⌜ Readable (length (now d)) dirs (now shifts) mask v × (b < length (now d))
         × (length (now e) ≡ length (now d)) × (length (now f) ≡ length (now d))
         × (length (now back) ≡ length (now d)) ⌝ }
-    ensures { λ r. ⌜ r ≡ countsTest (maskGraph (length (now (d .entry))) rows (now (shifts .entry)) mask) a b
+    ensures { λ r. ⌜ r ≡ countsTest (maskGraph (length (now (d .entry))) dirs (now (shifts .entry)) mask) a b
         (numbersOf (now (d .entry)) (now (e .entry)) (now (f .entry)) (now (back .entry))) v ⌝ }
 {
     let on = neighbours::on_way(d, e, b, v);
-    if !count_right(rows, shifts, mask, a, on, d, f, v) {
+    if !count_right(dirs, shifts, mask, a, on, d, f, v) {
         return false;
     }
-    count_right(rows, shifts, mask, b, on, e, back, v)
+    count_right(dirs, shifts, mask, b, on, e, back, v)
 }
 
 // The numbers of v beside its cost from a are those of a no-route sheet: 0.
@@ -99,7 +107,7 @@ fn blank_at(e: &[u32], f: &[u64], back: &[u64], route: &[u16], next: &[u16], v: 
 // The numbers of v are right, by the kind of the sheet, with a route where `joined` holds. A sheet without one has the
 // cost from a alone. The costs are tested by the classes of the moves, and the counts move by move.
 fn vertex_right(
-    rows: Rows,
+    dirs: Directions,
     shifts: &[usize],
     classes: [Class; offsets::CLASSES],
     mask: u32,
@@ -114,9 +122,9 @@ fn vertex_right(
     next: &[u16],
     v: usize,
 ) -> bool
-    requires { ⌜ Readable (length (now d)) rows (now shifts) mask v × Classes rows classes × (b < length (now d))
+    requires { ⌜ Readable (length (now d)) dirs (now shifts) mask v × Classes dirs classes × (b < length (now d))
         × Shaped (length (now d)) (sheetOf (now d) (now e) (now f) (now back) (now route) (now next) 0) ⌝ }
-    ensures { λ r. ⌜ r ≡ vertexTest joined (maskGraph (length (now (d .entry))) rows (now (shifts .entry)) mask) a b
+    ensures { λ r. ⌜ r ≡ vertexTest joined (maskGraph (length (now (d .entry))) dirs (now (shifts .entry)) mask) a b
         (sheetOf (now (d .entry)) (now (e .entry)) (now (f .entry)) (now (back .entry)) (now (route .entry))
         (now (next .entry)) 0) v ⌝ }
 {
@@ -124,7 +132,7 @@ fn vertex_right(
         if !neighbours::costs_right(shifts, classes, mask, a, b, d, e, v) {
             return false;
         }
-        return counts_right(rows, shifts, mask, a, b, d, e, f, back, v);
+        return counts_right(dirs, shifts, mask, a, b, d, e, f, back, v);
     }
     if !neighbours::cost_right(shifts, classes, mask, a, d, v) {
         return false;
@@ -138,7 +146,7 @@ fn row_right(
     w: usize,
     h: usize,
     map: &[u8],
-    rows: Rows,
+    dirs: Directions,
     joined: bool,
     a: usize,
     b: usize,
@@ -152,20 +160,20 @@ fn row_right(
     windows: [u32; 16],
     y: usize,
 ) -> bool
-    requires { ⌜ Posed w h (now map) rows a b
-        (sheetOf (now d) (now e) (now f) (now back) (now route) (now next) 0) × (y ≤ h) × WindowsTo rows 16 windows
-        × Shifts w rows (now shifts) ⌝ }
-    ensures { λ r. ⌜ r ≡ rowTest joined (leavingGraph (floorOf w h (now (map .entry))) rows) a b
+    requires { ⌜ CheckInput w h (now map) dirs a b
+        (sheetOf (now d) (now e) (now f) (now back) (now route) (now next) 0) × (y ≤ h) × WindowsTo dirs 16 windows
+        × Shifts w dirs (now shifts) ⌝ }
+    ensures { λ r. ⌜ r ≡ rowTest joined (leavingGraph (floorOf w h (now (map .entry))) dirs) a b
         (sheetOf (now (d .entry)) (now (e .entry)) (now (f .entry)) (now (back .entry)) (now (route .entry))
         (now (next .entry)) 0) w y ⌝ }
 {
-    let classes = offsets::classes_of(rows);
-    let leaving = masks::leaving_row(w, h, map, rows, y, windows);
+    let classes = offsets::classes_of(dirs);
+    let leaving = masks::leaving_row(w, h, map, dirs, y, windows);
     let first = y * (w + 1);
     let mut right = true;
     for x in 0..w + 1 {
         if !vertex_right(
-            rows,
+            dirs,
             shifts,
             classes,
             leaving[x],
@@ -193,7 +201,7 @@ pub fn vertices_right(
     w: usize,
     h: usize,
     map: &[u8],
-    rows: Rows,
+    dirs: Directions,
     joined: bool,
     a: Vertex,
     b: Vertex,
@@ -204,22 +212,22 @@ pub fn vertices_right(
     route: &[u16],
     next: &[u16],
 ) -> bool
-    requires { ⌜ Posed w h (now map) rows (a .0) (b .0)
+    requires { ⌜ CheckInput w h (now map) dirs (a .0) (b .0)
         (sheetOf (now d) (now e) (now f) (now back) (now route) (now next) 0) ⌝ }
-    ensures { λ r. ⌜ r ≡ verticesTest joined (floorGraph (floorOf w h (now (map .entry))) rows) (a .0) (b .0)
+    ensures { λ r. ⌜ r ≡ verticesTest joined (floorGraph (floorOf w h (now (map .entry))) dirs) (a .0) (b .0)
         (sheetOf (now (d .entry)) (now (e .entry)) (now (f .entry)) (now (back .entry)) (now (route .entry))
         (now (next .entry)) 0) ⌝ }
 {
     let start = a.0;
     let goal = b.0;
-    let shifts = offsets::shifts_of(w, rows);
-    let windows = masks::window_masks(rows);
+    let shifts = offsets::shifts_of(w, dirs);
+    let windows = masks::window_masks(dirs);
     for y in 0..h + 1 {
         if !row_right(
             w,
             h,
             map,
-            rows,
+            dirs,
             joined,
             start,
             goal,

@@ -4,31 +4,20 @@ use mathlib.Core.Path.{_≡_, sym, ap, _∙_}
 use mathlib.Core.List.{List}
 use lib.ListN.{length}
 use Rattle.floor.specs.declared.Refusal.{Refusal}
-use Rattle.floor.specs.declared.Shape.the-variants.{Good, Refused}
+use Rattle.floor.specs.declared.Shape.the-variants.{Good, Refused as BadShape}
 use Rattle.floor.specs.Refusals.{leftBy}
-use Rattle.closures.specs.Plain.{
-  lowestFree,
-  postShape,
-  postingOf,
-  strikeShape,
-  strikingOf,
-  workShape,
-  workingMap,
-  writingOf,
-}
+use Rattle.closures.specs.Plain.{lowestFree, postShape, postingOf, strikeShape, workShape, workingMap}
 use Rattle.closures.specs.Table.{held, withSlot, Posts, Strikes, Writes}
 use Rattle.closures.specs.Known.{MapsLent}
 use Rattle.closures.proofs.Shapes.{good-work}
 use Rattle.closures.specs.declared.Rectangle.{Rectangle}
 use Rattle.closures.specs.declared.Hold.the-variants.{Free, Held}
 use Rattle.closures.specs.declared.Closures.{Closures}
-use Rattle.closures.specs.declared.Posting.the-variants.{In, Unposted}
-use Rattle.closures.specs.declared.Striking.the-variants.{Struck, Unstruck}
-use Rattle.closures.specs.declared.Writing.the-variants.{Written, Unwritten}
+use Rattle.closures.specs.declared.Posting.the-variants.{In, Refused}
 
 module _ (t : Closures) (r : Rectangle) where
-  pub posts-refused : {x : Refusal} → postShape (t .width) (t .height) (held t) r ≡ Refused x
-      → Posts t r (Unposted x) t
+  pub posts-refused : {x : Refusal} → postShape (t .width) (t .height) (held t) r ≡ BadShape x
+      → Posts t r (Refused x) t
   posts-refused e = record {
     answers = sym (ap (λ s. postingOf s (lowestFree (held t))) e);
     leaves = sym (ap (λ s. leftBy s (withSlot t (lowestFree (held t)) (Held r)) t) e);
@@ -44,28 +33,28 @@ module _ (t : Closures) (r : Rectangle) where
   }
 
 module _ (t : Closures) (k : ℕ) where
-  pub strikes-refused : {x : Refusal} → strikeShape (t .width) (t .height) (held t) k ≡ Refused x
-      → Strikes t k (Unstruck x) t
+  pub strikes-refused : {x : Refusal} → strikeShape (t .width) (t .height) (held t) k ≡ BadShape x
+      → Strikes t k (BadShape x) t
   strikes-refused e =
-      record { answers = sym (ap strikingOf e); leaves = sym (ap (λ s. leftBy s (withSlot t k Free) t) e) }
+      record { answers = sym e; leaves = sym (ap (λ s. leftBy s (withSlot t k Free) t) e) }
 
   pub strikes-free : (left : Closures) → strikeShape (t .width) (t .height) (held t) k ≡ Good
-      → left ≡ withSlot t k Free → Strikes t k Struck left
+      → left ≡ withSlot t k Free → Strikes t k Good left
   strikes-free left e l =
-      record { answers = sym (ap strikingOf e); leaves = l ∙ sym (ap (λ s. leftBy s (withSlot t k Free) t) e) }
+      record { answers = sym e; leaves = l ∙ sym (ap (λ s. leftBy s (withSlot t k Free) t) e) }
 
 module _ (t : Closures) (base work : List ℕ) where
-  pub writes-refused : {x : Refusal} → workShape (t .width) (t .height) base (length work) ≡ Refused x
-      → Writes t base work (Unwritten x) work
+  pub writes-refused : {x : Refusal} → workShape (t .width) (t .height) base (length work) ≡ BadShape x
+      → Writes t base work (BadShape x) work
   writes-refused e = record {
-    answers = sym (ap writingOf e);
+    answers = sym e;
     leaves = sym (ap (λ s. leftBy s (workingMap (t .width) (t .height) base (held t)) work) e);
   }
 
   pub writes-map : (left : List ℕ) → workShape (t .width) (t .height) base (length work) ≡ Good
-      → left ≡ workingMap (t .width) (t .height) base (held t) → Writes t base work Written left
+      → left ≡ workingMap (t .width) (t .height) base (held t) → Writes t base work Good left
   writes-map left e l = record {
-    answers = sym (ap writingOf e);
+    answers = sym e;
     leaves = l ∙ sym (ap (λ s. leftBy s (workingMap (t .width) (t .height) base (held t)) work) e);
   }
 

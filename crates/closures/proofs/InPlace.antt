@@ -8,9 +8,11 @@
 --   Change         == what tells one such function from another: the types of its argument, of its answer and of the
 --                     pair that the function called returns, that function's name, and what both ensure
 --   function c     == the MIR of such a function
---   signature c, ended c, clauses c == what it takes and returns, what of it is seen at exit, and what it ensures
---   called c, called-ended c, called-clauses c, Called c == the same of the function called, and its contract
---   change-meets   == it meets its contract, where the function called does
+--   signature c, ended c, clauses c == what `function c` takes and returns, what of it is seen at exit, and what it
+--                     ensures
+--   called c, called-ended c, called-clauses c, Called c == what the function called takes and returns, what of it is
+--                     seen at exit, what it ensures, and its contract
+--   change-meets   == `function c` meets its contract, where the function called does
 use mathlib.Core.Path.{_≡_, refl}
 use Prim.Native.Nat.{ℕ}
 use mathlib.Core.List.{[], _∷_, List}

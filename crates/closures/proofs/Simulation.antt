@@ -2,7 +2,7 @@
 --
 --   held-empty         == the empty table stands for the empty map
 --   held-left          == one call: the map that the table left stands for is the map left by the plain call
---   after-any-calls    == any calls from empty: the same of the tables and maps left
+--   after-any-calls    == any calls from empty: the table left stands for the plain map left
 --   answers-any-calls  == any calls from empty: the answers are those of the plain map
 --   writes-any-calls   == any calls from empty, then the writing: it answers and leaves what it would by the plain map
 use Prim.Native.Nat.{ℕ, _≤_, _<_}
@@ -24,7 +24,7 @@ use Rattle.closures.specs.Plain.{
   lowestFree,
   postShape,
   strikeShape,
-  workAnswer,
+  workShape,
   workLeft,
 }
 use Rattle.closures.specs.Table.{heldIn, slotOf, held, withSlot, emptyTable, Writes}
@@ -44,7 +44,6 @@ use Rattle.closures.proofs.Shapes.{good-post, good-strike}
 use Rattle.closures.specs.declared.Hold.{Hold}
 use Rattle.closures.specs.declared.Hold.the-variants.{Free, Held}
 use Rattle.closures.specs.declared.Closures.{Closures}
-use Rattle.closures.specs.declared.Writing.{Writing}
 
 -- A table for a floor of width w and height h, with sixteen slots.
 pub record Sided (w h : ℕ) (t : Closures) : Type 0 where
@@ -137,12 +136,12 @@ module _ (w h : ℕ) where
   after-sided t [] g = g
   after-sided t (c ∷ cs) g = after-sided (tableLeft t c) cs (call-sided c g)
 
-  pub writes-any-calls : (cs : List Call) {base work left : List ℕ} {answer : Writing}
+  pub writes-any-calls : (cs : List Call) {base work left : List ℕ} {answer : Shape}
       → Writes (tableAfter (emptyTable w h) cs) base work answer left
-      → (answer ≡ workAnswer w h base (length work))
+      → (answer ≡ workShape w h base (length work))
       × (left ≡ workLeft w h base (plainAfter w h nothingHeld cs) work)
   writes-any-calls cs {base} {work} x =
       let g = after-sided (emptyTable w h) cs (empty-sided w h) in (
-        x .answers ∙ (λ i. workAnswer (g .wide i) (g .high i) base (length work)),
+        x .answers ∙ (λ i. workShape (g .wide i) (g .high i) base (length work)),
         x .leaves ∙ (λ i. workLeft (g .wide i) (g .high i) base (after-any-calls cs i) work),
       )

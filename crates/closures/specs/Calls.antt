@@ -2,21 +2,21 @@
 -- two are the same is proved in proofs/Simulation.antt.
 --
 --   Call                     == a call of post or of strike
---   Answer                   == what such a call answers
+--   Answer                   == what a call of post or of strike answers
 --   tableLeft, plainLeft     == what one call leaves, of the table and of the plain map
 --   tableAnswer, plainAnswer == what one call answers
 --   tableAfter t cs          == the table t after the calls cs, by what the contracts say that each leaves
 --   tableAnswers t cs        == what the calls cs answer, by the contracts
---   plainAfter w h m cs      == the plain map m after the same calls, for a floor of width w and height h
---   plainAnswers w h m cs    == what they answer by the plain map
+--   plainAfter w h m cs      == the plain map m after the calls cs, for a floor of width w and height h
+--   plainAnswers w h m cs    == what the calls cs answer by the plain map m, for a floor of width w and height h
 use Prim.Native.Nat.{ℕ}
 use mathlib.Core.List.{List, [], _∷_}
-use Rattle.closures.specs.Plain.{Plain, postAnswer, postMap, strikeAnswer, strikeMap}
+use Rattle.floor.specs.declared.Shape.{Shape}
+use Rattle.closures.specs.Plain.{Plain, postAnswer, postMap, strikeShape, strikeMap}
 use Rattle.closures.specs.Table.{held, postLeft, strikeLeft}
 use Rattle.closures.specs.declared.Rectangle.{Rectangle}
 use Rattle.closures.specs.declared.Closures.{Closures}
 use Rattle.closures.specs.declared.Posting.{Posting}
-use Rattle.closures.specs.declared.Striking.{Striking}
 
 pub data Call : Type 0 where
   post : Rectangle → Call
@@ -24,7 +24,7 @@ pub data Call : Type 0 where
 
 pub data Answer : Type 0 where
   ofPost : Posting → Answer
-  ofStrike : Striking → Answer
+  ofStrike : Shape → Answer
 
 abbrev pub tableLeft : Closures → Call → Closures
 tableLeft t (post r) = postLeft t r
@@ -36,7 +36,7 @@ plainLeft w h m (strike k) = strikeMap w h m k
 
 abbrev pub plainAnswer : ℕ → ℕ → Plain → Call → Answer
 plainAnswer w h m (post r) = ofPost (postAnswer w h m r)
-plainAnswer w h m (strike k) = ofStrike (strikeAnswer w h m k)
+plainAnswer w h m (strike k) = ofStrike (strikeShape w h m k)
 
 -- The contracts give an answer by the table's own sides and what it holds.
 abbrev pub tableAnswer : Closures → Call → Answer

@@ -4,7 +4,7 @@
 --   MapsLent t base work     == the base map is good for the table's floor, and the working slice is as long
 --   Marked s w h l left  == left is the map l, of a floor of width w and height h, blocked also where s covers the cell
 --   clipped w h r        == the part of rectangle r that lies on a floor of width w and height h
---   CellsOnFloor r w h        == such a floor has every cell of rectangle r
+--   CellsOnFloor r w h   == a floor of width w and height h has every cell of rectangle r
 use Prim.Native.Nat.{ℕ, _+_, _-_, _≤_, min}
 use mathlib.Core.Path.{_≡_}
 use mathlib.Core.List.{List}

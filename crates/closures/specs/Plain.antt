@@ -1,5 +1,5 @@
--- Request 1, "Closures with a slot each": the table as a plain map from slot to rectangle, and what post, strike and the
--- writing of the working map answer and leave.
+-- docs/RULES.md, 11.1 to 11.5: the table as a plain map from slot to rectangle, and what post, strike and the writing
+-- of the working map answer and leave.
 --
 --   Plain                   == a plain map from slot number to rectangle; a slot with none is free
 --   nothingHeld             == the empty map: every slot is free
@@ -10,16 +10,17 @@
 --   within w h r            == rectangle r is not empty and does not leave a floor of width w and height h
 --   postShape w h m r       == refusals 1, 12 and 13 of posting r, in order
 --   postAnswer, postMap     == what post answers, and the map afterwards; at a refusal the same map
---   strikeShape w h m k     == refusals 1 and 14 of striking slot k, in order
---   strikeAnswer, strikeMap == what strike answers, and the map afterwards; at a refusal the same map
+--   strikeShape w h m k     == what strike of slot k answers: refusals 1 and 14, in order
+--   strikeMap w h m k       == the map after strike; at a refusal the same map
 --   covers r i j            == the cell in column i and row j lies in rectangle r
 --   coveredBy s i j         == a slot that holds s covers that cell
 --   closedBy m i j          == some closure that m holds covers that cell
---   workShape w h base n    == refusals 1, 2, 3 and then 6 of writing the working map into a slice of n places
+--   workShape w h base n    == what the writing of the working map into a slice of n places answers: refusals 1, 2, 3,
+--                              then 6
 --   workingMap w h base m   == the map of the base map's floor, blocked also where any closure that m holds covers
---   workAnswer, workLeft    == what the writing answers, and the slice afterwards; at a refusal the same slice
---   postingOf, strikingOf, writingOf    == the answer for a shape
---   postNumber, strikeNumber, workNumber == the papers' number of an answer: 0, or that of the refusal
+--   workLeft w h base m l   == the slice l after the writing of the working map; at a refusal the same slice
+--   postingOf s k           == what post answers where its refusals are the shape s and the slot is k
+--   postNumber p            == the number of what post answers (rule 6.1): 0, or that of the refusal
 --   postSlot p              == the slot that post answers; 0 at a refusal
 use Prim.Native.Nat.{ℕ, _+_}
 use mathlib.Core.Bool.{Bool, true, false, _&&_, not}
@@ -32,14 +33,10 @@ use Rattle.floor.specs.Floor.{floorOf, mapOf, withBlocked}
 use Rattle.floor.specs.Refusals.{refusalNumber, sidesShape, floorShape, andThen, leftBy}
 use Rattle.floor.specs.declared.Refusal.the-variants.{SliceLength, ClosureBounds, SlotsFull, SlotEmpty}
 use Rattle.floor.specs.declared.Shape.{Shape}
-use Rattle.floor.specs.declared.Shape.the-variants.{Good, Refused}
+use Rattle.floor.specs.declared.Shape.the-variants.{Good, Refused as BadShape}
 use Rattle.closures.specs.declared.Rectangle.{Rectangle}
 use Rattle.closures.specs.declared.Posting.{Posting}
-use Rattle.closures.specs.declared.Posting.the-variants.{In, Unposted}
-use Rattle.closures.specs.declared.Striking.{Striking}
-use Rattle.closures.specs.declared.Striking.the-variants.{Struck, Unstruck}
-use Rattle.closures.specs.declared.Writing.{Writing}
-use Rattle.closures.specs.declared.Writing.the-variants.{Written, Unwritten}
+use Rattle.closures.specs.declared.Posting.the-variants.{In, Refused}
 
 -- ---- the table: "a plain map from slot to rectangle"
 
@@ -73,11 +70,12 @@ within w h r =
 unfoldable pub postShape : ℕ → ℕ → Plain → Rectangle → Shape
 postShape w h m r =
     andThen (sidesShape w h)
-    (andThen (pick (within w h r) Good (Refused ClosureBounds)) (pick (ltb (lowestFree m) 16) Good (Refused SlotsFull)))
+    (andThen (pick (within w h r) Good (BadShape ClosureBounds))
+    (pick (ltb (lowestFree m) 16) Good (BadShape SlotsFull)))
 
 abbrev pub postingOf : Shape → ℕ → Posting
 postingOf Good k = In k
-postingOf (Refused r) k = Unposted r
+postingOf (BadShape r) k = Refused r
 
 abbrev pub postAnswer : ℕ → ℕ → Plain → Rectangle → Posting
 postAnswer w h m r = postingOf (postShape w h m r) (lowestFree m)
@@ -89,14 +87,7 @@ postMap w h m r = leftBy (postShape w h m r) (changed m (lowestFree m) (some r))
 
 unfoldable pub strikeShape : ℕ → ℕ → Plain → ℕ → Shape
 strikeShape w h m k =
-    andThen (sidesShape w h) (pick (ltb k 16 && not (freeIn m k)) Good (Refused SlotEmpty))
-
-abbrev pub strikingOf : Shape → Striking
-strikingOf Good = Struck
-strikingOf (Refused r) = Unstruck r
-
-abbrev pub strikeAnswer : ℕ → ℕ → Plain → ℕ → Striking
-strikeAnswer w h m k = strikingOf (strikeShape w h m k)
+    andThen (sidesShape w h) (pick (ltb k 16 && not (freeIn m k)) Good (BadShape SlotEmpty))
 
 abbrev pub strikeMap : ℕ → ℕ → Plain → ℕ → Plain
 strikeMap w h m k = leftBy (strikeShape w h m k) (changed m k none) m
@@ -115,35 +106,20 @@ unfoldable pub closedBy : Plain → ℕ → ℕ → Bool
 closedBy m i j = any 16 (λ k. coveredBy (m k) i j)
 
 unfoldable pub workShape : ℕ → ℕ → List ℕ → ℕ → Shape
-workShape w h base n = andThen (floorShape w h base) (pick (eqb n (length base)) Good (Refused SliceLength))
+workShape w h base n = andThen (floorShape w h base) (pick (eqb n (length base)) Good (BadShape SliceLength))
 
 abbrev pub workingMap : ℕ → ℕ → List ℕ → Plain → List ℕ
 workingMap w h base m = mapOf (withBlocked (floorOf w h base) (closedBy m))
 
-abbrev pub writingOf : Shape → Writing
-writingOf Good = Written
-writingOf (Refused r) = Unwritten r
-
-abbrev pub workAnswer : ℕ → ℕ → List ℕ → ℕ → Writing
-workAnswer w h base n = writingOf (workShape w h base n)
-
 abbrev pub workLeft : ℕ → ℕ → List ℕ → Plain → List ℕ → List ℕ
 workLeft w h base m work = leftBy (workShape w h base (length work)) (workingMap w h base m) work
 
--- ---- the papers' numbers
+-- ---- the numbers of answers
 
 abbrev pub postNumber : Posting → ℕ
 postNumber (In k) = 0
-postNumber (Unposted r) = refusalNumber r
+postNumber (Refused r) = refusalNumber r
 
 abbrev pub postSlot : Posting → ℕ
 postSlot (In k) = k
-postSlot (Unposted r) = 0
-
-abbrev pub strikeNumber : Striking → ℕ
-strikeNumber Struck = 0
-strikeNumber (Unstruck r) = refusalNumber r
-
-abbrev pub workNumber : Writing → ℕ
-workNumber Written = 0
-workNumber (Unwritten r) = refusalNumber r
+postSlot (Refused r) = 0

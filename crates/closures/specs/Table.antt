@@ -14,24 +14,14 @@ use mathlib.Core.List.{List}
 use mathlib.Core.Option.{Option, none, some}
 use lib.ListN.{length, getD, set, replicate}
 use Rattle.floor.specs.Refusals.{leftBy}
-use Rattle.closures.specs.Plain.{
-  Plain,
-  lowestFree,
-  postShape,
-  postAnswer,
-  strikeShape,
-  strikeAnswer,
-  workAnswer,
-  workLeft,
-}
+use Rattle.floor.specs.declared.Shape.{Shape}
+use Rattle.closures.specs.Plain.{Plain, lowestFree, postShape, postAnswer, strikeShape, workShape, workLeft}
 use Rattle.closures.specs.declared.Rectangle.{Rectangle}
 use Rattle.closures.specs.declared.Hold.{Hold}
 use Rattle.closures.specs.declared.Hold.the-variants.{Free, Held}
 use Rattle.closures.specs.declared.Slot.{Slot}
 use Rattle.closures.specs.declared.Closures.{Closures}
 use Rattle.closures.specs.declared.Posting.{Posting}
-use Rattle.closures.specs.declared.Striking.{Striking}
-use Rattle.closures.specs.declared.Writing.{Writing}
 
 abbrev pub heldIn : Hold → Option Rectangle
 heldIn Free = none
@@ -60,10 +50,10 @@ pub record Posts (t : Closures) (r : Rectangle) (answer : Posting) (left : Closu
   pub answers : answer ≡ postAnswer (t .width) (t .height) (held t) r
   pub leaves : left ≡ postLeft t r
 
-pub record Strikes (t : Closures) (k : ℕ) (answer : Striking) (left : Closures) : Type 0 where
-  pub answers : answer ≡ strikeAnswer (t .width) (t .height) (held t) k
+pub record Strikes (t : Closures) (k : ℕ) (answer : Shape) (left : Closures) : Type 0 where
+  pub answers : answer ≡ strikeShape (t .width) (t .height) (held t) k
   pub leaves : left ≡ strikeLeft t k
 
-pub record Writes (t : Closures) (base work : List ℕ) (answer : Writing) (left : List ℕ) : Type 0 where
-  pub answers : answer ≡ workAnswer (t .width) (t .height) base (length work)
+pub record Writes (t : Closures) (base work : List ℕ) (answer : Shape) (left : List ℕ) : Type 0 where
+  pub answers : answer ≡ workShape (t .width) (t .height) base (length work)
   pub leaves : left ≡ workLeft (t .width) (t .height) base (held t) work

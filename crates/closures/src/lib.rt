@@ -5,7 +5,7 @@ ghost use Prim.Native.Nat.{_<_, min};
 ghost use Rattle.floor.specs.Refusals.{floorShape};
 ghost use Rattle.floor.specs.declared.Shape.the-variants.{Good};
 ghost use Rattle.closures.specs.Plain.{isFree, lowestFree, within, postShape, strikeShape, workShape, workingMap};
-ghost use Rattle.closures.specs.Plain.{postNumber, postSlot, strikeNumber, workNumber};
+ghost use Rattle.closures.specs.Plain.{postNumber, postSlot};
 ghost use Rattle.closures.specs.Table.{held, withSlot, emptyTable, Posts, Strikes, Writes};
 ghost use Rattle.closures.specs.Known.{MapsLent, CellsOnFloor, clipped, Marked};
 use floor::Refusal;
@@ -40,19 +40,7 @@ pub struct Closures {
 // What post answers: the slot, or a refusal.
 pub enum Posting {
     In(usize),
-    Unposted(Refusal),
-}
-
-// What strike answers.
-pub enum Striking {
-    Struck,
-    Unstruck(Refusal),
-}
-
-// What the writing of the working map answers.
-pub enum Writing {
-    Written,
-    Unwritten(Refusal),
+    Refused(Refusal),
 }
 
 // The table after post, with the answer.
@@ -64,16 +52,16 @@ pub struct AfterPost {
 // The table after strike, with the answer.
 pub struct AfterStrike {
     pub table: Closures,
-    pub answer: Striking,
+    pub answer: Shape,
 }
 
-// The papers' number of post's answer.
+// The number of post's answer (rule 6.1).
 pub fn post_number(p: Posting) -> u8
     ensures { λ r. ⌜ r ≡ postNumber p ⌝ }
 {
     match p {
         Posting::In(_) => 0,
-        Posting::Unposted(r) => floor::refusal_number(r),
+        Posting::Refused(r) => floor::refusal_number(r),
     }
 }
 
@@ -83,31 +71,11 @@ pub fn post_slot(p: Posting) -> usize
 {
     match p {
         Posting::In(k) => k,
-        Posting::Unposted(_) => 0,
+        Posting::Refused(_) => 0,
     }
 }
 
-// The papers' number of strike's answer.
-pub fn strike_number(s: Striking) -> u8
-    ensures { λ r. ⌜ r ≡ strikeNumber s ⌝ }
-{
-    match s {
-        Striking::Struck => 0,
-        Striking::Unstruck(r) => floor::refusal_number(r),
-    }
-}
-
-// The papers' number of what the writing of the working map answers.
-pub fn work_number(s: Writing) -> u8
-    ensures { λ r. ⌜ r ≡ workNumber s ⌝ }
-{
-    match s {
-        Writing::Written => 0,
-        Writing::Unwritten(r) => floor::refusal_number(r),
-    }
-}
-
-// The empty table for a floor of w by h cells. Sides that are no floor's are refused by every call on it.
+// The empty table for a floor of w by h cells. Every call on a table with bad sides is refused with 1.
 pub fn empty(w: usize, h: usize) -> Closures
     ensures { λ t. ⌜ t ≡ emptyTable w h ⌝ }
 {
@@ -209,7 +177,7 @@ pub fn posted(table: Closures, r: Rectangle) -> AfterPost
     match post_shape(table, r, k) {
         Shape::Refused(why) => AfterPost {
             table: table,
-            answer: Posting::Unposted(why),
+            answer: Posting::Refused(why),
         },
         Shape::Good => AfterPost {
             table: with_slot(table, k, Hold::Held(r)),
@@ -242,17 +210,17 @@ pub fn struck(table: Closures, k: usize) -> AfterStrike
     match strike_shape(table, k) {
         Shape::Refused(why) => AfterStrike {
             table: table,
-            answer: Striking::Unstruck(why),
+            answer: Shape::Refused(why),
         },
         Shape::Good => AfterStrike {
             table: with_slot(table, k, Hold::Free),
-            answer: Striking::Struck,
+            answer: Shape::Good,
         },
     }
 }
 
-// The lesser of two numbers.
-fn lesser(a: usize, b: usize) -> usize
+// The minimum of two numbers.
+fn min(a: usize, b: usize) -> usize
     ensures { λ r. ⌜ r ≡ min a b ⌝ }
 {
     if a < b {
@@ -275,13 +243,13 @@ fn mark(r: Rectangle, w: usize, h: usize, work: &mut [u8])
 fn clip(r: Rectangle, w: usize, h: usize) -> Rectangle
     ensures { λ p. ⌜ p ≡ clipped w h r ⌝ }
 {
-    let left = lesser(r.column, w);
-    let top = lesser(r.row, h);
+    let left = min(r.column, w);
+    let top = min(r.row, h);
     Rectangle {
         column: left,
         row: top,
-        columns: lesser(r.columns, w - left),
-        rows: lesser(r.rows, h - top),
+        columns: min(r.columns, w - left),
+        rows: min(r.rows, h - top),
     }
 }
 
@@ -332,14 +300,14 @@ fn work_shape(w: usize, h: usize, base: &[u8], places: usize) -> Shape
 
 // Writes the working map: blocked where the base map is or where any closure of the table covers. A refusal, 1, 2, 3 or
 // 6, writes nothing.
-pub fn working_map(table: Closures, base: &[u8], work: &mut [u8]) -> Writing
+pub fn working_map(table: Closures, base: &[u8], work: &mut [u8]) -> Shape
     ensures { λ r. ⌜ Writes table (now (base .entry)) (now (work .entry)) r (now (work .exit)) ⌝ }
 {
     match work_shape(table.width, table.height, base, work.len()) {
-        Shape::Refused(why) => Writing::Unwritten(why),
+        Shape::Refused(why) => Shape::Refused(why),
         Shape::Good => {
             mark_all(table, base, work);
-            Writing::Written
+            Shape::Good
         }
     }
 }
@@ -354,7 +322,7 @@ pub fn post(table: &mut Closures, r: Rectangle) -> Posting
 }
 
 // Strikes slot k of the table that the caller lends: `struck`, in place.
-pub fn strike(table: &mut Closures, k: usize) -> Striking
+pub fn strike(table: &mut Closures, k: usize) -> Shape
     ensures { λ a. ⌜ Strikes (now (table .entry)) k a (now (table .exit)) ⌝ }
 {
     let done = struck(*table, k);

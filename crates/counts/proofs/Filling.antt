@@ -1,14 +1,14 @@
 -- Both passes together. The vertices on the way are kept in the order of their cost to b, along which the pass from b
 -- goes; the pass from a goes along the same from the back.
 --
---   readied-kept      == where some of the order are kept, a pass can read those
---   readied-other     == and with another slice of the same length
---   even-way          == the test of the code is the test `onWay`
---   order-kept        == so what is kept is an order of the way from b
+--   input-kept        == where some of the order are kept, a pass can read those
+--   input-other       == what a pass can read by the costs d it can by any slice of that length
+--   sums-way          == the test of the code is the test `onWay`
+--   order-kept        == what is kept is a `WayOrder` from b
 --   passable-back, passable-forth == what the passes from b and from a take
 --   counts-turned     == the counts from b on the way to a are the counts to b on the way from a
 --   passed-total      == where the pass from b has filled its slice, the total fits, since it stands there
---   filled-both       == so the pass from a fills its slice too
+--   filled-both       == `Filled` from what the two passes leave, where the pass from b has filled its slice
 --   filled-none       == where the pass from b has not, the total does not fit
 use Prim.Native.Nat.{ℕ, _+_, _*_, _^_, _≤_, _<_}
 use mathlib.Core.Path.{_≡_, refl, sym, ap, _∙_, subst}
@@ -26,11 +26,11 @@ use Rattle.paths.specs.Sheet.{fits}
 use Rattle.paths.specs.Local.{entry}
 use Rattle.paths.proofs.Reverse.{distance-sym, pathCount-sym}
 use Rattle.paths.proofs.Way.{shortest-same, way-cases, way-turn, way-end, countFrom-way}
-use Rattle.moves.specs.declared.Rows.{Rows}
+use Rattle.moves.specs.declared.Directions.{Directions}
 use Rattle.neighbours.proofs.Choice.{onShortest-sum}
 use Rattle.workspace.specs.Regions.{maskAt, Masked}
 use Rattle.workspace.proofs.Regions.{masked-kept}
-use Rattle.counts.specs.Passes.{evenAt, Filtered, Readied, WayOrder, Passable, Known, Summed, Filled}
+use Rattle.counts.specs.Passes.{sumsTo, Filtered, PassInput, WayOrder, Passable, Known, Summed, Filled}
 use Rattle.counts.proofs.Sequence.{costs-len, costs-at, order-turned}
 
 -- ---- where some of the order are kept
@@ -39,8 +39,9 @@ module _ {p : ℕ → Bool} {n k : ℕ} {work work′ : List ℕ} (R : Filtered 
   mask-kept : {v : ℕ} → n ≤ v → (u : ℕ) → maskAt v work′ u ≡ maskAt v work u
   mask-kept {v} short u = R .rest (2 * v + u) (omega arith)
 
-  pub readied-kept : {rows : Rows} {shifts : List ℕ} {d : List ℕ} → Readied rows shifts n d work → Readied rows shifts k d work′
-  readied-kept {d = d} A = record {
+  pub input-kept : {dirs : Directions} {shifts : List ℕ} {d : List ℕ} → PassInput dirs shifts n d work
+      → PassInput dirs shifts k d work′
+  input-kept {d = d} A = record {
     few = A .few;
     work-len = R .len ∙ A .work-len;
     short = omega (arith, A .short, R .few);
@@ -48,9 +49,10 @@ module _ {p : ℕ → Bool} {n k : ℕ} {work work′ : List ℕ} (R : Filtered 
     readable = λ u i. rw (mask-kept (A .short) u) (A .readable u i);
   }
 
-pub readied-other : {rows : Rows} {shifts : List ℕ} {n : ℕ} {d e work : List ℕ} → length e ≡ length d → Readied rows shifts n d work
-    → Readied rows shifts n e work
-readied-other same A = record {
+pub input-other : {dirs : Directions} {shifts : List ℕ} {n : ℕ} {d e work : List ℕ} → length e ≡ length d
+    → PassInput dirs shifts n d work
+    → PassInput dirs shifts n e work
+input-other same A = record {
   few = omega (arith, A .few, same);
   work-len = omega (arith, A .work-len, same);
   short = omega (arith, A .short, same);
@@ -58,8 +60,9 @@ readied-other same A = record {
   readable = rw same (A .readable);
 }
 
-module _ {g : Graph} {rows : Rows} {shifts : List ℕ} {a b n k : ℕ} {d e work work′ : List ℕ} (K : Known g rows shifts a b n d e work)
-    (A : Readied rows shifts n d work) (R : Filtered (evenAt d e (entry d b)) n k work work′) where
+module _ {g : Graph} {dirs : Directions} {shifts : List ℕ} {a b n k : ℕ} {d e work work′ : List ℕ}
+    (K : Known g dirs shifts a b n d e work)
+    (A : PassInput dirs shifts n d work) (R : Filtered (sumsTo d e (entry d b)) n k work work′) where
   -- ---- what is kept are the vertices on the way
 
   sized : length d ≡ g .size
@@ -71,9 +74,9 @@ module _ {g : Graph} {rows : Rows} {shifts : List ℕ} {a b n k : ℕ} {d e work
   back-at : (u : ℕ) → u < g .size → entry e u ≡ distance g b u
   back-at = costs-at g b (K .costs-back)
 
-  even-way : (u : ℕ) → u < g .size → evenAt d e (entry d b) u ≡ onWay g b a u
+  sums-way : (u : ℕ) → u < g .size → sumsTo d e (entry d b) u ≡ onWay g b a u
   unfolding onWay
-  even-way u i =
+  sums-way u i =
       onShortest-sum (entry d) (entry e) b u (omega (arith, from-at b (K .goal-in), K .reached))
       ∙ shortest-same (entry d) (distance g a) (entry e) (λ v. distance g v b) b u (from-at u i)
       (back-at u i ∙ distance-sym g (K .lawful) b u (K .goal-in) i) (from-at b (K .goal-in))
@@ -82,12 +85,12 @@ module _ {g : Graph} {rows : Rows} {shifts : List ℕ} {a b n k : ℕ} {d e work
   order-kept : WayOrder g b a k (entry work′)
   order-kept = record {
     inside = inside;
-    on = λ i l. sym (even-way _ (inside i l)) ∙ R .passing i l;
+    on = λ i l. sym (sums-way _ (inside i l)) ∙ R .passing i l;
     found = λ u i o.
         let w = way-cases g b a u o in
         let near = back-at u i in
-        let p = K .ordered .found u i (omega (arith, w .reached, w .even)) in
-        let r = R .found (p .0) (p .1) (ap (evenAt d e (entry d b)) (p .2) ∙ even-way u i ∙ o) in
+        let p = K .ordered .found u i (omega (arith, w .reached, w .adds-up)) in
+        let r = R .found (p .0) (p .1) (ap (sumsTo d e (entry d b)) (p .2) ∙ sums-way u i ∙ o) in
         (r .0, r .1, r .2 ∙ p .2);
     rising = λ i j le l.
         omega (
@@ -104,10 +107,10 @@ module _ {g : Graph} {rows : Rows} {shifts : List ℕ} {a b n k : ℕ} {d e work
   work-len : length work′ ≡ 4 * g .size
   work-len = omega (arith, R .len, A .work-len, sized)
 
-  masks : Masked g rows shifts work′
+  masks : Masked g dirs shifts work′
   masks = masked-kept (K .masked) (λ i h. R .rest i (omega (arith, A .short, sized)))
 
-  pub passable-back : Passable g rows shifts b a k false e work′
+  pub passable-back : Passable g dirs shifts b a k false e work′
   passable-back = record {
     lawful = K .lawful;
     start-in = K .goal-in;
@@ -117,7 +120,7 @@ module _ {g : Graph} {rows : Rows} {shifts : List ℕ} {a b n k : ℕ} {d e work
     way = order-kept;
   }
 
-  pub passable-forth : Passable g rows shifts a b k true d work′
+  pub passable-forth : Passable g dirs shifts a b k true d work′
   passable-forth = record {
     lawful = K .lawful;
     start-in = K .start-in;
@@ -151,7 +154,7 @@ module _ {g : Graph} {rows : Rows} {shifts : List ℕ} {a b n k : ℕ} {d e work
       omega (arith, total-turned)
 
   pub filled-both : {f back : List ℕ} (r : Bool) → Summed g b a back true → entry back a < 2 ^ 64 → Summed g a b f r
-      → Filled g rows shifts a b r work′ f back
+      → Filled g dirs shifts a b r work′ f back
   unfolding fits
   filled-both true B small F =
       let total = passed-total (B .counted refl) small in
@@ -165,7 +168,7 @@ module _ {g : Graph} {rows : Rows} {shifts : List ℕ} {a b n k : ℕ} {d e work
   filled-both false B small F = absurd (omega (arith, passed-total (B .counted refl) small, F .over refl))
 
   pub filled-none : {f back back′ : List ℕ} → Summed g b a back false → f ≡ zeros (length d) → length back ≡ length d
-      → back′ ≡ zeros (length back) → Filled g rows shifts a b false work′ f back′
+      → back′ ≡ zeros (length back) → Filled g dirs shifts a b false work′ f back′
   unfolding fits
   filled-none B f-zero same back-zero = record {
     answer = sym (le-ltb (pathCount g a b) (2 ^ 64) (omega (arith, B .over refl, total-turned)));

@@ -2,13 +2,13 @@
 --
 --   count-one, count-sum  == what the code answers for the start, and for any other vertex on the way
 --   Tallied g s x i P f   == the vertices of the first i turns have their counts from s, and off the way stands 0
---   counted-none          == so it is at the start
+--   counted-none          == `Tallied` at turn 0
 --   count-right           == the count that the code works out for the next vertex is its count
---   counted-more          == so it is one turn on
+--   counted-more          == `Tallied` one turn on, once the count of the turn's vertex is stored
 --   count-over            == a count above 64 bits: so is the total
 --   counted-all           == after the last turn f holds the counts
 --   Turning ..            == what holds at turn i of a pass, on whatever graph and way its data are of
---   turn-start, turn-more, turn-over, turn-end == so it is at the start and one turn on; what it says where a count
+--   turn-start, turn-more, turn-over, turn-end == `Turning` at the start and one turn on; what it says where a count
 --                            does not fit, and at the end
 --   turn-len              == the slice keeps its length
 use Prim.Native.Nat.{ℕ, suc, _+_, _^_, _≤_, _<_}
@@ -31,7 +31,7 @@ use Rattle.paths.specs.Local.{inflow, countAt, entry}
 use Rattle.paths.proofs.Counts.{pathCount-self}
 use Rattle.paths.proofs.Way.{countFrom-way, countFrom-off, countFrom-fits}
 use Rattle.paths.proofs.CountTest.{way-closed, countAt-start, countAt-other, count-next}
-use Rattle.moves.specs.declared.Rows.{Rows}
+use Rattle.moves.specs.declared.Directions.{Directions}
 use Rattle.neighbours.specs.declared.Sum.{Sum}
 use Rattle.neighbours.specs.declared.Sum.the-variants.{Is, Over}
 use Rattle.neighbours.specs.Reading.{maskGraph, sumOf}
@@ -46,18 +46,18 @@ use Rattle.counts.proofs.Sequence.{costs-len, costs-at, agrees, turn-be
 abbrev all : ℕ → Bool
 all v = true
 
-module _ (rows : Rows) (shifts : List ℕ) (mask s : ℕ) (d f : List ℕ) (u : ℕ) where
+module _ (dirs : Directions) (shifts : List ℕ) (mask s : ℕ) (d f : List ℕ) (u : ℕ) where
   abbrev maskGraph-here : Graph
-  maskGraph-here = maskGraph (length d) rows shifts mask
+  maskGraph-here = maskGraph (length d) dirs shifts mask
 
-  pub count-one : u ≡ s → Is 1 ≡ sumOf (countOf rows shifts mask s d f u)
+  pub count-one : u ≡ s → Is 1 ≡ sumOf (countOf dirs shifts mask s d f u)
   count-one q =
-      let at : countOf rows shifts mask s d f u ≡ 1
-      = ap (countOf rows shifts mask s d f) q ∙ countAt-start maskGraph-here s all (entry d) (entry f) refl in
+      let at : countOf dirs shifts mask s d f u ≡ 1
+      = ap (countOf dirs shifts mask s d f) q ∙ countAt-start maskGraph-here s all (entry d) (entry f) refl in
       rw at (sumOf-fits 1 (omega arith))
 
   pub count-sum : (u ≡ s → ⊥) → (r : Sum) → r ≡ sumOf (inflow maskGraph-here (entry d) (entry f) u)
-      → r ≡ sumOf (countOf rows shifts mask s d f u)
+      → r ≡ sumOf (countOf dirs shifts mask s d f u)
   count-sum ne r q = q ∙ ap sumOf (sym (countAt-other maskGraph-here s all (entry d) (entry f) u refl ne))
 
 -- Where a vertex is on the way, its count is what it would be if all were.
@@ -80,7 +80,8 @@ counted-none g s x P f e = record {
   off = λ u i o. ap (λ l. entry l u) e ∙ getD-zeros (g .size) u;
 }
 
-module _ {g : Graph} {rows : Rows} {shifts : List ℕ} {s x n : ℕ} {rev : Bool} {d work : List ℕ} (K : Passable g rows shifts s x n rev d work) where
+module _ {g : Graph} {dirs : Directions} {shifts : List ℕ} {s x n : ℕ} {rev : Bool} {d work : List ℕ}
+    (K : Passable g dirs shifts s x n rev d work) where
   abbrev P : ℕ → ℕ
   P = turnOf work n rev
 
@@ -113,7 +114,7 @@ module _ {g : Graph} {rows : Rows} {shifts : List ℕ} {s x n : ℕ} {rev : Bool
         ∙ count-next g (K .lawful) s (K .start-in) on closed (entry d) (costs-at g s (K .costs)) (entry f) u in-u on-u ne before)
         (eq-or-ne u s)
 
-    pub count-right : countOf rows shifts (maskAt (length d) work u) s d f u ≡ countFrom g s x u
+    pub count-right : countOf dirs shifts (maskAt (length d) work u) s d f u ≡ countFrom g s x u
     count-right =
         rw (costs-len g s (K .costs)) (countAt-agrees (agrees K u in-u) (entry d) s all (entry f)
         ∙ count-all g s on (entry d) (entry f) u on-u ∙ count-on ∙ sym (countFrom-way g s x u on-u))
@@ -144,32 +145,36 @@ module _ {g : Graph} {rows : Rows} {shifts : List ℕ} {s x n : ℕ} {rev : Bool
 
 -- ---- the loop of a pass
 
-pub record Turning (rows : Rows) (shifts : List ℕ) (s n : ℕ) (rev : Bool) (d work : List ℕ) (i : ℕ) (f : List ℕ) : Type 0 where
+pub record Turning (dirs : Directions) (shifts : List ℕ) (s n : ℕ) (rev : Bool) (d work : List ℕ) (i : ℕ)
+    (f : List ℕ) : Type 0 where
   pub within : i ≤ n
   pub len : length f ≡ length d
-  pub counted : (g : Graph) (x : ℕ) → Passable g rows shifts s x n rev d work → Tallied g s x i (turnOf work n rev) f
+  pub counted : (g : Graph) (x : ℕ) → Passable g dirs shifts s x n rev d work → Tallied g s x i (turnOf work n rev) f
 
-module _ {rows : Rows} {shifts : List ℕ} {s n : ℕ} {rev : Bool} {d work : List ℕ} where
-  pub turn-start : {f : List ℕ} → f ≡ zeros (length d) → Turning rows shifts s n rev d work 0 f
+module _ {dirs : Directions} {shifts : List ℕ} {s n : ℕ} {rev : Bool} {d work : List ℕ} where
+  pub turn-start : {f : List ℕ} → f ≡ zeros (length d) → Turning dirs shifts s n rev d work 0 f
   turn-start {f} q = record {
     within = omega arith;
     len = ap length q ∙ length-replicate (length d) 0;
     counted = λ g x K. counted-none g s x (turnOf work n rev) f (rw (sym (costs-len g s (K .costs))) q);
   }
 
-  pub turn-len : {i : ℕ} {f f₀ : List ℕ} → Turning rows shifts s n rev d work i f → f₀ ≡ zeros (length d) → length f ≡ length f₀
+  pub turn-len : {i : ℕ} {f f₀ : List ℕ} → Turning dirs shifts s n rev d work i f → f₀ ≡ zeros (length d)
+      → length f ≡ length f₀
   turn-len h q = h .len ∙ sym (ap length q ∙ length-replicate (length d) 0)
 
-  module _ {i : ℕ} {f : List ℕ} (h : Turning rows shifts s n rev d work i f) (l : i < n) (u : ℕ)
-      (at : u ≡ turnOf work n rev i) (r : Sum) (sum : r ≡ sumOf (countOf rows shifts (maskAt (length d) work u) s d f u)) where
+  module _ {i : ℕ} {f : List ℕ} (h : Turning dirs shifts s n rev d work i f) (l : i < n) (u : ℕ)
+      (at : u ≡ turnOf work n rev i) (r : Sum)
+      (sum : r ≡ sumOf (countOf dirs shifts (maskAt (length d) work u) s d f u)) where
     -- What was worked out is the count of the vertex.
-    worked : (g : Graph) (x : ℕ) (K : Passable g rows shifts s x n rev d work)
-        → countOf rows shifts (maskAt (length d) work u) s d f u ≡ countFrom g s x (turnOf work n rev i)
+    worked : (g : Graph) (x : ℕ) (K : Passable g dirs shifts s x n rev d work)
+        → countOf dirs shifts (maskAt (length d) work u) s d f u ≡ countFrom g s x (turnOf work n rev i)
     worked g x K =
-        subst (λ v. countOf rows shifts (maskAt (length d) work v) s d f v ≡ countFrom g s x (turnOf work n rev i)) (sym at)
+        subst (λ v. countOf dirs shifts (maskAt (length d) work v) s d f v ≡ countFrom g s x (turnOf work n rev i))
+        (sym at)
         (count-right K l (h .counted g x K))
 
-    pub turn-more : (y : ℕ) → r ≡ Is y → Turning rows shifts s n rev d work (i + 1) (set f u y)
+    pub turn-more : (y : ℕ) → r ≡ Is y → Turning dirs shifts s n rev d work (i + 1) (set f u y)
     turn-more y q = record {
       within = omega arith;
       len = length-set f u y ∙ h .len;
@@ -178,14 +183,14 @@ module _ {rows : Rows} {shifts : List ℕ} {s n : ℕ} {rev : Bool} {d work : Li
           (counted-more K l (h .counted g x K) y (sym (sumOf-is _ y (sym sum ∙ q)) ∙ worked g x K));
     }
 
-    pub turn-over : r ≡ Over → (g : Graph) (x : ℕ) → Passable g rows shifts s x n rev d work → Summed g s x f false
+    pub turn-over : r ≡ Over → (g : Graph) (x : ℕ) → Passable g dirs shifts s x n rev d work → Summed g s x f false
     turn-over q g x K = record {
       counted = λ z. absurd (true≢false (sym z));
       over = λ z. count-over K l (h .counted g x K) (omega (arith, sumOf-passes _ (sym sum ∙ q), worked g x K));
     }
 
-  pub turn-end : {i : ℕ} {f : List ℕ} → Turning rows shifts s n rev d work i f → n ≤ i → (g : Graph) (x : ℕ)
-      → Passable g rows shifts s x n rev d work → Summed g s x f true
+  pub turn-end : {i : ℕ} {f : List ℕ} → Turning dirs shifts s n rev d work i f → n ≤ i → (g : Graph) (x : ℕ)
+      → Passable g dirs shifts s x n rev d work → Summed g s x f true
   turn-end {i} {f} h l g x K =
       let q : i ≡ n = omega (arith, h .within) in
       record {

@@ -22,7 +22,7 @@ use Rattle.paths.specs.Route.{onWay}
 use Rattle.paths.specs.Local.{entry}
 use Rattle.paths.proofs.Reverse.{distance-sym}
 use Rattle.paths.proofs.Way.{way-cases, way-turn}
-use Rattle.moves.specs.declared.Rows.{Rows}
+use Rattle.moves.specs.declared.Directions.{Directions}
 use Rattle.neighbours.specs.Reading.{maskGraph}
 use Rattle.neighbours.proofs.Agree.{Agrees}
 use Rattle.workspace.specs.Regions.{maskAt}
@@ -39,8 +39,9 @@ module _ (g : Graph) (s : ℕ) {d : List ℕ} (costs : d ≡ tabulate (g .size) 
   pub costs-at : (u : ℕ) → u < g .size → entry d u ≡ distance g s u
   costs-at u i = ap (λ l. entry l u) costs ∙ getD-tabulate (g .size) u (distance g s) i
 
-module _ {g : Graph} {rows : Rows} {shifts : List ℕ} {s x n : ℕ} {rev : Bool} {d work : List ℕ} (K : Passable g rows shifts s x n rev d work) where
-  pub agrees : (u : ℕ) → u < g .size → Agrees (maskGraph (g .size) rows shifts (maskAt (g .size) work u)) g u
+module _ {g : Graph} {dirs : Directions} {shifts : List ℕ} {s x n : ℕ} {rev : Bool} {d work : List ℕ}
+    (K : Passable g dirs shifts s x n rev d work) where
+  pub agrees : (u : ℕ) → u < g .size → Agrees (maskGraph (g .size) dirs shifts (maskAt (g .size) work u)) g u
   agrees u i = K .masked .shows u i .agrees
 
 pub turn-before : {g : Graph} {s x n : ℕ} {P : ℕ → ℕ} → WayOrder g s x n P → (i u : ℕ) → i < n → u < g .size
@@ -60,7 +61,7 @@ order-turned {g} {a} {b} {n} {P} L in-a in-b W = record {
       (n - 1 - r .0, omega (arith, r .1), ap P (omega (arith, r .1)) ∙ r .2);
   rising = λ i j le l.
       let falls = W .rising (n - 1 - j) (n - 1 - i) (omega arith) (omega arith) in
-      omega (arith, falls, even i (omega arith), even j l, back i (omega arith), back j l);
+      omega (arith, falls, adds-up i (omega arith), adds-up j l, back i (omega arith), back j l);
 }
   where
     inside : (i : ℕ) → i < n → P (n - 1 - i) < g .size
@@ -69,9 +70,9 @@ order-turned {g} {a} {b} {n} {P} L in-a in-b W = record {
     on : (i : ℕ) → i < n → onWay g a b (P (n - 1 - i)) ≡ true
     on i l = way-turn g L a b (P (n - 1 - i)) in-a in-b (inside i l) ∙ W .on (n - 1 - i) (omega arith)
 
-    even : (i : ℕ) → i < n
+    adds-up : (i : ℕ) → i < n
         → distance g a (P (n - 1 - i)) + distance g (P (n - 1 - i)) b ≡ distance g a b
-    even i l = way-cases g a b (P (n - 1 - i)) (on i l) .even
+    adds-up i l = way-cases g a b (P (n - 1 - i)) (on i l) .adds-up
 
     back : (i : ℕ) → i < n → distance g (P (n - 1 - i)) b ≡ distance g b (P (n - 1 - i))
     back i l = distance-sym g L (P (n - 1 - i)) b (inside i l) in-b

@@ -14,7 +14,7 @@ use Rattle.basics.specs.Bounded.{pick}
 use Rattle.basics.specs.Lists.{tabulate, padded, zeros}
 use Rattle.basics.proofs.Bools.{and-both}
 use Rattle.floor.specs.Floor.{floorOf, mapLength, vertices}
-use Rattle.floor.specs.Refusals.{refusalNumber, side, sidesShape, floorShape, endShape, andThen, leftBy}
+use Rattle.floor.specs.Refusals.{refusalNumber, side, sidesShape, floorShape, endShape, andThen, leftBy, shapeNumber}
 use Rattle.floor.specs.declared.Refusal.{Refusal}
 use Rattle.floor.specs.declared.Refusal.the-variants.{
   Size,
@@ -29,7 +29,7 @@ use Rattle.floor.specs.declared.Refusal.the-variants.{
   SlotEmpty,
 }
 use Rattle.floor.specs.declared.Shape.{Shape}
-use Rattle.floor.specs.declared.Shape.the-variants.{Good, Refused}
+use Rattle.floor.specs.declared.Shape.the-variants.{Good, Refused as BadShape}
 use Rattle.sight.specs.Sight.{sees, segment}
 use Rattle.sight.specs.Obstacle.{isClear, obstacle}
 use Rattle.sight.specs.Question.{orRefused, sightAnswer, sightNumber}
@@ -41,16 +41,14 @@ use Rattle.paths.specs.Graph.{Graph}
 use Rattle.paths.specs.Distance.{distance, pathCount}
 use Rattle.paths.specs.Route.{centralRoute}
 use Rattle.paths.specs.Sheet.{Sheet, joined, fits, routeSheet, noRouteSheet, sameSheet}
-use Rattle.grid.specs.Grid.{jobOf}
-use Rattle.grid.specs.declared.Job.{Job}
-use Rattle.grid.specs.declared.Job.the-variants.{Fit, Unfit}
+use Rattle.grid.specs.Grid.{jobShape}
+use Rattle.grid.specs.declared.JobShape.{JobShape}
+use Rattle.grid.specs.declared.JobShape.the-variants.{Fit, Refused}
 use Rattle.given_costs.specs.Given.{costsTrue}
 use Rattle.planner.specs.Plan.{CostSlices, costSlicesOf, Slices, costsSized, slicesSized, sheetSlices, costsAlone}
 use Rattle.planner.specs.Plan.{routeAnswer, routeLeft, jobCosts, jobCostsLeft, costsAnswer, costsLeft, FillsCosts}
 use Rattle.planner.specs.Plan.{jobAnswer, jobLeft, finishAnswer, finishLeft, Finishes}
-use Rattle.planner.specs.Plan.{costedNumber, planNumber, planCost, planTotal, planPoints}
-use Rattle.planner.specs.declared.Costed.{Costed}
-use Rattle.planner.specs.declared.Costed.the-variants.{Filled, Refused as NotFilled}
+use Rattle.planner.specs.Plan.{planNumber, planCost, planTotal, planPoints}
 use Rattle.planner.specs.declared.Planned.{Planned}
 use Rattle.planner.specs.declared.Planned.the-variants.{Found, Refused as NotPlanned}
 use Rattle.checker.specs.Answer.{verdict, sheetSized, judged, checkAnswer, checkNumber}
@@ -59,10 +57,10 @@ use Rattle.checker.specs.declared.Checked.the-variants.{Route, NoRoute as Accep
 use Rattle.thinning.specs.Thinning.{keptPositions, joinedList}
 use Rattle.thinning.specs.Answer.{listShape, shapeAnswer, thinAnswer, thinOutput, Thins, thinNumber, thinKept}
 use Rattle.thinning.specs.declared.Thinned.{Thinned}
-use Rattle.demands.specs.Demands.{Line, line, firstOf, atZero, floorLines, isVertex, jobLines, rowsFor, graphOf}
+use Rattle.demands.specs.Demands.{Line, line, firstOf, atZero, floorLines, isVertex, jobLines, dirsFor, graphOf}
 use Rattle.demands.specs.Demands.{AnswersSight, costsLines, AnswersCosts, finishShape, planLines, planLeft}
 use Rattle.demands.specs.Demands.{AnswersPlan, checkShape, verdictLines, AnswersCheck, thinLines, AnswersThin}
-use Rattle.demands.proofs.Shapes.{shapeNumber, test-first, and-first, floor-first, floor-cases, known-first}
+use Rattle.demands.proofs.Shapes.{test-first, and-first, floor-first, floor-cases, known-first}
 use Rattle.demands.proofs.Shapes.{known-cases, job-first, job-cases, left-zero}
 
 -- ---- the sight question
@@ -92,7 +90,7 @@ module _ (w h : ℕ) (map : List ℕ) (a b : ℕ) where
   ends-number = cases (isVertex w h a) (isVertex w h b) clear-number
     where
       cases : (x y : Bool) → ((x && y) ≡ true → sightNumber asked ≡ pick (not clear) 100 0)
-          → sightNumber (orRefused (andThen (pick x Good (Refused End)) (pick y Good (Refused End))) asked)
+          → sightNumber (orRefused (andThen (pick x Good (BadShape End)) (pick y Good (BadShape End))) asked)
           ≡ firstOf (line 5 (not (x && y)) ∷ line 100 (not clear) ∷ [])
       cases false y k = refl
       cases true false k = refl
@@ -112,31 +110,31 @@ module _ (w h : ℕ) (map : List ℕ) (nb a : ℕ) (s : CostSlices) where
   abbrev filled : CostSlices
   filled = costSlicesOf (tabulate (vertices w h) (distance (graphOf w h map nb) a)) (zeros (4 * vertices w h))
 
-  costs-number : costedNumber (costsAnswer w h map nb a s) ≡ firstOf (costsLines w h map nb a s)
+  costs-number : shapeNumber (costsAnswer w h map nb a s) ≡ firstOf (costsLines w h map nb a s)
   unfolding costsAnswer
   costs-number =
-      job-first w h map nb a a (λ j. costedNumber (jobCosts w h s j)) (λ r. refl)
+      job-first w h map nb a a (λ j. shapeNumber (jobCosts w h s j)) (λ r. refl)
       (line 6 (not (costsSized (vertices w h) s)) ∷ []) (cases (costsSized (vertices w h) s))
     where
       cases : (x : Bool)
-          → costedNumber (pick x Filled (NotFilled SliceLength)) ≡ firstOf (line 6 (not x) ∷ [])
+          → shapeNumber (pick x Good (BadShape SliceLength)) ≡ firstOf (line 6 (not x) ∷ [])
       cases true = refl
       cases false = refl
 
-  costs-leaves : costsLeft w h map nb a s ≡ atZero (costedNumber (costsAnswer w h map nb a s)) filled s
+  costs-leaves : costsLeft w h map nb a s ≡ atZero (shapeNumber (costsAnswer w h map nb a s)) filled s
   unfolding costsAnswer costsLeft
   costs-leaves =
-      job-cases w h map nb a a (λ j. jobCostsLeft w h map a s j ≡ atZero (costedNumber (jobCosts w h s j)) filled s)
+      job-cases w h map nb a a (λ j. jobCostsLeft w h map a s j ≡ atZero (shapeNumber (jobCosts w h s j)) filled s)
       refl refl refl refl refl refl (cases (costsSized (vertices w h) s))
     where
-      cases : (x : Bool) → pick x filled s ≡ atZero (costedNumber (pick x Filled (NotFilled SliceLength))) filled s
+      cases : (x : Bool) → pick x filled s ≡ atZero (shapeNumber (pick x Good (BadShape SliceLength))) filled s
       cases true = refl
       cases false = refl
 
-  pub costs-answers : (r : Costed) (s′ : CostSlices) → FillsCosts w h map nb a s r s′
+  pub costs-answers : (r : Shape) (s′ : CostSlices) → FillsCosts w h map nb a s r s′
       → AnswersCosts w h map nb a s r s′
   costs-answers r s′ F = record {
-    number = ap costedNumber (F .answer) ∙ costs-number;
+    number = ap shapeNumber (F .answer) ∙ costs-number;
     leaves = rw (F .answer, F .left) costs-leaves;
   }
 
@@ -250,7 +248,7 @@ module _ (w h : ℕ) (map list out : List ℕ) (n : ℕ) where
   unfolding listShape
   list-number =
       floor-first w h map (λ s. shapeNumber (andThen s rest)) (λ r. refl) (line 6 (not fit) ∷ line 10 (not joins) ∷ [])
-      (and-first shapeNumber (λ r. refl) fit SliceLength (pick joins Good (Refused NotJoined))
+      (and-first shapeNumber (λ r. refl) fit SliceLength (pick joins Good (BadShape NotJoined))
       ∙ ap (pick (not fit) 6) (test-first shapeNumber (λ r. refl) joins NotJoined))
     where
       fit : Bool
@@ -260,15 +258,15 @@ module _ (w h : ℕ) (map list out : List ℕ) (n : ℕ) where
       joins = joinedList (floorOf w h map) list n
 
       rest : Shape
-      rest = andThen (pick fit Good (Refused SliceLength)) (pick joins Good (Refused NotJoined))
+      rest = andThen (pick fit Good (BadShape SliceLength)) (pick joins Good (BadShape NotJoined))
 
   answer-number : (s : Shape) (k : ℕ) → thinNumber (shapeAnswer s k) ≡ shapeNumber s
   answer-number Good k = refl
-  answer-number (Refused r) k = refl
+  answer-number (BadShape r) k = refl
 
   answer-kept : (s : Shape) (k : ℕ) → thinKept (shapeAnswer s k) ≡ leftBy s k 0
   answer-kept Good k = refl
-  answer-kept (Refused r) k = refl
+  answer-kept (BadShape r) k = refl
 
   pub thin-answers : (r : Thinned) (out′ : List ℕ) → Thins w h map list out n r out′
       → AnswersThin w h map list out n r out′

@@ -11,7 +11,7 @@ use lib.ListN.{length, take, drop}
 use Rattle.basics.specs.Bounded.{pick}
 use Rattle.basics.specs.Lists.{tabulate, padded, zeros}
 use Rattle.floor.specs.Floor.{floorOf, vertices}
-use Rattle.floor.specs.Refusals.{refusalNumber, side, sidesShape, floorShape, endShape, andThen, leftBy}
+use Rattle.floor.specs.Refusals.{refusalNumber, side, sidesShape, floorShape, endShape, andThen, leftBy, shapeNumber}
 use Rattle.floor.specs.declared.Refusal.{Refusal}
 use Rattle.floor.specs.declared.Refusal.the-variants.{
   Size,
@@ -32,47 +32,45 @@ use Rattle.floor.specs.declared.Refusal.the-variants.{
   OutOfTurn,
 }
 use Rattle.floor.specs.declared.Shape.{Shape}
-use Rattle.floor.specs.declared.Shape.the-variants.{Good, Refused}
+use Rattle.floor.specs.declared.Shape.the-variants.{Good, Refused as BadShape}
 use Rattle.moves.specs.Moves.{neighbourhoodOf}
 use Rattle.paths.specs.Graph.{Graph}
 use Rattle.paths.specs.Distance.{distance}
 use Rattle.paths.specs.Route.{centralRoute}
 use Rattle.paths.specs.Sheet.{Sheet, joined, fits, routeSheet, noRouteSheet}
-use Rattle.grid.specs.Grid.{orUnfit, withRows, pinchShape, jobOf}
-use Rattle.grid.specs.declared.Job.{Job}
-use Rattle.grid.specs.declared.Job.the-variants.{Fit, Unfit}
+use Rattle.grid.specs.Grid.{orRefused, withDirs, pinchShape, jobShape}
+use Rattle.grid.specs.declared.JobShape.{JobShape}
+use Rattle.grid.specs.declared.JobShape.the-variants.{Fit, Refused}
 use Rattle.planner.specs.Plan.{sheetSlices, costsAlone, routeLeft}
 use Rattle.checker.specs.Answer.{sheetSized}
 use Rattle.thinning.specs.Thinning.{seen, joinedList}
 use Rattle.thinning.specs.Answer.{shapeAnswer, thinNumber, thinKept}
 use Rattle.thinning.specs.declared.Thinned.{Thinned}
-use Rattle.closures.specs.Plain.{Plain, within, lowestFree, freeIn, postShape, postingOf, strikeShape, strikingOf}
-use Rattle.closures.specs.Plain.{workShape, workingMap, writingOf, postNumber, postSlot, strikeNumber, workNumber}
+use Rattle.closures.specs.Plain.{Plain, within, lowestFree, freeIn, postShape, postingOf, strikeShape}
+use Rattle.closures.specs.Plain.{workShape, workingMap, postNumber, postSlot}
 use Rattle.closures.specs.Table.{held, withSlot, Posts, Strikes, Writes as WritesMap}
 use Rattle.closures.specs.declared.Rectangle.{Rectangle}
 use Rattle.closures.specs.declared.Closures.{Closures}
 use Rattle.closures.specs.declared.Hold.the-variants.{Free, Held}
 use Rattle.closures.specs.declared.Posting.{Posting}
-use Rattle.closures.specs.declared.Striking.{Striking}
-use Rattle.closures.specs.declared.Writing.{Writing}
 use Rattle.stored_closures.specs.Stored.{storedIn, withNumbers, noNumbers, PostsIn, StrikesIn, WritesFrom}
 use Rattle.demands.specs.Demands.{Line, line, firstOf, atZero, floorLines, isNeighbourhood, isVertex, isPinch}
-use Rattle.demands.specs.Demands.{jobLines, rowsFor, graphOf, planLines, planLeft, postLines, strikeLines}
+use Rattle.demands.specs.Demands.{jobLines, dirsFor, graphOf, planLines, planLeft, postLines, strikeLines}
 use Rattle.demands.specs.Demands.{workLines, AnswersPost, AnswersStrike, AnswersWorkingMap, AnswersStoredPost}
 use Rattle.demands.specs.Demands.{AnswersStoredStrike, AnswersStoredMap}
-use Rattle.demands.proofs.Shapes.{shapeNumber, test-first, and-first, floor-first, floor-cases, known-first}
+use Rattle.demands.proofs.Shapes.{test-first, and-first, floor-first, floor-cases, known-first}
 use Rattle.demands.proofs.Shapes.{known-cases, job-first, job-cases, left-zero}
 
 -- Two tests in turn, and three.
 two-tests : (x y : Bool) (p q : Refusal)
-    → shapeNumber (andThen (pick x Good (Refused p)) (pick y Good (Refused q)))
+    → shapeNumber (andThen (pick x Good (BadShape p)) (pick y Good (BadShape q)))
     ≡ firstOf (line (refusalNumber p) (not x) ∷ line (refusalNumber q) (not y) ∷ [])
 two-tests true true p q = refl
 two-tests true false p q = refl
 two-tests false y p q = refl
 
 three-tests : (x y z : Bool) (p q r : Refusal)
-    → shapeNumber (andThen (pick x Good (Refused p)) (andThen (pick y Good (Refused q)) (pick z Good (Refused r))))
+    → shapeNumber (andThen (pick x Good (BadShape p)) (andThen (pick y Good (BadShape q)) (pick z Good (BadShape r))))
     ≡ firstOf (line (refusalNumber p) (not x) ∷ line (refusalNumber q) (not y) ∷ line (refusalNumber r) (not z) ∷ [])
 three-tests true true true p q r = refl
 three-tests true true false p q r = refl
@@ -95,21 +93,13 @@ work-first : (w h : ℕ) (base work : List ℕ)
 unfolding workShape
 work-first w h base work =
     let t = eqb (length work) (length base) in
-    floor-first w h base (λ s. shapeNumber (andThen s (pick t Good (Refused SliceLength)))) (λ r. refl)
+    floor-first w h base (λ s. shapeNumber (andThen s (pick t Good (BadShape SliceLength)))) (λ r. refl)
     (line 6 (not t) ∷ []) (test-first shapeNumber (λ r. refl) t SliceLength)
 
 posting-number : (s : Shape) (k : ℕ)
     → (postNumber (postingOf s k) ≡ shapeNumber s) × (postSlot (postingOf s k) ≡ leftBy s k 0)
 posting-number Good k = (refl, refl)
-posting-number (Refused r) k = (refl, refl)
-
-striking-number : (s : Shape) → strikeNumber (strikingOf s) ≡ shapeNumber s
-striking-number Good = refl
-striking-number (Refused r) = refl
-
-writing-number : (s : Shape) → workNumber (writingOf s) ≡ shapeNumber s
-writing-number Good = refl
-writing-number (Refused r) = refl
+posting-number (BadShape r) k = (refl, refl)
 
 pub post-answers : (t : Closures) (r : Rectangle) (p : Posting) (t′ : Closures) → Posts t r p t′ → AnswersPost t r p t′
 post-answers t r p t′ P =
@@ -122,23 +112,21 @@ post-answers t r p t′ P =
       leaves = rw (e .0) (left-zero s (withSlot t k (Held r)) t);
     })
 
-pub strike-answers : (t : Closures) (k : ℕ) (p : Striking) (t′ : Closures) → Strikes t k p t′ → AnswersStrike t k p t′
+pub strike-answers : (t : Closures) (k : ℕ) (p : Shape) (t′ : Closures) → Strikes t k p t′ → AnswersStrike t k p t′
 strike-answers t k p t′ P =
     let s = strikeShape (t .width) (t .height) (held t) k in
-    let e = striking-number s in
     rw (P .answers, P .leaves) (record {
-      number = e ∙ strike-first (t .width) (t .height) (held t) k;
-      leaves = rw e (left-zero s (withSlot t k Free) t);
+      number = strike-first (t .width) (t .height) (held t) k;
+      leaves = left-zero s (withSlot t k Free) t;
     })
 
-pub working-answers : (t : Closures) (base work : List ℕ) (p : Writing) (work′ : List ℕ)
+pub working-answers : (t : Closures) (base work : List ℕ) (p : Shape) (work′ : List ℕ)
     → WritesMap t base work p work′ → AnswersWorkingMap t base work p work′
 working-answers t base work p work′ P =
     let s = workShape (t .width) (t .height) base (length work) in
-    let e = writing-number s in
     rw (P .answers, P .leaves) (record {
-      number = e ∙ work-first (t .width) (t .height) base work;
-      leaves = rw e (left-zero s (workingMap (t .width) (t .height) base (held t)) work);
+      number = work-first (t .width) (t .height) base work;
+      leaves = left-zero s (workingMap (t .width) (t .height) base (held t)) work;
     })
 
 module _ (w h : ℕ) (l : List ℕ) where
@@ -154,22 +142,20 @@ module _ (w h : ℕ) (l : List ℕ) where
         leaves = rw (e .0) (left-zero s (withNumbers l k r) l);
       })
 
-  pub stored-strike-answers : (k : ℕ) (p : Striking) (l′ : List ℕ) → StrikesIn w h l k p l′
+  pub stored-strike-answers : (k : ℕ) (p : Shape) (l′ : List ℕ) → StrikesIn w h l k p l′
       → AnswersStoredStrike w h l k p l′
   stored-strike-answers k p l′ P =
       let s = strikeShape w h (storedIn l) k in
-      let e = striking-number s in
       rw (P .answers, P .leaves) (record {
-        number = e ∙ strike-first w h (storedIn l) k;
-        leaves = rw e (left-zero s (withNumbers l k noNumbers) l);
+        number = strike-first w h (storedIn l) k;
+        leaves = left-zero s (withNumbers l k noNumbers) l;
       })
 
-  pub stored-map-answers : (base work : List ℕ) (p : Writing) (work′ : List ℕ) → WritesFrom w h l base work p work′
+  pub stored-map-answers : (base work : List ℕ) (p : Shape) (work′ : List ℕ) → WritesFrom w h l base work p work′
       → AnswersStoredMap w h l base work p work′
   stored-map-answers base work p work′ P =
       let s = workShape w h base (length work) in
-      let e = writing-number s in
       rw (P .answers, P .leaves) (record {
-        number = e ∙ work-first w h base work;
-        leaves = rw e (left-zero s (workingMap w h base (storedIn l)) work);
+        number = work-first w h base work;
+        leaves = left-zero s (workingMap w h base (storedIn l)) work;
       })

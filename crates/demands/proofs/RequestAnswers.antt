@@ -11,7 +11,7 @@ use lib.ListN.{length, take, drop}
 use Rattle.basics.specs.Bounded.{pick}
 use Rattle.basics.specs.Lists.{tabulate, padded, zeros}
 use Rattle.floor.specs.Floor.{floorOf, vertices}
-use Rattle.floor.specs.Refusals.{refusalNumber, side, sidesShape, floorShape, endShape, andThen, leftBy}
+use Rattle.floor.specs.Refusals.{refusalNumber, side, sidesShape, floorShape, endShape, andThen, leftBy, shapeNumber}
 use Rattle.floor.specs.declared.Refusal.{Refusal}
 use Rattle.floor.specs.declared.Refusal.the-variants.{
   Size,
@@ -32,22 +32,22 @@ use Rattle.floor.specs.declared.Refusal.the-variants.{
   OutOfTurn,
 }
 use Rattle.floor.specs.declared.Shape.{Shape}
-use Rattle.floor.specs.declared.Shape.the-variants.{Good, Refused}
+use Rattle.floor.specs.declared.Shape.the-variants.{Good, Refused as BadShape}
 use Rattle.moves.specs.Moves.{neighbourhoodOf}
 use Rattle.paths.specs.Graph.{Graph}
 use Rattle.paths.specs.Distance.{distance}
 use Rattle.paths.specs.Route.{centralRoute}
 use Rattle.paths.specs.Sheet.{Sheet, joined, fits, routeSheet, noRouteSheet}
-use Rattle.grid.specs.Grid.{orUnfit, withRows, pinchShape, jobOf}
-use Rattle.grid.specs.declared.Job.{Job}
-use Rattle.grid.specs.declared.Job.the-variants.{Fit, Unfit}
+use Rattle.grid.specs.Grid.{orRefused, withDirs, pinchShape, jobShape}
+use Rattle.grid.specs.declared.JobShape.{JobShape}
+use Rattle.grid.specs.declared.JobShape.the-variants.{Fit, Refused}
 use Rattle.planner.specs.Plan.{sheetSlices, costsAlone, routeLeft}
 use Rattle.checker.specs.Answer.{sheetSized}
 use Rattle.thinning.specs.Thinning.{seen, joinedList}
 use Rattle.thinning.specs.Answer.{shapeAnswer, thinNumber, thinKept}
 use Rattle.thinning.specs.declared.Thinned.{Thinned}
 use Rattle.logs.specs.Log.{Log, logOf}
-use Rattle.replay.specs.Replay.{ReplaySlices, replaySlicesOf, logShape, replayJob, logDrive, logAnswer, logCosts}
+use Rattle.replay.specs.Replay.{ReplaySlices, replaySlicesOf, logShape, replayShape, logDrive, logAnswer, logCosts}
 use Rattle.replay.specs.Replay.{pinchAt, replayNumber, replayAnswer, replayLeft, Replays}
 use Rattle.replay.specs.Replay.{jobAnswer as replayed, jobLeft as replayedLeft}
 use Rattle.replay.specs.declared.Drive.{Drive}
@@ -55,31 +55,29 @@ use Rattle.replay.specs.declared.Replayed.{Replayed}
 use Rattle.replay.specs.declared.Replayed.the-variants.{Whole, Broken, Refused as NotReplayed}
 use Rattle.changes.specs.Changes.{GivenFloor, shapeOf, floorIn, floorsShape, differing, tallyOf, cellsShape, listedBy}
 use Rattle.changes.specs.Changes.{cellsAnswer, cellsLeft, ReportsCells, cellsNumber, ReportSlices, slicesShape}
-use Rattle.changes.specs.Changes.{startShape, reportJob, costsOn, costsAnswer, costsLeft, ReportsCosts, costsNumber}
+use Rattle.changes.specs.Changes.{startShape, reportShape, costsOn, costsAnswer, costsLeft, ReportsCosts}
 use Rattle.changes.specs.Changes.{jobAnswer as changed, jobLeft as changedLeft}
 use Rattle.changes.specs.declared.Tally.{Tally}
 use Rattle.changes.specs.declared.CellReport.{CellReport}
-use Rattle.changes.specs.declared.CostReport.{CostReport}
 use Rattle.records.specs.Format.{mapSide}
 use Rattle.writer.specs.Writing.{Call, putMap, putJob, callBytes, mapShape, givenShape, inTurn, turnShape, roomShape}
-use Rattle.writer.specs.Writing.{callShape, writerLeft, bufferLeft, writingOf, Writes, writingNumber}
+use Rattle.writer.specs.Writing.{callShape, writerLeft, bufferLeft, Writes}
 use Rattle.writer.specs.declared.Writer.{Writer}
 use Rattle.writer.specs.declared.AfterWrite.{AfterWrite}
 use Rattle.legs.specs.Choices.{fewestLegs}
-use Rattle.legs.specs.Answer.{legsShape, trueChoice, checkedBy, checkAnswer as legsAnswer, checkNumber as legsNumber}
+use Rattle.legs.specs.Answer.{legsShape, trueChoice, checkAnswer as legsAnswer}
 use Rattle.legs.specs.Answer.{proposed, proposeAnswer, keptLeft, legsLeft, Proposes}
-use Rattle.legs.specs.declared.Checked.{Checked as LegsChecked}
 use Rattle.mending.specs.Mending.{MendSlices, sheetIn, withCosts, sheetDifferences, noDifferences, sheetAnswer}
-use Rattle.mending.specs.Mending.{sheetLeft, sheetLengths, sheetSized as lengthsSized, ifSized, mendJob}
+use Rattle.mending.specs.Mending.{sheetLeft, sheetLengths, sheetSized as lengthsSized, ifSized, mendShape}
 use Rattle.mending.specs.Mending.{jobAnswer as mended, jobLeft as mendedLeft, mendAnswer, mendLeft, Mends}
 use Rattle.mending.specs.Mending.{mendNumber, mendPoints, mendDifferences}
 use Rattle.mending.specs.declared.Mended.{Mended}
 use Rattle.mending.specs.declared.Mended.the-variants.{Route, NoRoute, Refused as NotMended}
 use Rattle.demands.specs.Demands.{Line, line, firstOf, atZero, floorLines, isNeighbourhood, isVertex, isPinch}
-use Rattle.demands.specs.Demands.{jobLines, rowsFor, graphOf, planLines, planLeft, replayLines, AnswersReplay}
+use Rattle.demands.specs.Demands.{jobLines, dirsFor, graphOf, planLines, planLeft, replayLines, AnswersReplay}
 use Rattle.demands.specs.Demands.{floorsLines, AnswersCells, reportLines, AnswersChanges, givenLines, writeLines}
 use Rattle.demands.specs.Demands.{AnswersWrite, legsLines, AnswersLegs, AnswersProposal, mendLines, AnswersMend}
-use Rattle.demands.proofs.Shapes.{shapeNumber, test-first, and-first, two-first, two-cases, floor-first}
+use Rattle.demands.proofs.Shapes.{test-first, and-first, two-first, two-cases, floor-first}
 use Rattle.demands.proofs.Shapes.{floor-cases, known-first, known-cases, job-first, job-cases}
 use Rattle.demands.proofs.Shapes.{refusal-positive, left-zero}
 
@@ -112,15 +110,15 @@ module _ (w h : ℕ) (map : List ℕ) (nb : ℕ) (log : List ℕ) (s : ReplaySli
 
   replay-first : replayNumber (replayAnswer w h map nb log s)
       ≡ firstOf (replayLines w h map nb log s ++ (line 17 (readLog .broken) ∷ []))
-  unfolding replayAnswer replayJob logShape
+  unfolding replayAnswer replayShape logShape
   replay-first =
       let n = neighbourhoodOf nb in
       let past : List Line = line 16 (not short) ∷ line 6 (not sized) ∷ line 17 (readLog .broken) ∷ [] in
-      let logs = andThen (pick short Good (Refused LogLength)) (pick sized Good (Refused SliceLength)) in
-      floor-first w h map (λ t. replayNumber (replayed w h map log (orUnfit t (withRows n logs)))) (λ r. refl)
+      let logs = andThen (pick short Good (BadShape LogLength)) (pick sized Good (BadShape SliceLength)) in
+      floor-first w h map (λ t. replayNumber (replayed w h map log (orRefused t (withDirs n logs)))) (λ r. refl)
       (line 4 (not (isNeighbourhood nb)) ∷ past)
-      (known-first nb (λ n. replayNumber (replayed w h map log (withRows n logs))) refl past
-      (two-first (λ t. replayNumber (replayed w h map log (orUnfit t (Fit (rowsFor n))))) (λ r. refl) short sized
+      (known-first nb (λ n. replayNumber (replayed w h map log (withDirs n logs))) refl past
+      (two-first (λ t. replayNumber (replayed w h map log (orRefused t (Fit (dirsFor n))))) (λ r. refl) short sized
       LogLength SliceLength
       ∙ ap (λ k. pick (not short) 16 (pick (not sized) 6 k)) log-first))
 
@@ -134,15 +132,15 @@ module _ (w h : ℕ) (map : List ℕ) (nb : ℕ) (log : List ℕ) (s : ReplaySli
 
   replay-leaves : replayLeft w h map nb log s ≡ (let k = replayNumber (replayAnswer w h map nb log s) in
       pick (eqb k 0 || eqb k 17) written s)
-  unfolding replayAnswer replayLeft replayJob logShape
+  unfolding replayAnswer replayLeft replayShape logShape
   replay-leaves =
       let n = neighbourhoodOf nb in
-      let logs = andThen (pick short Good (Refused LogLength)) (pick sized Good (Refused SliceLength)) in
-      let P : Job → Type 0 = λ j. replayedLeft w h map log s j ≡ (let k = replayNumber (replayed w h map log j) in
+      let logs = andThen (pick short Good (BadShape LogLength)) (pick sized Good (BadShape SliceLength)) in
+      let P : JobShape → Type 0 = λ j. replayedLeft w h map log s j ≡ (let k = replayNumber (replayed w h map log j) in
       pick (eqb k 0 || eqb k 17) written s) in
-      floor-cases w h map (λ t. P (orUnfit t (withRows n logs))) refl refl refl
-      (known-cases nb (λ n. P (withRows n logs)) refl
-      (two-cases (λ t. P (orUnfit t (Fit (rowsFor n)))) short sized LogLength SliceLength refl refl log-leaves))
+      floor-cases w h map (λ t. P (orRefused t (withDirs n logs))) refl refl refl
+      (known-cases nb (λ n. P (withDirs n logs)) refl
+      (two-cases (λ t. P (orRefused t (Fit (dirsFor n)))) short sized LogLength SliceLength refl refl log-leaves))
 
   pub replay-answers : (r : Replayed) (s′ : ReplaySlices) → Replays w h map nb log s r s′
       → AnswersReplay w h map nb log s r s′
@@ -154,35 +152,35 @@ module _ (p q : GivenFloor) where
   abbrev sizes : Bool
   sizes = eqb (p .wide) (q .wide) && eqb (p .high) (q .high)
 
-  floors-first : (F : Shape → ℕ) → ((r : Refusal) → F (Refused r) ≡ refusalNumber r) → (rest : List Line)
+  floors-first : (F : Shape → ℕ) → ((r : Refusal) → F (BadShape r) ≡ refusalNumber r) → (rest : List Line)
       → F Good ≡ firstOf rest → F (floorsShape p q) ≡ firstOf (floorsLines p q ++ rest)
   unfolding floorsShape
   floors-first F given rest e =
-      let last = pick sizes Good (Refused SizesDiffer) in
+      let last = pick sizes Good (BadShape SizesDiffer) in
       let past : List Line = line 15 (not sizes) ∷ rest in
       floor-first (p .wide) (p .high) (p .map) (λ s. F (andThen s (andThen (shapeOf q) last))) given
       (floorLines (q .wide) (q .high) (q .map) ++ past)
       (floor-first (q .wide) (q .high) (q .map) (λ s. F (andThen s last)) given past
       (test-first F given sizes SizesDiffer ∙ ap (pick (not sizes) 15) e))
 
-  floors-cases : (P : Shape → Type 0) → ((r : Refusal) → P (Refused r)) → P Good → P (floorsShape p q)
+  floors-cases : (P : Shape → Type 0) → ((r : Refusal) → P (BadShape r)) → P Good → P (floorsShape p q)
   floors-cases P given good = cases (floorsShape p q)
     where
       cases : (s : Shape) → P s
       cases Good = good
-      cases (Refused r) = given r
+      cases (BadShape r) = given r
 
   module _ (l : List ℕ) where
     listed-number : (s : Shape) (t : Tally) → cellsNumber (listedBy s t) ≡ shapeNumber s
     listed-number Good t = refl
-    listed-number (Refused r) t = refl
+    listed-number (BadShape r) t = refl
 
     cells-first : shapeNumber (cellsShape p q (length l))
         ≡ firstOf (floorsLines p q ++ (line 6 (not (eqb (length l) (p .wide * p .high))) ∷ []))
     unfolding cellsShape
     cells-first =
         let t = eqb (length l) (p .wide * p .high) in
-        floors-first (λ s. shapeNumber (andThen s (pick t Good (Refused SliceLength)))) (λ r. refl)
+        floors-first (λ s. shapeNumber (andThen s (pick t Good (BadShape SliceLength)))) (λ r. refl)
         (line 6 (not t) ∷ []) (test-first shapeNumber (λ r. refl) t SliceLength)
 
     pub cells-answers : (r : CellReport) (l′ : List ℕ) → ReportsCells p q l r l′ → AnswersCells p q l r l′
@@ -203,7 +201,7 @@ module _ (p q : GivenFloor) where
     lent = eqb (length (s .first)) v && eqb (length (s .second)) v && eqb (length (s .change)) v
         && eqb (length (s .work)) (4 * v)
 
-    start-first : (F : Shape → ℕ) → ((r : Refusal) → F (Refused r) ≡ refusalNumber r) → (t : Shape)
+    start-first : (F : Shape → ℕ) → ((r : Refusal) → F (BadShape r) ≡ refusalNumber r) → (t : Shape)
         → F (andThen (startShape p q a) t)
         ≡ pick (not (isVertex (p .wide) (p .high) a)) 5
         (pick (isPinch (p .wide) (p .high) (p .map) a || isPinch (q .wide) (q .high) (q .map) a) 11 (F t))
@@ -213,57 +211,57 @@ module _ (p q : GivenFloor) where
         (isPinch (q .wide) (q .high) (q .map) a)
       where
         cases : (x y z : Bool)
-            → F (andThen (andThen (pick x Good (Refused End)) (andThen (pick y (Refused Pinched) Good)
-            (pick z (Refused Pinched) Good))) t)
+            → F (andThen (andThen (pick x Good (BadShape End)) (andThen (pick y (BadShape Pinched) Good)
+            (pick z (BadShape Pinched) Good))) t)
             ≡ pick (not x) 5 (pick (y || z) 11 (F t))
         cases false y z = given End
         cases true true z = given Pinched
         cases true false true = given Pinched
         cases true false false = refl
 
-    changes-first : costsNumber (costsAnswer p q nb a s) ≡ firstOf (reportLines p q nb a s)
-    unfolding costsAnswer reportJob slicesShape
+    changes-first : shapeNumber (costsAnswer p q nb a s) ≡ firstOf (reportLines p q nb a s)
+    unfolding costsAnswer reportShape slicesShape
     changes-first =
         let n = neighbourhoodOf nb in
-        let last = pick lent Good (Refused SliceLength) in
+        let last = pick lent Good (BadShape SliceLength) in
         let ends = andThen (startShape p q a) last in
         let past : List Line = line 5 (not (isVertex (p .wide) (p .high) a))
         ∷ line 11 (isPinch (p .wide) (p .high) (p .map) a || isPinch (q .wide) (q .high) (q .map) a)
         ∷ line 6 (not lent) ∷ [] in
-        let F : Shape → ℕ = λ t. costsNumber (changed (orUnfit t (Fit (rowsFor n)))) in
-        floors-first (λ t. costsNumber (changed (orUnfit t (withRows n ends)))) (λ r. refl)
+        let F : Shape → ℕ = λ t. shapeNumber (changed (orRefused t (Fit (dirsFor n)))) in
+        floors-first (λ t. shapeNumber (changed (orRefused t (withDirs n ends)))) (λ r. refl)
         (line 4 (not (isNeighbourhood nb)) ∷ past)
-        (known-first nb (λ n. costsNumber (changed (withRows n ends))) refl past
+        (known-first nb (λ n. shapeNumber (changed (withDirs n ends))) refl past
         (start-first F (λ r. refl) last
         ∙ ap (λ k. pick (not (isVertex (p .wide) (p .high) a)) 5
         (pick (isPinch (p .wide) (p .high) (p .map) a || isPinch (q .wide) (q .high) (q .map) a) 11 k))
         (test-first F (λ r. refl) lent SliceLength)))
 
-    abbrev report : Job → ReportSlices
-    report j = atZero (costsNumber (changed j))
+    abbrev report : JobShape → ReportSlices
+    report j = atZero (shapeNumber (changed j))
         (costsOn (graphOf (p .wide) (p .high) (p .map) nb) (graphOf (q .wide) (q .high) (q .map) nb) a) s
 
-    unfit-leaves : (r : Refusal) → changedLeft (floorIn p) (floorIn q) a s (Unfit r) ≡ report (Unfit r)
-    unfit-leaves r = rw (refusal-positive r)
+    refused-leaves : (r : Refusal) → changedLeft (floorIn p) (floorIn q) a s (Refused r) ≡ report (Refused r)
+    refused-leaves r = rw (refusal-positive r)
 
-    changes-leaves : costsLeft p q nb a s ≡ report (reportJob p q nb a (length (s .first)) (length (s .second))
+    changes-leaves : costsLeft p q nb a s ≡ report (reportShape p q nb a (length (s .first)) (length (s .second))
         (length (s .change)) (length (s .work)))
-    unfolding costsLeft reportJob
+    unfolding costsLeft reportShape
     changes-leaves =
         let n = neighbourhoodOf nb in
         let ends = andThen (startShape p q a)
         (slicesShape v (length (s .first)) (length (s .second)) (length (s .change)) (length (s .work))) in
-        let P : Job → Type 0 = λ j. changedLeft (floorIn p) (floorIn q) a s j ≡ report j in
-        floors-cases (λ t. P (orUnfit t (withRows n ends))) unfit-leaves
-        (known-cases nb (λ n. P (withRows n ends)) (unfit-leaves BadNeighbourhood)
+        let P : JobShape → Type 0 = λ j. changedLeft (floorIn p) (floorIn q) a s j ≡ report j in
+        floors-cases (λ t. P (orRefused t (withDirs n ends))) refused-leaves
+        (known-cases nb (λ n. P (withDirs n ends)) (refused-leaves BadNeighbourhood)
         (cases ends))
       where
-        cases : (t : Shape) → changedLeft (floorIn p) (floorIn q) a s (orUnfit t (Fit (rowsFor (neighbourhoodOf nb))))
-            ≡ report (orUnfit t (Fit (rowsFor (neighbourhoodOf nb))))
+        cases : (t : Shape) → changedLeft (floorIn p) (floorIn q) a s (orRefused t (Fit (dirsFor (neighbourhoodOf nb))))
+            ≡ report (orRefused t (Fit (dirsFor (neighbourhoodOf nb))))
         cases Good = refl
-        cases (Refused r) = unfit-leaves r
+        cases (BadShape r) = refused-leaves r
 
-    pub changes-answers : (r : CostReport) (s′ : ReportSlices) → ReportsCosts p q nb a s r s′
+    pub changes-answers : (r : Shape) (s′ : ReportSlices) → ReportsCosts p q nb a s r s′
         → AnswersChanges p q nb a s r s′
     unfolding costsAnswer
     changes-answers r s′ R = rw (R .answer, R .left) (record { number = changes-first; leaves = changes-leaves })
@@ -275,7 +273,7 @@ given-first : (x : Call) (t : Shape) (rest : List Line) → shapeNumber t ≡ fi
 unfolding mapShape
 given-first (putMap w h l) t rest e = cases (mapSide w && mapSide h)
   where
-    cases : (x : Bool) → shapeNumber (andThen (andThen (pick x Good (Refused Size)) (floorShape w h l)) t)
+    cases : (x : Bool) → shapeNumber (andThen (andThen (pick x Good (BadShape Size)) (floorShape w h l)) t)
         ≡ firstOf (line 1 (not x) ∷ (floorLines w h l ++ rest))
     cases true = floor-first w h l (λ s. shapeNumber (andThen s t)) (λ r. refl) rest e
     cases false = refl
@@ -290,17 +288,13 @@ module _ (c : Writer) (x : Call) (buf : List ℕ) where
   call-first =
       let turn = inTurn (c .due) x in
       let room = leb (c .at + length (callBytes x)) (length buf) in
-      given-first x (andThen (pick turn Good (Refused OutOfTurn)) (pick room Good (Refused NoRoom)))
+      given-first x (andThen (pick turn Good (BadShape OutOfTurn)) (pick room Good (BadShape NoRoom)))
       (line 20 (not turn) ∷ line 18 (not room) ∷ []) (two-first shapeNumber (λ r. refl) turn room OutOfTurn NoRoom)
-
-  writing-number : (s : Shape) → writingNumber (writingOf s) ≡ shapeNumber s
-  writing-number Good = refl
-  writing-number (Refused r) = refl
 
   pub write-answers : (r : AfterWrite) (buf′ : List ℕ) → Writes c x buf r buf′ → AnswersWrite c x buf r buf′
   write-answers r buf′ W =
       let n = callBytes x in
-      let e : writingNumber (r .answer) ≡ shapeNumber callIs = ap writingNumber (W .answer) ∙ writing-number callIs in
+      let e : shapeNumber (r .answer) ≡ shapeNumber callIs = ap shapeNumber (W .answer) in
       record {
         number = e ∙ call-first;
         writer = rw e (W .writer ∙ left-zero callIs (record { at = c .at + length n; due = c .due + 1 }) c);
@@ -316,40 +310,35 @@ module _ (w h : ℕ) (map list kept legs : List ℕ) (n : ℕ) where
   abbrev joins : Bool
   joins = joinedList (floorOf w h map) list n
 
-  pub legs-first : (F : Shape → ℕ) → ((r : Refusal) → F (Refused r) ≡ refusalNumber r) → (rest : List Line)
+  pub legs-first : (F : Shape → ℕ) → ((r : Refusal) → F (BadShape r) ≡ refusalNumber r) → (rest : List Line)
       → F Good ≡ firstOf rest
       → F (legsShape w h map list (length kept) (length legs) n) ≡ firstOf (legsLines w h map list kept legs n ++ rest)
   unfolding legsShape
   legs-first F given rest e =
-      let lists = andThen (pick three Good (Refused SliceLength)) (pick joins Good (Refused NotJoined)) in
+      let lists = andThen (pick three Good (BadShape SliceLength)) (pick joins Good (BadShape NotJoined)) in
       floor-first w h map (λ s. F (andThen s lists)) given (line 6 (not three) ∷ line 10 (not joins) ∷ rest)
       (two-first F given three joins SliceLength NotJoined
       ∙ ap (λ k. pick (not three) 6 (pick (not joins) 10 k)) e)
 
-  checked-number : (s : Shape) → legsNumber (checkedBy s) ≡ shapeNumber s
-  checked-number Good = refl
-  checked-number (Refused r) = refl
-
-  pub legs-answers : (c : ℕ) (r : LegsChecked) → r ≡ legsAnswer w h map list n kept c legs
+  pub legs-answers : (c : ℕ) (r : Shape) → r ≡ legsAnswer w h map list n kept c legs
       → AnswersLegs w h map list n kept c legs r
   unfolding legsAnswer
   legs-answers c r e =
       let t = trueChoice (seen (floorOf w h map) list) n kept c legs in
-      let last = pick t Good (Refused FalseChoice) in
+      let last = pick t Good (BadShape FalseChoice) in
       record {
-        number = ap legsNumber e
-            ∙ checked-number (andThen (legsShape w h map list (length kept) (length legs) n) last)
+        number = ap shapeNumber e
             ∙ legs-first (λ s. shapeNumber (andThen s last)) (λ q. refl) (line 19 (not t) ∷ [])
             (test-first shapeNumber (λ q. refl) t FalseChoice);
       }
 
   shape-number : (s : Shape) (k : ℕ) → thinNumber (shapeAnswer s k) ≡ shapeNumber s
   shape-number Good k = refl
-  shape-number (Refused r) k = refl
+  shape-number (BadShape r) k = refl
 
   shape-kept : (s : Shape) (k : ℕ) → thinKept (shapeAnswer s k) ≡ leftBy s k 0
   shape-kept Good k = refl
-  shape-kept (Refused r) k = refl
+  shape-kept (BadShape r) k = refl
 
   pub proposal-answers : (r : Thinned) (kept′ legs′ : List ℕ) → Proposes w h map list kept legs n r kept′ legs′
       → AnswersProposal w h map list kept legs n r kept′ legs′
@@ -390,13 +379,13 @@ module _ (w h : ℕ) (map : List ℕ) (nb a b : ℕ) (old : Sheet) (s : MendSlic
       pick x (withCosts costs (pick z (pick u (sheetSlices (g .size) (routeSheet g a b)) (costsAlone g b))
       (sheetSlices (g .size) (noRouteSheet g a)))) s
 
-  fit-outcome : (x : Bool) → mended w h map a b old (ifSized x (Fit (rowsFor (neighbourhoodOf nb))))
+  fit-outcome : (x : Bool) → mended w h map a b old (ifSized x (Fit (dirsFor (neighbourhoodOf nb))))
       ≡ outcome x (joined g a b) (fits g a b)
   unfolding sheetAnswer
   fit-outcome true = refl
   fit-outcome false = refl
 
-  fit-left : (x : Bool) → mendedLeft w h map a b s (ifSized x (Fit (rowsFor (neighbourhoodOf nb))))
+  fit-left : (x : Bool) → mendedLeft w h map a b s (ifSized x (Fit (dirsFor (neighbourhoodOf nb))))
       ≡ leftBehind x (joined g a b) (fits g a b)
   unfolding sheetLeft routeLeft
   fit-left true = refl
@@ -404,7 +393,7 @@ module _ (w h : ℕ) (map : List ℕ) (nb a b : ℕ) (old : Sheet) (s : MendSlic
 
   mend-first : mendNumber (mendAnswer w h map nb a b old s)
       ≡ firstOf (mendLines w h map nb a b old s ++ planLines g a b)
-  unfolding mendAnswer mendJob sheetSized lengthsSized
+  unfolding mendAnswer mendShape sheetSized lengthsSized
   mend-first =
       job-first w h map nb a b (λ j. mendNumber (mended w h map a b old (ifSized sheets j))) (λ r. refl)
       (line 6 (not sheets) ∷ planLines g a b)
@@ -426,7 +415,7 @@ module _ (w h : ℕ) (map : List ℕ) (nb a b : ℕ) (old : Sheet) (s : MendSlic
       → P (NoRoute (sheetDifferences old (noRouteSheet g a)))
       (withCosts costs (sheetSlices (g .size) (noRouteSheet g a)))
       → P (mendAnswer w h map nb a b old s) (mendLeft w h map nb a b old s)
-  unfolding mendAnswer mendLeft mendJob sheetSized lengthsSized
+  unfolding mendAnswer mendLeft mendShape sheetSized lengthsSized
   mend-cases P shape at-0 at-8 at-7 =
       job-cases w h map nb a b
       (λ j. P (mended w h map a b old (ifSized sheets j)) (mendedLeft w h map a b s (ifSized sheets j)))

@@ -21,7 +21,7 @@ use lib.ListN.{length, getD, take}
 use Rattle.basics.specs.Bounded.{pick}
 use Rattle.basics.proofs.Bools.{and-both, and-intro, not-both}
 use Rattle.floor.specs.Floor.{Floor, floorOf, byteFloor, storedCells, withBlocked, mapOf, cellOf, vertices}
-use Rattle.floor.specs.Refusals.{refusalNumber, floorShape, leftBy}
+use Rattle.floor.specs.Refusals.{refusalNumber, floorShape, leftBy, shapeNumber}
 use Rattle.floor.specs.declared.Refusal.{Refusal}
 use Rattle.floor.specs.declared.Shape.{Shape}
 use Rattle.floor.specs.declared.Shape.the-variants.{Good, Refused as BadShape}
@@ -29,22 +29,21 @@ use Rattle.floor.proofs.Shapes.{good-first}
 use Rattle.floor.proofs.Maps.{map-cell, blocked-good}
 use Rattle.floor.proofs.Stored.{packed-floor}
 use Rattle.floor.proofs.Shapes.{good-floor}
-use Rattle.moves.specs.declared.Rows.{Rows}
+use Rattle.moves.specs.declared.Directions.{Directions}
 use Rattle.moves.specs.declared.Neighbourhood.{Neighbourhood}
-use Rattle.moves.specs.declared.Neighbourhood.the-variants.{Known, Unknown}
+use Rattle.moves.specs.declared.Neighbourhood.the-variants.{Known, Refused as NotKnown}
 use Rattle.moves.specs.Moves.{neighbourhoodOf}
 use Rattle.moves.specs.Table.{Listed}
 use Rattle.moves.proofs.Table.{listed-lawful}
 use Rattle.paths.specs.Graph.{Graph, Lawful}
 use Rattle.paths.specs.Distance.{distance}
-use Rattle.grid.specs.Grid.{floorGraph, orUnfit, withRows}
-use Rattle.grid.specs.declared.Job.{Job}
-use Rattle.grid.specs.declared.Job.the-variants.{Fit, Unfit}
+use Rattle.grid.specs.Grid.{floorGraph, orRefused, withDirs}
+use Rattle.grid.specs.declared.JobShape.{JobShape}
+use Rattle.grid.specs.declared.JobShape.the-variants.{Fit, Refused}
 use Rattle.grid.proofs.Lawful.{floor-lawful, size-le, graph-same}
-use Rattle.closures.specs.Plain.{Plain, nothingHeld, closedBy, workShape, workingMap, writingOf, workLeft, workNumber}
+use Rattle.closures.specs.Plain.{Plain, nothingHeld, closedBy, workShape, workingMap, workLeft}
 use Rattle.closures.specs.Table.{emptyTable, Writes}
 use Rattle.closures.specs.Calls.{Call, tableAfter, plainAfter}
-use Rattle.closures.specs.declared.Writing.{Writing}
 use Rattle.closures.proofs.Simulation.{writes-any-calls}
 use Rattle.stored_closures.specs.Stored.{WritesFrom}
 use Rattle.stored_closures.specs.Calls.{noneStored, storedAfter}
@@ -54,8 +53,8 @@ use Rattle.logs.specs.declared.LogStep.{LogStep}
 use Rattle.logs.specs.declared.LogStep.the-variants.{End, Bad}
 use Rattle.logs.proofs.Steps.{Finding, at-end, a-stop, no-stop, finding, log-step}
 use Rattle.replay.specs.Replay.{ReplaySlices, followCost, Driven, drivenOf, ifFollows, drive, driven, throughout}
-use Rattle.replay.specs.Replay.{faultless, firstStop, lastStop, cheapest, logDrive, logAnswer, pinchAt, jobFor}
-use Rattle.replay.specs.Replay.{jobAnswer, replayJob, replayAnswer, Replays, replayNumber, replayRead, replayCost}
+use Rattle.replay.specs.Replay.{faultless, firstStop, lastStop, cheapest, logDrive, logAnswer, pinchAt, shapeFor}
+use Rattle.replay.specs.Replay.{jobAnswer, replayShape, replayAnswer, Replays, replayNumber, replayRead, replayCost}
 use Rattle.replay.specs.Replay.{unfollowedNumber, replayUnfollowed, replayCheapest}
 use Rattle.replay.specs.declared.Followed.{Followed}
 use Rattle.replay.specs.declared.Followed.the-variants.{Throughout, Not}
@@ -67,10 +66,8 @@ use Rattle.writer.proofs.RoundTrips.{read-back, write-back}
 use Rattle.thinning.specs.Thinning.{seen}
 use Rattle.thinning.specs.Answer.{thinNumber}
 use Rattle.thinning.specs.declared.Thinned.{Thinned}
-use Rattle.thinning.specs.declared.Thinned.the-variants.{Kept as KeptPositions, Unthinned as NotThinned}
-use Rattle.legs.specs.Answer.{legsShape, checkAnswer as legsAnswer, checkNumber as legsNumber, proposeAnswer, Proposes}
-use Rattle.legs.specs.declared.Checked.{Checked as LegsChecked}
-use Rattle.legs.specs.declared.Checked.the-variants.{Accepted, Unaccepted as NotAccepted}
+use Rattle.thinning.specs.declared.Thinned.the-variants.{Kept as KeptPositions, Refused as NotThinned}
+use Rattle.legs.specs.Answer.{legsShape, checkAnswer as legsAnswer, proposeAnswer, Proposes}
 use Rattle.legs.proofs.Accepted.{TrueChoice, accepted-exact}
 use Rattle.legs.proofs.Proposal.{proposal-accepted}
 use Rattle.paths.specs.Sheet.{Sheet}
@@ -83,10 +80,10 @@ use Rattle.checker.specs.Answer.{checkNumber}
 use Rattle.mending.specs.Mending.{MendSlices, Mends}
 use Rattle.mending.specs.declared.Mended.{Mended}
 use Rattle.mending.proofs.Taken.{mended-route, mended-none, counts-exact}
-use Rattle.demands.specs.Demands.{firstOf, floorLines, rowsFor, graphOf, ReadsClosures, ReadsPacked, Cheapest}
+use Rattle.demands.specs.Demands.{firstOf, floorLines, dirsFor, graphOf, ReadsClosures, ReadsPacked, Cheapest}
 use Rattle.demands.specs.Demands.{RightlyCheapest, ReadsBack, WritesBack, legsLines, FewestStops, JudgesStops}
 use Rattle.demands.specs.Demands.{ProposesStops, Flows, MendsSheet, closedGraph, Plans, Checks}
-use Rattle.demands.proofs.Shapes.{shapeNumber, floor-first, refusal-positive}
+use Rattle.demands.proofs.Shapes.{floor-first, refusal-positive}
 use Rattle.demands.proofs.RequestAnswers.{legs-first}
 use Rattle.demands.proofs.Routes.{plans}
 use Rattle.demands.proofs.Checks.{checks}
@@ -97,7 +94,7 @@ use Rattle.demands.proofs.Walks.{cheapest-is, cheapest-one}
 floor-lines : (w h : ℕ) (map : List ℕ) → floorShape w h map ≡ Good → firstOf (floorLines w h map) ≡ 0
 floor-lines w h map e = sym (floor-first w h map shapeNumber (λ r. refl) [] refl) ∙ ap shapeNumber e
 
-shape-zero : (s : Shape) → workNumber (writingOf s) ≡ 0 → s ≡ Good
+shape-zero : (s : Shape) → shapeNumber s ≡ 0 → s ≡ Good
 shape-zero Good e = refl
 shape-zero (BadShape r) e = absurd (true≢false (sym (eq-eqb (refusalNumber r) 0 e) ∙ refusal-positive r))
 
@@ -111,7 +108,7 @@ module _ (w h : ℕ) (base work : List ℕ) (m : Plain) (good : workShape w h ba
 
   same-graph : (nb : ℕ) → graphOf w h (mapOf closed) nb ≡ closedGraph w h base m nb
   same-graph nb =
-      graph-same (floorOf w h (mapOf closed)) closed (rowsFor (neighbourhoodOf nb)) refl refl (map-cell closed)
+      graph-same (floorOf w h (mapOf closed)) closed (dirsFor (neighbourhoodOf nb)) refl refl (map-cell closed)
 
   working-read : ReadsClosures w h base (workLeft w h base m work) m
   working-read = rw good (record {
@@ -123,16 +120,16 @@ module _ (w h : ℕ) (base work : List ℕ) (m : Plain) (good : workShape w h ba
     check = λ nb a b s r e z. subst (λ g. Checks g a b s r) (same-graph nb) (checks w h (mapOf closed) nb a b s r e z);
   })
 
-pub closures-read : (w h : ℕ) (cs : List Call) (base work : List ℕ) (p : Writing) (work′ : List ℕ)
-    → Writes (tableAfter (emptyTable w h) cs) base work p work′ → workNumber p ≡ 0
+pub closures-read : (w h : ℕ) (cs : List Call) (base work : List ℕ) (p : Shape) (work′ : List ℕ)
+    → Writes (tableAfter (emptyTable w h) cs) base work p work′ → shapeNumber p ≡ 0
     → ReadsClosures w h base work′ (plainAfter w h nothingHeld cs)
 closures-read w h cs base work p work′ W z =
     let x = writes-any-calls w h cs W in
     let good = shape-zero (workShape w h base (length work)) (rw (x .0) at z) in
     rw (x .1) (working-read w h base work (plainAfter w h nothingHeld cs) good)
 
-pub stored-read : (w h : ℕ) (cs : List Call) (base work : List ℕ) (p : Writing) (work′ : List ℕ)
-    → WritesFrom w h (storedAfter w h noneStored cs) base work p work′ → workNumber p ≡ 0
+pub stored-read : (w h : ℕ) (cs : List Call) (base work : List ℕ) (p : Shape) (work′ : List ℕ)
+    → WritesFrom w h (storedAfter w h noneStored cs) base work p work′ → shapeNumber p ≡ 0
     → ReadsClosures w h base work′ (plainAfter w h nothingHeld cs)
 stored-read w h cs base work p work′ W z =
     let x = stored-any-calls w h cs W in
@@ -144,7 +141,7 @@ stored-read w h cs base work p work′ W z =
 pub packed-read : (w h : ℕ) (cells : List ℕ) → ReadsPacked w h cells
 packed-read w h cells = record {
   floor = packed-floor cells w h;
-  graph = λ nb. ap (λ f. floorGraph f (rowsFor (neighbourhoodOf nb))) (packed-floor cells w h);
+  graph = λ nb. ap (λ f. floorGraph f (dirsFor (neighbourhoodOf nb))) (packed-floor cells w h);
 }
 
 -- ---- request 9: a log that is called cheapest
@@ -256,37 +253,37 @@ module _ (w h : ℕ) (map : List ℕ) (nb : ℕ) (log : List ℕ) (s : ReplaySli
   readLog = logOf log (vertices w h)
 
   -- A fit job has a good floor and the moves of its neighbourhood.
-  fit-parts : (rows : Rows) → jobFor w h map nb log s ≡ Fit rows
-      → (floorShape w h map ≡ Good) × (neighbourhoodOf nb ≡ Known rows)
-  unfolding replayJob
-  fit-parts rows = cases (floorShape w h map) (neighbourhoodOf nb) _
+  fit-parts : (dirs : Directions) → shapeFor w h map nb log s ≡ Fit dirs
+      → (floorShape w h map ≡ Good) × (neighbourhoodOf nb ≡ Known dirs)
+  unfolding replayShape
+  fit-parts dirs = cases (floorShape w h map) (neighbourhoodOf nb) _
     where
-      cases : (t : Shape) (n : Neighbourhood) (u : Shape) → orUnfit t (withRows n u) ≡ Fit rows
-          → (t ≡ Good) × (n ≡ Known rows)
+      cases : (t : Shape) (n : Neighbourhood) (u : Shape) → orRefused t (withDirs n u) ≡ Fit dirs
+          → (t ≡ Good) × (n ≡ Known dirs)
       cases Good (Known r) Good e = (refl, cc)
       cases Good (Known r) (BadShape q) e = let z : _≡_ {A = ℕ} 0 1 = cc in absurd (omega arith)
-      cases Good Unknown u e = let z : _≡_ {A = ℕ} 0 1 = cc in absurd (omega arith)
+      cases Good NotKnown u e = let z : _≡_ {A = ℕ} 0 1 = cc in absurd (omega arith)
       cases (BadShape q) n u e = let z : _≡_ {A = ℕ} 0 1 = cc in absurd (omega arith)
 
-  job-called : (j : Job) → jobFor w h map nb log s ≡ j
+  job-called : (j : JobShape) → shapeFor w h map nb log s ≡ j
       → RightlyCheapest (graphOf w h map nb) readLog (jobAnswer w h map log j)
-  job-called (Fit rows) e =
-      let x = fit-parts rows e in
+  job-called (Fit dirs) e =
+      let x = fit-parts dirs e in
       let f = floorOf w h map in
       let k = good-floor w h map (x .0) .sized in
-      let same : rowsFor (neighbourhoodOf nb) ≡ rows = ap rowsFor (x .1) in
-      let lawful = floor-lawful f rows (listed-lawful (record { number = nb; known = x .1 })) in
+      let same : dirsFor (neighbourhoodOf nb) ≡ dirs = ap dirsFor (x .1) in
+      let lawful = floor-lawful f dirs (listed-lawful (record { number = nb; known = x .1 })) in
       rw same (record {
-        called = log-called (floorGraph f rows) (pinchAt f) lawful (size-le f (k .wide) (k .high) rows) readLog
+        called = log-called (floorGraph f dirs) (pinchAt f) lawful (size-le f (k .wide) (k .high) dirs) readLog
             (first-inside log (vertices w h));
       })
-  job-called (Unfit r) e =
+  job-called (Refused r) e =
       record { called = (λ q. absurd (true≢false (sym q)), λ t. absurd (omega (arith, t .0))) }
 
   pub cheapest-called : (r : Replayed) (s′ : ReplaySlices) → Replays w h map nb log s r s′
       → RightlyCheapest (graphOf w h map nb) readLog r
   unfolding replayAnswer
-  cheapest-called r s′ R = rw (R .answer) (job-called (jobFor w h map nb log s) refl)
+  cheapest-called r s′ R = rw (R .answer) (job-called (shapeFor w h map nb log s) refl)
 
 -- ---- request 11: writer and reader
 
@@ -302,9 +299,9 @@ module _ (w h : ℕ) (map list : List ℕ) (n : ℕ) (kept : List ℕ) (c : ℕ)
   abbrev sight : ℕ → ℕ → Bool
   sight = seen (floorOf w h map) list
 
-  number-accepted : (r : LegsChecked) → legsNumber r ≡ 0 → r ≡ Accepted
-  number-accepted Accepted e = refl
-  number-accepted (NotAccepted q) e = absurd (true≢false (sym (eq-eqb (refusalNumber q) 0 e) ∙ refusal-positive q))
+  number-accepted : (r : Shape) → shapeNumber r ≡ 0 → r ≡ Good
+  number-accepted Good e = refl
+  number-accepted (BadShape q) e = absurd (true≢false (sym (eq-eqb (refusalNumber q) 0 e) ∙ refusal-positive q))
 
   stops-words : TrueChoice sight n kept c legs ↔ FewestStops sight n kept c legs
   stops-words = (
@@ -337,14 +334,14 @@ module _ (w h : ℕ) (map list : List ℕ) (n : ℕ) (kept : List ℕ) (c : ℕ)
       cases Good q z = q
       cases (BadShape x) q z = absurd (true≢false (sym (eq-eqb (refusalNumber x) 0 z) ∙ refusal-positive x))
 
-  pub stops-judged : (r : LegsChecked) → r ≡ legsAnswer w h map list n kept c legs
+  pub stops-judged : (r : Shape) → r ≡ legsAnswer w h map list n kept c legs
       → firstOf (legsLines w h map list kept legs n) ≡ 0 → JudgesStops w h map list n kept c legs r
   stops-judged r e good =
       let A = accepted-exact w h map list n kept c legs in
       record {
         accepts = (
           λ z. stops-words .0 (A .0 (sym e ∙ number-accepted r z) .1),
-          λ t. ap legsNumber (e ∙ A .1 (shape-good good, stops-words .1 t)),
+          λ t. ap shapeNumber (e ∙ A .1 (shape-good good, stops-words .1 t)),
         );
       }
 
@@ -356,7 +353,7 @@ stops-proposed w h map list kept legs n r kept′ legs′ P = cases r (P .answer
         → ProposesStops w h map list n r kept′ legs′
     cases (KeptPositions k) e z = record {
       accepted = rw (P .kept-left, P .legs-left)
-          (ap legsNumber (proposal-accepted w h map list kept legs n k (sym e)));
+          (ap shapeNumber (proposal-accepted w h map list kept legs n k (sym e)));
     }
     cases (NotThinned q) e z = absurd (true≢false (sym (eq-eqb (refusalNumber q) 0 z) ∙ refusal-positive q))
 
@@ -366,8 +363,8 @@ pub flows : (w h : ℕ) (map : List ℕ) (nb a b : ℕ) (d : List ℕ) (s : Slic
     → Finishes w h map nb a b d s r s′ → planNumber r ≡ 0 → Flows (graphOf w h map nb) a b d s′ (planTotal r)
 flows w h map nb a b d s (Found c t n) s′ F z =
     let x = finishes-flow F in
-    let known = job-fit w h map nb a b (x .rows) (x .fit) .known in
-    rw (ap rowsFor known) (x .flow)
+    let known = job-fit w h map nb a b (x .dirs) (x .fit) .known in
+    rw (ap dirsFor known) (x .flow)
 flows w h map nb a b d s (NotPlanned q) s′ F z =
     absurd (true≢false (sym (eq-eqb (refusalNumber q) 0 z) ∙ refusal-positive q))
 

@@ -5,7 +5,7 @@
 --   GoodJob, good-job == what a fit job has: a lawful graph of at most 16,384 vertices, with both ends in it
 --   costs-true      == the first operation at 0
 --   plans           == the second operation, where its shape is good
---   planner         == the two together
+--   planner         == the first operation at 0 and then the second, on the first one's d
 --   thins           == thinning at 0
 use Prim.Native.Nat.{ℕ, suc, pred, _+_, _-_, _*_, _^_, _≤_, _<_}
 use mathlib.Core.Path.{_≡_, refl, sym, ap, _∙_}
@@ -22,15 +22,15 @@ use Rattle.basics.proofs.Order.{le-or-lt}
 use Rattle.basics.proofs.Bools.{true-or-false, and-both, not-both}
 use Rattle.basics.proofs.Lists.{length-tabulate, getD-tabulate, getD-zeros, getD-padded, getD-padded-past}
 use Rattle.floor.specs.Floor.{Floor, floorOf, vertices}
-use Rattle.floor.specs.Refusals.{refusalNumber}
+use Rattle.floor.specs.Refusals.{refusalNumber, shapeNumber}
 use Rattle.floor.specs.declared.Refusal.{Refusal}
 use Rattle.floor.specs.declared.Refusal.the-variants.{NoRoute, TooMany}
 use Rattle.floor.specs.declared.Shape.{Shape}
 use Rattle.floor.specs.declared.Shape.the-variants.{Good, Refused as BadShape}
-use Rattle.moves.specs.declared.Rows.{Rows}
+use Rattle.moves.specs.declared.Directions.{Directions}
 use Rattle.moves.specs.declared.Neighbourhood.{Neighbourhood}
-use Rattle.moves.specs.declared.Neighbourhood.the-variants.{Known, Unknown}
-use Rattle.moves.specs.Moves.{rowsOf, neighbourhoodOf}
+use Rattle.moves.specs.declared.Neighbourhood.the-variants.{Known, Refused as NotKnown}
+use Rattle.moves.specs.Moves.{directionsOf, neighbourhoodOf}
 use Rattle.moves.specs.Table.{Listed}
 use Rattle.paths.specs.Graph.{Graph, Lawful}
 use Rattle.paths.specs.Distance.{unreachable, distance, pathCount}
@@ -39,17 +39,16 @@ use Rattle.paths.specs.Sheet.{Sheet, sheetOf, joined, fits, routeSheet, noRoute
 use Rattle.paths.specs.Local.{entry}
 use Rattle.paths.proofs.Distance.{distance-le}
 use Rattle.paths.proofs.Sheets.{joined-reached, not-joined-at, fits-total, total-fits}
-use Rattle.grid.specs.Grid.{floorGraph, jobOf}
-use Rattle.grid.specs.declared.Job.{Job}
-use Rattle.grid.specs.declared.Job.the-variants.{Fit, Unfit}
+use Rattle.grid.specs.Grid.{floorGraph, jobShape}
+use Rattle.grid.specs.declared.JobShape.{JobShape}
+use Rattle.grid.specs.declared.JobShape.the-variants.{Fit, Refused as BadJob}
 use Rattle.grid.proofs.Jobs.{FitJob, job-fit}
 use Rattle.grid.proofs.Lawful.{floor-lawful, size-le}
 use Rattle.grid.proofs.Costs.{cost-small, cost-sixteen}
 use Rattle.given_costs.specs.Given.{costsTrue}
 use Rattle.given_costs.proofs.Tested.{true-list, list-true}
 use Rattle.planner.specs.Plan.{CostSlices, costSlicesOf, Slices, costsSized, slicesSized, sheetSlices, costsAlone}
-use Rattle.planner.specs.Plan.{routeAnswer, routeLeft, FillsCosts, Finishes, costedNumber, planNumber, planPoints}
-use Rattle.planner.specs.declared.Costed.{Costed}
+use Rattle.planner.specs.Plan.{routeAnswer, routeLeft, FillsCosts, Finishes, planNumber, planPoints}
 use Rattle.planner.specs.declared.Planned.{Planned}
 use Rattle.planner.specs.declared.Planned.the-variants.{Found, Refused}
 use Rattle.planner.proofs.Together.{finish-true}
@@ -58,7 +57,7 @@ use Rattle.thinning.specs.Answer.{listShape, shapeAnswer, thinAnswer, Thins, th
 use Rattle.thinning.specs.declared.Thinned.{Thinned}
 use Rattle.thinning.proofs.Shapes.{good-list}
 use Rattle.thinning.proofs.Kept.{KeptLaws, kept-laws}
-use Rattle.demands.specs.Demands.{Line, line, firstOf, jobLines, rowsFor, graphOf, costsLines, finishShape}
+use Rattle.demands.specs.Demands.{Line, line, firstOf, jobLines, dirsFor, graphOf, costsLines, finishShape}
 use Rattle.demands.specs.Demands.{Joins, Cheapest, Number, TrueRouteSheet, TrueNoRouteSheet, bound, Bounded}
 use Rattle.demands.specs.Demands.{TrueCosts, CostsAlone, sheetWith, Plans, Planner, KeptAfter, Kept, thinLines}
 use Rattle.demands.proofs.Shapes.{job-first, refusal-positive}
@@ -70,40 +69,40 @@ use Rattle.demands.proofs.Sheets.{route-words, none-words}
 
 module _ (w h : ℕ) (map : List ℕ) (nb a b : ℕ) where
   -- The number of a job, with that of the rest of its table where it is fit.
-  abbrev numberWith : ℕ → Job → ℕ
-  numberWith k (Fit rows) = k
-  numberWith k (Unfit r) = refusalNumber r
+  abbrev numberWith : ℕ → JobShape → ℕ
+  numberWith k (Fit dirs) = k
+  numberWith k (BadJob r) = refusalNumber r
 
-  known-rows : {r : Rows} → neighbourhoodOf nb ≡ Known r → rowsFor (neighbourhoodOf nb) ≡ r
-  known-rows e = ap rowsFor e
+  known-dirs : {r : Directions} → neighbourhoodOf nb ≡ Known r → dirsFor (neighbourhoodOf nb) ≡ r
+  known-dirs e = ap dirsFor e
 
   pub job-good : (rest : List Line) → firstOf (jobLines w h map nb a b ++ rest) ≡ 0
-      → (jobOf w h map nb a b ≡ Fit (rowsFor (neighbourhoodOf nb))) × (firstOf rest ≡ 0)
+      → (jobShape w h map nb a b ≡ Fit (dirsFor (neighbourhoodOf nb))) × (firstOf rest ≡ 0)
   job-good rest e =
-      cases (jobOf w h map nb a b) refl
+      cases (jobShape w h map nb a b) refl
       (job-first w h map nb a b (numberWith (firstOf rest)) (λ r. refl) rest refl ∙ e)
     where
-      cases : (j : Job) → jobOf w h map nb a b ≡ j → numberWith (firstOf rest) j ≡ 0
-          → (jobOf w h map nb a b ≡ Fit (rowsFor (neighbourhoodOf nb))) × (firstOf rest ≡ 0)
-      cases (Fit rows) q z = (
-        q ∙ ap Fit (sym (known-rows (job-fit w h map nb a b rows q .known))),
+      cases : (j : JobShape) → jobShape w h map nb a b ≡ j → numberWith (firstOf rest) j ≡ 0
+          → (jobShape w h map nb a b ≡ Fit (dirsFor (neighbourhoodOf nb))) × (firstOf rest ≡ 0)
+      cases (Fit dirs) q z = (
+        q ∙ ap Fit (sym (known-dirs (job-fit w h map nb a b dirs q .known))),
         z,
       )
-      cases (Unfit r) q z = absurd (true≢false (sym (eq-eqb (refusalNumber r) 0 z) ∙ refusal-positive r))
+      cases (BadJob r) q z = absurd (true≢false (sym (eq-eqb (refusalNumber r) 0 z) ∙ refusal-positive r))
 
   pub record GoodJob : Type 0 where
-    pub fit : jobOf w h map nb a b ≡ Fit (rowsFor (neighbourhoodOf nb))
+    pub fit : jobShape w h map nb a b ≡ Fit (dirsFor (neighbourhoodOf nb))
     pub lawful : Lawful (graphOf w h map nb)
     pub small : vertices w h ≤ 16384
     pub start : a < vertices w h
     pub end : b < vertices w h
     pub wide : w ≤ 127
     pub high : h ≤ 127
-    pub known : neighbourhoodOf nb ≡ Known (rowsFor (neighbourhoodOf nb))
+    pub known : neighbourhoodOf nb ≡ Known (dirsFor (neighbourhoodOf nb))
 
-  pub good-job : jobOf w h map nb a b ≡ Fit (rowsFor (neighbourhoodOf nb)) → GoodJob
+  pub good-job : jobShape w h map nb a b ≡ Fit (dirsFor (neighbourhoodOf nb)) → GoodJob
   good-job fit =
-      let r = rowsFor (neighbourhoodOf nb) in
+      let r = dirsFor (neighbourhoodOf nb) in
       let j = job-fit w h map nb a b r fit in
       let f = floorOf w h map in
       record {
@@ -121,10 +120,12 @@ module _ (w h : ℕ) (map : List ℕ) (nb a b : ℕ) where
 
 module _ (nb : ℕ) where
   hood : Bool → Bool → Bool → Neighbourhood
-  hood x y z = pick x (Known (rowsOf 16 1 16)) (pick y (Known (rowsOf 0 2 8)) (pick z (Known (rowsOf 0 4 4)) Unknown))
+  hood x y z =
+      pick x (Known (directionsOf 16 1 16))
+      (pick y (Known (directionsOf 0 2 8)) (pick z (Known (directionsOf 0 4 4)) NotKnown))
 
   -- Sixteen moves are those of neighbourhood 16.
-  count-sixteen : (r : Rows) → neighbourhoodOf nb ≡ Known r → eqb (r .count) 16 ≡ eqb nb 16
+  count-sixteen : (r : Directions) → neighbourhoodOf nb ≡ Known r → eqb (r .count) 16 ≡ eqb nb 16
   unfolding neighbourhoodOf hood
   count-sixteen r e = cases (eqb nb 16) (eqb nb 8) (eqb nb 4) e
     where
@@ -144,8 +145,8 @@ module _ (w h : ℕ) (map : List ℕ) (nb a b : ℕ) (J : GoodJob w h map nb a b
       ⊎-elim (λ (le : unreachable ≤ distance g u v). inl (omega (arith, distance-le g u v)))
       (λ (lt : distance g u v < unreachable). inr (below lt)) (le-or-lt unreachable (distance g u v))
     where
-      r : Rows
-      r = rowsFor (neighbourhoodOf nb)
+      r : Directions
+      r = dirsFor (neighbourhoodOf nb)
 
       listed : Listed r
       listed = record { number = nb; known = J .known }
@@ -279,8 +280,8 @@ module _ (w h : ℕ) (map : List ℕ) (nb a b : ℕ) (J : GoodJob w h map nb a b
 
 -- ---- the operations
 
-module _ (w h : ℕ) (map : List ℕ) (nb a : ℕ) (s : CostSlices) (r : Costed) (s′ : CostSlices)
-    (F : FillsCosts w h map nb a s r s′) (good : costedNumber r ≡ 0) where
+module _ (w h : ℕ) (map : List ℕ) (nb a : ℕ) (s : CostSlices) (r : Shape) (s′ : CostSlices)
+    (F : FillsCosts w h map nb a s r s′) (good : shapeNumber r ≡ 0) where
   costs-good : firstOf (costsLines w h map nb a s) ≡ 0
   costs-good = sym (costs-answers w h map nb a s r s′ F .number) ∙ good
 
@@ -309,13 +310,13 @@ module _ (w h : ℕ) (map : List ℕ) (nb a b : ℕ) (d : List ℕ) (s : Slices)
       let j = job-good w h map nb a b
       (line 6 (not (slicesSized (vertices w h) d s)) ∷ line 9 (not (costsTrue g a d)) ∷ []) good in
       let t = tests-good (slicesSized (vertices w h) d s) (costsTrue g a d) (j .1) in
-      let both = finish-true w h map nb a b (rowsFor (neighbourhoodOf nb)) (j .0) d s (t .0) (t .1) in
+      let both = finish-true w h map nb a b (dirsFor (neighbourhoodOf nb)) (j .0) d s (t .0) (t .1) in
       rw (F .answer, F .left, both .0, both .1)
       (planned w h map nb a b (good-job w h map nb a b (j .0)) d (true-list g a d (t .1)))
 
 -- The shape of the second operation but for the costs that it is handed.
-pub planner : (w h : ℕ) (map : List ℕ) (nb a b : ℕ) (s : CostSlices) (r : Costed) (s′ : CostSlices) (t : Slices)
-    (q : Planned) (t′ : Slices) → FillsCosts w h map nb a s r s′ → costedNumber r ≡ 0
+pub planner : (w h : ℕ) (map : List ℕ) (nb a b : ℕ) (s : CostSlices) (r : Shape) (s′ : CostSlices) (t : Slices)
+    (q : Planned) (t′ : Slices) → FillsCosts w h map nb a s r s′ → shapeNumber r ≡ 0
     → Finishes w h map nb a b (s′ .d) t q t′
     → firstOf (jobLines w h map nb a b ++ (line 6 (not (slicesSized (vertices w h) (s′ .d) t)) ∷ [])) ≡ 0
     → Planner w h map nb a b (s′ .d) t q t′

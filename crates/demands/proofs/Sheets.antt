@@ -3,7 +3,8 @@
 --   on-exact        == the test of what is on the way says `OnWay`
 --   next-exact      == the choice of the next vertex says `CentralNext`
 --   route-words     == a sheet is the true route sheet exactly when every number of it is, in the words of the demands
---   none-words      == the same of the true no-route sheet
+--   none-words      == a sheet is the true no-route sheet exactly when every number of it is, in the words of the
+--                      demands
 use Prim.Native.Nat.{ℕ, zero, suc, pred, _+_, _-_, _*_, _^_, _≤_, _<_}
 use mathlib.Core.Path.{_≡_, refl, sym, ap, _∙_, subst}
 use mathlib.Core.Logic.{_↔_, ⊎-elim}
@@ -60,13 +61,13 @@ module _ (g : Graph) (D E F B : ℕ → ℕ) (b u : ℕ) where
   leads-candidate m w l = candidate-at g on D u m w (record {
     goes = l .goes;
     on-way = on-exact D E b w .1 (l .on-way);
-    even = l .cost;
+    adds-up = l .cost;
   })
 
   candidate-leads : (m w : ℕ) → m < g .moves → candidate g on D u m ≡ some w → LeadsOn g D E b u m w
   candidate-leads m w i e =
       let c = candidate-cases g on D u m w e in
-      record { listed = i; goes = c .goes; cost = c .even; on-way = on-exact D E b w .0 (c .on-way) }
+      record { listed = i; goes = c .goes; cost = c .adds-up; on-way = on-exact D E b w .0 (c .on-way) }
 
   best-next : (w : ℕ) → Best T (candidate g on D u) (g .moves) w → CentralNext g D E F B b u w
   best-next w r = record {

@@ -2,9 +2,9 @@
 --
 --   same-length     == two lists that have the same members, each once, are equally long
 --   cheapest-is     == the distance is the cheapest cost
---   cheapest-one    == and no other number is
+--   cheapest-one    == no other number than the distance is the cheapest cost
 --   number-is       == the path count is the number of different cheapest walks
---   number-one      == and no other number is
+--   number-one      == no other number than the path count is the number of different cheapest walks
 --   reached-joins   == the distance is below M exactly when an open walk joins the two
 use Prim.Native.Nat.{ℕ, suc, _≤_, _<_}
 use mathlib.Core.Path.{_≡_, refl, sym, _∙_, subst}

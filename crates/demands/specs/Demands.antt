@@ -33,14 +33,15 @@ use lib.ListN.{length, getD, take, drop}
 use Rattle.basics.specs.Bounded.{pick}
 use Rattle.basics.specs.Lists.{tabulate, padded, zeros}
 use Rattle.floor.specs.Floor.{Floor, floorOf, byteFloor, storedCells, withBlocked, mapLength, vertices, column, row}
-use Rattle.floor.specs.Refusals.{side, unusedClear}
+use Rattle.floor.specs.Refusals.{side, unusedClear, shapeNumber}
+use Rattle.floor.specs.declared.Shape.{Shape}
 use Rattle.sight.specs.Sight.{sees, segment, pinch}
 use Rattle.sight.specs.Question.{sightAnswer, sightNumber}
 use Rattle.sight.specs.declared.Sight.{Sight}
-use Rattle.moves.specs.declared.Rows.{Rows}
+use Rattle.moves.specs.declared.Directions.{Directions}
 use Rattle.moves.specs.declared.Neighbourhood.{Neighbourhood}
-use Rattle.moves.specs.declared.Neighbourhood.the-variants.{Known, Unknown}
-use Rattle.moves.specs.Moves.{rowsOf, neighbourhoodOf}
+use Rattle.moves.specs.declared.Neighbourhood.the-variants.{Known, Refused}
+use Rattle.moves.specs.Moves.{directionsOf, neighbourhoodOf}
 use Rattle.paths.specs.Graph.{Graph}
 use Rattle.paths.specs.Distance.{unreachable, distance, pathCount}
 use Rattle.paths.specs.Route.{onShortest, centralRoute}
@@ -51,8 +52,7 @@ use Rattle.paths.specs.Walk.{Walk, HasWalk, Distinct}
 use Rattle.grid.specs.Grid.{floorGraph}
 use Rattle.given_costs.specs.Given.{costsTrue}
 use Rattle.planner.specs.Plan.{CostSlices, costSlicesOf, Slices, costsSized, slicesSized, sheetSlices, costsAlone}
-use Rattle.planner.specs.Plan.{FillsCosts, Finishes, costedNumber, planNumber, planCost, planTotal, planPoints}
-use Rattle.planner.specs.declared.Costed.{Costed}
+use Rattle.planner.specs.Plan.{FillsCosts, Finishes, planNumber, planCost, planTotal, planPoints}
 use Rattle.planner.specs.declared.Planned.{Planned}
 use Rattle.checker.specs.Answer.{sheetSized, checkAnswer, checkNumber}
 use Rattle.checker.specs.declared.Checked.{Checked}
@@ -60,15 +60,13 @@ use Rattle.thinning.specs.Thinning.{seen, joinedList, keptPositions}
 use Rattle.thinning.specs.Answer.{Thins, thinNumber, thinKept}
 use Rattle.thinning.specs.declared.Thinned.{Thinned}
 use Rattle.closures.specs.Plain.{Plain, nothingHeld, within, lowestFree, freeIn, closedBy, workingMap}
-use Rattle.closures.specs.Plain.{postNumber, postSlot, strikeNumber, workNumber}
+use Rattle.closures.specs.Plain.{postNumber, postSlot}
 use Rattle.closures.specs.Table.{held, withSlot, emptyTable, Posts, Strikes, Writes as WritesMap}
 use Rattle.closures.specs.Calls.{Call as ClosureCall, tableAfter, plainAfter}
 use Rattle.closures.specs.declared.Rectangle.{Rectangle}
 use Rattle.closures.specs.declared.Closures.{Closures}
 use Rattle.closures.specs.declared.Hold.the-variants.{Free, Held}
 use Rattle.closures.specs.declared.Posting.{Posting}
-use Rattle.closures.specs.declared.Striking.{Striking}
-use Rattle.closures.specs.declared.Writing.{Writing}
 use Rattle.stored_closures.specs.Stored.{storedIn, withNumbers, noNumbers, PostsIn, StrikesIn, WritesFrom}
 use Rattle.stored_closures.specs.Calls.{noneStored, storedAfter}
 use Rattle.logs.specs.Log.{Log, logOf}
@@ -76,17 +74,15 @@ use Rattle.replay.specs.Replay.{ReplaySlices, replaySlicesOf, logCosts, pinchAt
 use Rattle.replay.specs.Replay.{replayNumber, replayRead, replayCost, replayUnfollowed, replayCheapest}
 use Rattle.replay.specs.declared.Replayed.{Replayed}
 use Rattle.changes.specs.Changes.{GivenFloor, floorIn, differing, ReportsCells, cellsNumber}
-use Rattle.changes.specs.Changes.{ReportSlices, costsOn, ReportsCosts, costsNumber}
+use Rattle.changes.specs.Changes.{ReportSlices, costsOn, ReportsCosts}
 use Rattle.changes.specs.declared.CellReport.{CellReport}
-use Rattle.changes.specs.declared.CostReport.{CostReport}
 use Rattle.records.specs.Format.{mapSide}
-use Rattle.writer.specs.Writing.{Call, putMap, putJob, callBytes, inTurn, Writes as WritesRecord, writingNumber}
+use Rattle.writer.specs.Writing.{Call, putMap, putJob, callBytes, inTurn, Writes as WritesRecord}
 use Rattle.writer.specs.Calls.{fresh, after, ReadBack, readEnd, WrittenBack}
 use Rattle.writer.specs.declared.Writer.{Writer}
 use Rattle.writer.specs.declared.AfterWrite.{AfterWrite}
 use Rattle.legs.specs.Choices.{Choice, Fewest, fewestLegs}
-use Rattle.legs.specs.Answer.{trueChoice, proposed, checkAnswer as legsAnswer, checkNumber as legsNumber, Proposes}
-use Rattle.legs.specs.declared.Checked.{Checked as LegsChecked}
+use Rattle.legs.specs.Answer.{trueChoice, proposed, checkAnswer as legsAnswer, Proposes}
 use Rattle.mending.specs.Mending.{MendSlices, sheetIn, withCosts, sheetDifferences, noDifferences, Mends}
 use Rattle.mending.specs.Mending.{mendNumber, mendPoints, mendDifferences}
 use Rattle.mending.specs.declared.Mended.{Mended}
@@ -228,12 +224,12 @@ jobLines w h map nb a b =
     ∷ [])
 
 -- The moves of a neighbourhood, and the floor with them; no moves where nb is none.
-abbrev pub rowsFor : Neighbourhood → Rows
-rowsFor (Known r) = r
-rowsFor Unknown = rowsOf 0 0 0
+abbrev pub dirsFor : Neighbourhood → Directions
+dirsFor (Known r) = r
+dirsFor Refused = directionsOf 0 0 0
 
 abbrev pub graphOf : ℕ → ℕ → List ℕ → ℕ → Graph
-graphOf w h map nb = floorGraph (floorOf w h map) (rowsFor (neighbourhoodOf nb))
+graphOf w h map nb = floorGraph (floorOf w h map) (dirsFor (neighbourhoodOf nb))
 
 -- The sight question: 100 is "no". It is lent nothing to write in.
 pub record AnswersSight (w h : ℕ) (map : List ℕ) (a b : ℕ) (r : Sight) : Type 0 where
@@ -247,10 +243,10 @@ pub record AnswersSight (w h : ℕ) (map : List ℕ) (a b : ℕ) (r : Sight) : T
 abbrev pub costsLines : ℕ → ℕ → List ℕ → ℕ → ℕ → CostSlices → List Line
 costsLines w h map nb a s = jobLines w h map nb a a ++ (line 6 (not (costsSized (vertices w h) s)) ∷ [])
 
-pub record AnswersCosts (w h : ℕ) (map : List ℕ) (nb a : ℕ) (s : CostSlices) (r : Costed) (s' : CostSlices)
+pub record AnswersCosts (w h : ℕ) (map : List ℕ) (nb a : ℕ) (s : CostSlices) (r : Shape) (s' : CostSlices)
     : Type 0 where
-  pub number : costedNumber r ≡ firstOf (costsLines w h map nb a s)
-  pub leaves : s' ≡ atZero (costedNumber r)
+  pub number : shapeNumber r ≡ firstOf (costsLines w h map nb a s)
+  pub leaves : s' ≡ atZero (shapeNumber r)
       (costSlicesOf (tabulate (vertices w h) (distance (graphOf w h map nb) a)) (zeros (4 * vertices w h))) s
 
 -- The planner's second operation, lent all other slices of the sheet and a working slice, with d to read. To demand 2
@@ -322,26 +318,26 @@ pub record AnswersPost (t : Closures) (r : Rectangle) (p : Posting) (t' : Closur
   pub slot : postSlot p ≡ atZero (postNumber p) (lowestFree (held t)) 0
   pub leaves : t' ≡ atZero (postNumber p) (withSlot t (lowestFree (held t)) (Held r)) t
 
-pub record AnswersStrike (t : Closures) (k : ℕ) (p : Striking) (t' : Closures) : Type 0 where
-  pub number : strikeNumber p ≡ firstOf (strikeLines (t .width) (t .height) (held t) k)
-  pub leaves : t' ≡ atZero (strikeNumber p) (withSlot t k Free) t
+pub record AnswersStrike (t : Closures) (k : ℕ) (p : Shape) (t' : Closures) : Type 0 where
+  pub number : shapeNumber p ≡ firstOf (strikeLines (t .width) (t .height) (held t) k)
+  pub leaves : t' ≡ atZero (shapeNumber p) (withSlot t k Free) t
 
-pub record AnswersWorkingMap (t : Closures) (base work : List ℕ) (p : Writing) (work' : List ℕ) : Type 0 where
-  pub number : workNumber p ≡ firstOf (workLines (t .width) (t .height) base work)
-  pub leaves : work' ≡ atZero (workNumber p) (workingMap (t .width) (t .height) base (held t)) work
+pub record AnswersWorkingMap (t : Closures) (base work : List ℕ) (p : Shape) (work' : List ℕ) : Type 0 where
+  pub number : shapeNumber p ≡ firstOf (workLines (t .width) (t .height) base work)
+  pub leaves : work' ≡ atZero (shapeNumber p) (workingMap (t .width) (t .height) base (held t)) work
 
 pub record AnswersStoredPost (w h : ℕ) (l : List ℕ) (r : Rectangle) (p : Posting) (l' : List ℕ) : Type 0 where
   pub number : postNumber p ≡ firstOf (postLines w h (storedIn l) r)
   pub slot : postSlot p ≡ atZero (postNumber p) (lowestFree (storedIn l)) 0
   pub leaves : l' ≡ atZero (postNumber p) (withNumbers l (lowestFree (storedIn l)) r) l
 
-pub record AnswersStoredStrike (w h : ℕ) (l : List ℕ) (k : ℕ) (p : Striking) (l' : List ℕ) : Type 0 where
-  pub number : strikeNumber p ≡ firstOf (strikeLines w h (storedIn l) k)
-  pub leaves : l' ≡ atZero (strikeNumber p) (withNumbers l k noNumbers) l
+pub record AnswersStoredStrike (w h : ℕ) (l : List ℕ) (k : ℕ) (p : Shape) (l' : List ℕ) : Type 0 where
+  pub number : shapeNumber p ≡ firstOf (strikeLines w h (storedIn l) k)
+  pub leaves : l' ≡ atZero (shapeNumber p) (withNumbers l k noNumbers) l
 
-pub record AnswersStoredMap (w h : ℕ) (l base work : List ℕ) (p : Writing) (work' : List ℕ) : Type 0 where
-  pub number : workNumber p ≡ firstOf (workLines w h base work)
-  pub leaves : work' ≡ atZero (workNumber p) (workingMap w h base (storedIn l)) work
+pub record AnswersStoredMap (w h : ℕ) (l base work : List ℕ) (p : Shape) (work' : List ℕ) : Type 0 where
+  pub number : shapeNumber p ≡ firstOf (workLines w h base work)
+  pub leaves : work' ≡ atZero (shapeNumber p) (workingMap w h base (storedIn l)) work
 
 -- The replay of a log, lent a cost slice and a working slice. Answer 17 writes them as 0 does.
 abbrev pub replayLines : ℕ → ℕ → List ℕ → ℕ → List ℕ → ReplaySlices → List Line
@@ -382,10 +378,10 @@ reportLines p q nb a s =
     && eqb (length (s .work)) (4 * v)))
     ∷ [])
 
-pub record AnswersChanges (p q : GivenFloor) (nb a : ℕ) (s : ReportSlices) (r : CostReport) (s' : ReportSlices)
+pub record AnswersChanges (p q : GivenFloor) (nb a : ℕ) (s : ReportSlices) (r : Shape) (s' : ReportSlices)
     : Type 0 where
-  pub number : costsNumber r ≡ firstOf (reportLines p q nb a s)
-  pub leaves : s' ≡ atZero (costsNumber r)
+  pub number : shapeNumber r ≡ firstOf (reportLines p q nb a s)
+  pub leaves : s' ≡ atZero (shapeNumber r)
       (costsOn (graphOf (p .wide) (p .high) (p .map) nb) (graphOf (q .wide) (q .high) (q .map) nb) a) s
 
 -- A call of the writer.
@@ -399,10 +395,10 @@ writeLines c x buf =
     ++ (line 20 (not (inTurn (c .due) x)) ∷ line 18 (not (leb (c .at + length (callBytes x)) (length buf))) ∷ [])
 
 pub record AnswersWrite (c : Writer) (x : Call) (buf : List ℕ) (r : AfterWrite) (buf' : List ℕ) : Type 0 where
-  pub number : writingNumber (r .answer) ≡ firstOf (writeLines c x buf)
-  pub writer : r .writer ≡ atZero (writingNumber (r .answer))
+  pub number : shapeNumber (r .answer) ≡ firstOf (writeLines c x buf)
+  pub writer : r .writer ≡ atZero (shapeNumber (r .answer))
       (record { at = c .at + length (callBytes x); due = c .due + 1 }) c
-  pub leaves : buf' ≡ atZero (writingNumber (r .answer))
+  pub leaves : buf' ≡ atZero (shapeNumber (r .answer))
       (take (c .at) buf ++ callBytes x ++ drop (c .at + length (callBytes x)) buf) buf
 
 -- Fewest stops: the checker of a proposal, and the proposer.
@@ -413,9 +409,9 @@ legsLines w h map list kept legs n =
     ∷ line 10 (not (joinedList (floorOf w h map) list n))
     ∷ [])
 
-pub record AnswersLegs (w h : ℕ) (map list : List ℕ) (n : ℕ) (kept : List ℕ) (c : ℕ) (legs : List ℕ) (r : LegsChecked)
+pub record AnswersLegs (w h : ℕ) (map list : List ℕ) (n : ℕ) (kept : List ℕ) (c : ℕ) (legs : List ℕ) (r : Shape)
     : Type 0 where
-  pub number : legsNumber r ≡ firstOf (
+  pub number : shapeNumber r ≡ firstOf (
       legsLines w h map list kept legs n
       ++ (line 19 (not (trueChoice (seen (floorOf w h map) list) n kept c legs)) ∷ []))
 
@@ -449,7 +445,7 @@ pub record AnswersMend (w h : ℕ) (map : List ℕ) (nb a b : ℕ) (old : Sheet)
 -- Demand 1, of every operation: from what its `ensures` says.
 pub record Demand1 : Type 0 where
   pub sight : (w h : ℕ) (map : List ℕ) (a b : ℕ) (r : Sight) → r ≡ sightAnswer w h map a b → AnswersSight w h map a b r
-  pub costs : (w h : ℕ) (map : List ℕ) (nb a : ℕ) (s : CostSlices) (r : Costed) (s' : CostSlices)
+  pub costs : (w h : ℕ) (map : List ℕ) (nb a : ℕ) (s : CostSlices) (r : Shape) (s' : CostSlices)
       → FillsCosts w h map nb a s r s' → AnswersCosts w h map nb a s r s'
   pub plan : (w h : ℕ) (map : List ℕ) (nb a b : ℕ) (d : List ℕ) (s : Slices) (r : Planned) (s' : Slices)
       → Finishes w h map nb a b d s r s' → AnswersPlan w h map nb a b d s r s' (graphOf w h map nb)
@@ -458,24 +454,24 @@ pub record Demand1 : Type 0 where
   pub thin : (w h : ℕ) (map list out : List ℕ) (n : ℕ) (r : Thinned) (out' : List ℕ)
       → Thins w h map list out n r out' → AnswersThin w h map list out n r out'
   pub post : (t : Closures) (r : Rectangle) (p : Posting) (t' : Closures) → Posts t r p t' → AnswersPost t r p t'
-  pub strike : (t : Closures) (k : ℕ) (p : Striking) (t' : Closures) → Strikes t k p t' → AnswersStrike t k p t'
-  pub working-map : (t : Closures) (base work : List ℕ) (p : Writing) (work' : List ℕ)
+  pub strike : (t : Closures) (k : ℕ) (p : Shape) (t' : Closures) → Strikes t k p t' → AnswersStrike t k p t'
+  pub working-map : (t : Closures) (base work : List ℕ) (p : Shape) (work' : List ℕ)
       → WritesMap t base work p work' → AnswersWorkingMap t base work p work'
   pub stored-post : (w h : ℕ) (l : List ℕ) (r : Rectangle) (p : Posting) (l' : List ℕ)
       → PostsIn w h l r p l' → AnswersStoredPost w h l r p l'
-  pub stored-strike : (w h : ℕ) (l : List ℕ) (k : ℕ) (p : Striking) (l' : List ℕ)
+  pub stored-strike : (w h : ℕ) (l : List ℕ) (k : ℕ) (p : Shape) (l' : List ℕ)
       → StrikesIn w h l k p l' → AnswersStoredStrike w h l k p l'
-  pub stored-map : (w h : ℕ) (l base work : List ℕ) (p : Writing) (work' : List ℕ)
+  pub stored-map : (w h : ℕ) (l base work : List ℕ) (p : Shape) (work' : List ℕ)
       → WritesFrom w h l base work p work' → AnswersStoredMap w h l base work p work'
   pub replay : (w h : ℕ) (map : List ℕ) (nb : ℕ) (log : List ℕ) (s : ReplaySlices) (r : Replayed) (s' : ReplaySlices)
       → Replays w h map nb log s r s' → AnswersReplay w h map nb log s r s'
   pub cells : (p q : GivenFloor) (l : List ℕ) (r : CellReport) (l' : List ℕ)
       → ReportsCells p q l r l' → AnswersCells p q l r l'
-  pub changes : (p q : GivenFloor) (nb a : ℕ) (s : ReportSlices) (r : CostReport) (s' : ReportSlices)
+  pub changes : (p q : GivenFloor) (nb a : ℕ) (s : ReportSlices) (r : Shape) (s' : ReportSlices)
       → ReportsCosts p q nb a s r s' → AnswersChanges p q nb a s r s'
   pub write : (c : Writer) (x : Call) (buf : List ℕ) (r : AfterWrite) (buf' : List ℕ)
       → WritesRecord c x buf r buf' → AnswersWrite c x buf r buf'
-  pub legs : (w h : ℕ) (map list kept legs : List ℕ) (n c : ℕ) (r : LegsChecked)
+  pub legs : (w h : ℕ) (map list kept legs : List ℕ) (n c : ℕ) (r : Shape)
       → r ≡ legsAnswer w h map list n kept c legs → AnswersLegs w h map list n kept c legs r
   pub proposal : (w h : ℕ) (map list kept legs : List ℕ) (n : ℕ) (r : Thinned) (kept' legs' : List ℕ)
       → Proposes w h map list kept legs n r kept' legs' → AnswersProposal w h map list kept legs n r kept' legs'
@@ -546,13 +542,13 @@ pub record Kept (f : Floor) (list : List ℕ) (n k : ℕ) (out : List ℕ) : Typ
 
 -- Demand 2, of the planner's operations, of the two together, and of thinning.
 pub record Demand2 : Type 0 where
-  pub costs : (w h : ℕ) (map : List ℕ) (nb a : ℕ) (s : CostSlices) (r : Costed) (s' : CostSlices)
-      → FillsCosts w h map nb a s r s' → costedNumber r ≡ 0 → TrueCosts (graphOf w h map nb) nb a (s' .d)
+  pub costs : (w h : ℕ) (map : List ℕ) (nb a : ℕ) (s : CostSlices) (r : Shape) (s' : CostSlices)
+      → FillsCosts w h map nb a s r s' → shapeNumber r ≡ 0 → TrueCosts (graphOf w h map nb) nb a (s' .d)
   pub plan : (w h : ℕ) (map : List ℕ) (nb a b : ℕ) (d : List ℕ) (s : Slices) (r : Planned) (s' : Slices)
       → Finishes w h map nb a b d s r s' → firstOf (finishShape w h map nb a b d s) ≡ 0
       → Plans (graphOf w h map nb) nb a b d r s'
-  pub planner : (w h : ℕ) (map : List ℕ) (nb a b : ℕ) (s : CostSlices) (r : Costed) (s' : CostSlices) (t : Slices)
-      (q : Planned) (t' : Slices) → FillsCosts w h map nb a s r s' → costedNumber r ≡ 0
+  pub planner : (w h : ℕ) (map : List ℕ) (nb a b : ℕ) (s : CostSlices) (r : Shape) (s' : CostSlices) (t : Slices)
+      (q : Planned) (t' : Slices) → FillsCosts w h map nb a s r s' → shapeNumber r ≡ 0
       → Finishes w h map nb a b (s' .d) t q t'
       → firstOf (jobLines w h map nb a b ++ (line 6 (not (slicesSized (vertices w h) (s' .d) t)) ∷ [])) ≡ 0
       → Planner w h map nb a b (s' .d) t q t'
@@ -578,7 +574,7 @@ pub record Demand3 : Type 0 where
 -- the graph `closedGraph`.
 abbrev pub closedGraph : ℕ → ℕ → List ℕ → Plain → ℕ → Graph
 closedGraph w h base m nb =
-    floorGraph (withBlocked (floorOf w h base) (closedBy m)) (rowsFor (neighbourhoodOf nb))
+    floorGraph (withBlocked (floorOf w h base) (closedBy m)) (dirsFor (neighbourhoodOf nb))
 
 pub record ReadsClosures (w h : ℕ) (base work : List ℕ) (m : Plain) : Type 0 where
   pub shape-good : firstOf (floorLines w h work) ≡ 0
@@ -593,7 +589,7 @@ pub record ReadsClosures (w h : ℕ) (base work : List ℕ) (m : Plain) : Type 0
 pub record ReadsPacked (w h : ℕ) (cells : List ℕ) : Type 0 where
   pub floor : floorOf w h (storedCells cells) ≡ byteFloor w h cells
   pub graph : (nb : ℕ) → graphOf w h (storedCells cells) nb
-      ≡ floorGraph (byteFloor w h cells) (rowsFor (neighbourhoodOf nb))
+      ≡ floorGraph (byteFloor w h cells) (dirsFor (neighbourhoodOf nb))
 
 -- 9. A log is called cheapest exactly when it has a record, none is bad, each follows the one before, and its cost is
 -- the least of an open walk from its first stop to its last.
@@ -622,12 +618,12 @@ pub record FewestStops (s : ℕ → ℕ → Bool) (n : ℕ) (kept : List ℕ) (c
 
 -- A judged choice is accepted exactly when it is such, where the shape of the list is good; and what our own proposer
 -- proposes is accepted.
-pub record JudgesStops (w h : ℕ) (map list : List ℕ) (n : ℕ) (kept : List ℕ) (c : ℕ) (legs : List ℕ) (r : LegsChecked)
+pub record JudgesStops (w h : ℕ) (map list : List ℕ) (n : ℕ) (kept : List ℕ) (c : ℕ) (legs : List ℕ) (r : Shape)
     : Type 0 where
-  pub accepts : (legsNumber r ≡ 0) ↔ FewestStops (seen (floorOf w h map) list) n kept c legs
+  pub accepts : (shapeNumber r ≡ 0) ↔ FewestStops (seen (floorOf w h map) list) n kept c legs
 
 pub record ProposesStops (w h : ℕ) (map list : List ℕ) (n : ℕ) (r : Thinned) (kept' legs' : List ℕ) : Type 0 where
-  pub accepted : legsNumber (legsAnswer w h map list n kept' (thinKept r) legs') ≡ 0
+  pub accepted : shapeNumber (legsAnswer w h map list n kept' (thinKept r) legs') ≡ 0
 
 -- 13. Whenever the planner answers 0, the traversal counts are a flow with the total that it answers. `Flow`: what
 -- leaves a vertex on the way, except b, and what comes to one, except a, is its traversal count; at a and at b that is
@@ -648,18 +644,18 @@ pub record MendsSheet (w h : ℕ) (map : List ℕ) (nb a b : ℕ) (old : Sheet) 
   pub next-whole : (mendNumber r ≡ 0) ⊎ (mendNumber r ≡ 7) → (mendDifferences r .next ≡ 0) ↔ (old .next ≡ s' .next)
 
 pub record Requests : Type 0 where
-  pub closures : (w h : ℕ) (cs : List ClosureCall) (base work : List ℕ) (p : Writing) (work' : List ℕ)
-      → WritesMap (tableAfter (emptyTable w h) cs) base work p work' → workNumber p ≡ 0
+  pub closures : (w h : ℕ) (cs : List ClosureCall) (base work : List ℕ) (p : Shape) (work' : List ℕ)
+      → WritesMap (tableAfter (emptyTable w h) cs) base work p work' → shapeNumber p ≡ 0
       → ReadsClosures w h base work' (plainAfter w h nothingHeld cs)
-  pub stored-closures : (w h : ℕ) (cs : List ClosureCall) (base work : List ℕ) (p : Writing) (work' : List ℕ)
-      → WritesFrom w h (storedAfter w h noneStored cs) base work p work' → workNumber p ≡ 0
+  pub stored-closures : (w h : ℕ) (cs : List ClosureCall) (base work : List ℕ) (p : Shape) (work' : List ℕ)
+      → WritesFrom w h (storedAfter w h noneStored cs) base work p work' → shapeNumber p ≡ 0
       → ReadsClosures w h base work' (plainAfter w h nothingHeld cs)
   pub packed : (w h : ℕ) (cells : List ℕ) → ReadsPacked w h cells
   pub cheapest : (w h : ℕ) (map : List ℕ) (nb : ℕ) (log : List ℕ) (s : ReplaySlices) (r : Replayed) (s' : ReplaySlices)
       → Replays w h map nb log s r s' → RightlyCheapest (graphOf w h map nb) (logOf log (vertices w h)) r
   pub read-back : (buf : List ℕ) (xs : List Call) → ReadsBack buf xs
   pub write-back : (s buf : List ℕ) → WritesBack s buf
-  pub judged : (w h : ℕ) (map list : List ℕ) (n : ℕ) (kept : List ℕ) (c : ℕ) (legs : List ℕ) (r : LegsChecked)
+  pub judged : (w h : ℕ) (map list : List ℕ) (n : ℕ) (kept : List ℕ) (c : ℕ) (legs : List ℕ) (r : Shape)
       → r ≡ legsAnswer w h map list n kept c legs → firstOf (legsLines w h map list kept legs n) ≡ 0
       → JudgesStops w h map list n kept c legs r
   pub proposed : (w h : ℕ) (map list kept legs : List ℕ) (n : ℕ) (r : Thinned) (kept' legs' : List ℕ)

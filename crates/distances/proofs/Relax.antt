@@ -3,18 +3,19 @@
 --   Offered ..       == what an offer of a key to x leaves: x costs at most key
 --   offered          == an offer to the far end of a move leaves the settled with one more, or as they were
 --   offered-known    == an offer to a vertex that has a cost leaves them as they were
---   RelaxedTo ..     == the moves of the first j rows of a class are relaxed: the invariant of the loop over a class
---   RelaxedOn ..     == so they are on any graph that the loop can run on
---   relaxed-none     == so are none before the loop
---   farAt ..         == where a row leads from a vertex by its mask: the vertex itself where that move is shut
---   far-at           == the same for the vertex, its mask and the row as the code reads them
+--   RelaxedTo ..     == the moves of the first j directions of a class are relaxed: the invariant of the loop over a
+--                       class
+--   RelaxedOn ..     == `RelaxedTo` on any graph, directions and source that the loop can run on
+--   relaxed-none     == `RelaxedTo` of no direction, before the loop
+--   farAt ..         == where a direction leads from a vertex by its mask: the vertex itself where that move is shut
+--   far-at           == `farAt` for the vertex, its mask and the direction as the code reads them
 --   vertex-in        == the vertex that is relaxed is one of the graph's
---   class-rows       == a class has an eighth of the rows, four
---   row-low          == the next row is below 32
---   reaching         == the far end of the next row can be worked out
---   offering         == and be offered the key
---   relaxed-more     == after that the row is relaxed too
---   relaxed-all      == after four rows all moves of the class are
+--   class-rows       == a class has an eighth of the directions, four
+--   dir-low          == the next direction is below 32
+--   reaching         == the far end of the next direction can be worked out
+--   offering         == the far end of the next direction can be offered the key
+--   relaxed-more     == once the key is offered to the far end of the next direction, that direction is relaxed too
+--   relaxed-all      == after four directions all moves of the class are
 use Prim.Native.Nat.{ℕ, _+_, _/_, _≤_, _<_}
 use mathlib.Core.Path.{_≡_, refl, sym, ap, _∙_, subst}
 use mathlib.Core.Logic.{⊎-elim}
@@ -28,11 +29,11 @@ use lib.Seq.{set-getD}
 use Rattle.basics.specs.Bounded.{pick}
 use Rattle.basics.proofs.Order.{eq-or-ne}
 use Rattle.basics.proofs.Bounded.{pick-no}
-use Rattle.moves.specs.declared.Rows.{Rows}
+use Rattle.moves.specs.declared.Directions.{Directions}
 use Rattle.offsets.specs.declared.Class.{Class}
-use Rattle.moves.specs.Moves.{rowAt}
-use Rattle.offsets.specs.Offsets.{Movable, shiftedBy, rowEnd}
-use Rattle.offsets.specs.Classes.{classRow}
+use Rattle.moves.specs.Moves.{dirAt}
+use Rattle.offsets.specs.Offsets.{Movable, shiftedBy, dirEnd}
+use Rattle.offsets.specs.Classes.{classDir}
 use Rattle.neighbours.specs.Least.{endOr, endAt}
 use Rattle.paths.specs.Graph.{Graph}
 use Rattle.paths.specs.Distance.{unreachable}
@@ -42,8 +43,17 @@ use Rattle.paths.proofs.Distance.{snoc}
 use Rattle.moves.proofs.Table.{lawful-move}
 use Rattle.neighbours.proofs.Shown.{Shows}
 use Rattle.workspace.specs.Regions.{maskAt}
-use Rattle.distances.specs.Merge.{Given, Ready, KeyWalk, Grown, Relaxing, Relaxed}
-use Rattle.distances.proofs.Store.{last, settled-le, key-low, grown-refl, grown-trans, at-w, grown-more, ready-more}
+use Rattle.distances.specs.Dijkstra.{Given, Ready, KeyWalk, Grown, Relaxing, Relaxed}
+use Rattle.distances.proofs.Store.{
+  last,
+  settled-le,
+  key-low,
+  grown-refl,
+  grown-trans,
+  at-w,
+  grown-more,
+  ready-more,
+}
 use Rattle.distances.proofs.Store.{ready-past, grown-past}
 
 -- ---- an offer
@@ -95,19 +105,21 @@ module _ {g : Graph} {a key n x : ℕ} {d work : List ℕ} (R : Ready g a n key 
 
 -- ---- the moves of a class
 
-pub record RelaxedTo (g : Graph) (r : Rows) (a u : ℕ) (c : Class) (j key n s : ℕ) (d d′ work work′ : List ℕ) : Type 0
+pub record RelaxedTo (g : Graph) (r : Directions) (a u : ℕ) (c : Class) (j key n s : ℕ)
+    (d d′ work work′ : List ℕ) : Type 0
   where
     pub ready : Ready g a s key d′ work′
     pub grown : Grown (g .size) n s key d d′ work work′
-    pub relaxed : (i m w : ℕ) → i < j → rowAt r m ≡ classRow c i → m < g .moves → g .step m u ≡ some w → entry d′ w ≤ key
+    pub relaxed : (i m w : ℕ) → i < j → dirAt r m ≡ classDir c i → m < g .moves → g .step m u ≡ some w
+        → entry d′ w ≤ key
 
--- The same of any graph, rows and source that the loop can run on.
+-- The same of any graph, directions and source that the loop can run on.
 abbrev pub RelaxedOn : (shifts : List ℕ) (c : Class) (p j key n s : ℕ) (d d′ work work′ : List ℕ) → Type 0
 RelaxedOn shifts c p j key n s d d′ work work′ =
-    (g : Graph) (r : Rows) (a : ℕ) → Relaxing g r shifts c a p key n d work
+    (g : Graph) (r : Directions) (a : ℕ) → Relaxing g r shifts c a p key n d work
     → RelaxedTo g r a (entry work p) c j key n s d d′ work work′
 
--- Where row k leads from u by the mask of u, or u itself.
+-- Where direction k leads from u by the mask of u, or u itself.
 abbrev pub farAt : (shifts work : List ℕ) (v u k : ℕ) → ℕ
 farAt shifts work v u k = endAt shifts (maskAt v work u) u k
 
@@ -115,7 +127,7 @@ pub far-at : (shifts work : List ℕ) (v : ℕ) {u u′ n k k′ x : ℕ} → u�
     → x ≡ endAt shifts n u′ k′ → x ≡ farAt shifts work v u k
 far-at shifts work v p m q e = rw (m, p, q) at e
 
-module _ {g : Graph} {r : Rows} {shifts : List ℕ} {c : Class} {a p key n : ℕ} {d work : List ℕ}
+module _ {g : Graph} {r : Directions} {shifts : List ℕ} {c : Class} {a p key n : ℕ} {d work : List ℕ}
     (B : Relaxing g r shifts c a p key n d work) where
   abbrev u : ℕ
   u = entry work p
@@ -143,13 +155,13 @@ module _ {g : Graph} {r : Rows} {shifts : List ℕ} {c : Class} {a p key n : ℕ
     relaxed = λ i m w h. absurd (omega arith);
   }
 
-  -- row j of the class
+  -- direction j of the class
   module _ {j : ℕ} (h : j < 4) where
     abbrev k : ℕ
-    k = classRow c j
+    k = classDir c j
 
-    -- the move of that row
-    move : (m : ℕ) × (m < r .count) × (rowAt r m ≡ k) × (g .cost m ≡ c .cost)
+    -- the move of that direction
+    move : (m : ℕ) × (m < r .count) × (dirAt r m ≡ k) × (g .cost m ≡ c .cost)
     move =
         let m = B .class .move (B .used) j h in (m .0, m .1, m .2, sym (shown .agrees .cost (m .0) (m .1)) ∙ m .3)
 
@@ -159,8 +171,8 @@ module _ {g : Graph} {r : Rows} {shifts : List ℕ} {c : Class} {a p key n : ℕ
     movable : Movable mask u k (shiftedBy shifts k)
     movable = rw is (rw (move .2) at (shown .readable .movable (move .0) (move .1)))
 
-    pub row-low : k < 32
-    row-low = movable .row
+    pub dir-low : k < 32
+    dir-low = movable .dir
 
     pub reaching : (k < length shifts) × Movable mask u k (shiftedBy shifts k)
     reaching =
@@ -168,8 +180,8 @@ module _ {g : Graph} {r : Rows} {shifts : List ℕ} {c : Class} {a p key n : ℕ
         let t = lawful-move r (move .0) (R .lawful) (move .1) .in-table in
         (omega (arith, rw (move .2) at t, R .shifts-len), movable)
 
-    -- a move of that row leads where the mask says
-    leads : (m : ℕ) → m < g .moves → rowAt r m ≡ k → rowEnd shifts mask u k ≡ g .step m u
+    -- a move of that direction leads where the mask says
+    leads : (m : ℕ) → m < g .moves → dirAt r m ≡ k → dirEnd shifts mask u k ≡ g .step m u
     leads m lt e = rw is (rw e at (shown .agrees .step m (omega (arith, shown .agrees .moves))))
 
     module _ {x : ℕ} (end : x ≡ farAt shifts work (length d) u k) where
@@ -217,7 +229,7 @@ module _ {g : Graph} {r : Rows} {shifts : List ℕ} {c : Class} {a p key n : ℕ
               let low = P .relaxed i m w before e lt st in
               omega (arith, O .grown .same-cost w (omega (arith, key-low (P .ready)))))
               (λ same.
-              let q : x ≡ w = end ∙ ap (endOr u) (leads m lt (e ∙ ap (classRow c) same) ∙ st) in
+              let q : x ≡ w = end ∙ ap (endOr u) (leads m lt (e ∙ ap (classDir c) same) ∙ st) in
               omega (arith, ap (entry d″) q, O .low)) (last i j l);
         }
 

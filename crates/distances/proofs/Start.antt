@@ -1,13 +1,14 @@
--- The start of the merge: the source alone is settled, at cost 0.
+-- The start of the algorithm: the source alone is settled, at cost 0.
 --
 --   classes-four    == the classes of an array, read one by one
---   classes-two     == the same where the last two have no move
---   begun-four      == where the merge could start, it can go on with the source settled, by four classes
---   begun-two       == and by two, where the last two have no move
---   costs-begun     == what it leaves then, told from where the merge started
+--   classes-two     == the first two classes and two of no move are `Classes`, where the last two have no move
+--   begun-four      == where the algorithm could start, it can go on with the source settled, by four classes
+--   begun-two       == where the algorithm could start, it can go on with the source settled, by two classes, where the
+--                      last two have no move
+--   costs-begun     == what the algorithm leaves from `Begun` on, said of the working slice before it began
 --   First v c p     == p is where the position of class c starts: at 0, or past v vertices for a class of no move
---   four-first      == so are the positions of four classes, the last two at one
---   merging-start   == the invariant before the first turn
+--   four-first      == the positions of four classes are the first ones (`First`), the last two at one position
+--   running-start   == the invariant before the first turn
 use Prim.Native.Nat.{ℕ, zero, suc, _*_, _≤_, _<_}
 use mathlib.Core.Path.{_≡_, refl, sym, ap, _∙_, subst}
 use mathlib.Core.Logic.{⊎-elim}
@@ -20,10 +21,10 @@ use lib.ListN.{length, getD, set, replicate, length-set, length-replicate, getD-
 use lib.Seq.{getD-set-same, getD-set-other}
 use Rattle.basics.proofs.Order.{eq-or-ne}
 use Rattle.basics.proofs.Bounded.{pick-no}
-use Rattle.moves.specs.declared.Rows.{Rows}
+use Rattle.moves.specs.declared.Directions.{Directions}
 use Rattle.offsets.specs.declared.Class.{Class}
 use Rattle.moves.specs.Moves.{moveAt}
-use Rattle.moves.specs.Table.{lawfulRows}
+use Rattle.moves.specs.Table.{lawfulDirs}
 use Rattle.moves.proofs.Table.{lawful-move}
 use Rattle.offsets.specs.Classes.{classCount, Member, CostClass, Classes, classOf, classAt}
 use Rattle.paths.specs.Graph.{Graph}
@@ -32,8 +33,8 @@ use Rattle.paths.specs.Distance.{unreachable}
 use Rattle.paths.specs.Local.{entry}
 use Rattle.workspace.proofs.Regions.{masked-kept}
 use Rattle.distances.specs.Costs.{SettledCosts}
-use Rattle.distances.specs.Merge.{reached, Settled, Merging, Mergeable}
-use Rattle.distances.specs.Merge.{OnlySource, Begun, twoClasses, fourClasses}
+use Rattle.distances.specs.Dijkstra.{reached, Settled, Running, Runnable}
+use Rattle.distances.specs.Dijkstra.{OnlySource, Begun, twoClasses, fourClasses}
 use Rattle.distances.proofs.Store.{reached-set}
 
 pub record First (v : ℕ) (c : Class) (p : ℕ) : Type 0 where
@@ -105,7 +106,7 @@ start-rest work a j h = getD-set-other work 0 j a 0 (λ e. omega arith)
 
 -- ---- the classes, one by one
 
-pub classes-four : {r : Rows} {l : List Class} → Classes r l
+pub classes-four : {r : Directions} {l : List Class} → Classes r l
     → Classes r (fourClasses (classAt l 0) (classAt l 1) (classAt l 2) (classAt l 3))
 classes-four {r} {l} C = record {
   each = λ k h. subst (CostClass r) (sym (same k h)) (C .each k h);
@@ -123,7 +124,7 @@ classes-four {r} {l} C = record {
     same (suc (suc (suc zero))) h = refl
     same (suc (suc (suc (suc k)))) h = absurd (omega arith)
 
-pub classes-two : {r : Rows} {l : List Class} → lawfulRows r ≡ true → Classes r l → classAt l 2 .cost ≡ 0
+pub classes-two : {r : Directions} {l : List Class} → lawfulDirs r ≡ true → Classes r l → classAt l 2 .cost ≡ 0
     → Classes r (twoClasses (classAt l 0) (classAt l 1))
 classes-two {r} {l} lawful C bare = record {
   each = each;
@@ -157,15 +158,15 @@ classes-two {r} {l} lawful C bare = record {
 
 -- ---- the source settled
 
-module _ {g : Graph} {r : Rows} {shifts : List ℕ} {l : List Class} {a : ℕ} {d work : List ℕ}
-    (M : Mergeable g r shifts l a d work) where
+module _ {g : Graph} {r : Directions} {shifts : List ℕ} {l : List Class} {a : ℕ} {d work : List ℕ}
+    (M : Runnable g r shifts l a d work) where
   module _ {d′ work′ : List ℕ} (O : OnlySource a d d′ work work′) where
     begun : {l′ : List Class} → Classes r l′ → Begun g r shifts l′ a d′ work′
     begun C =
         let same = ap (λ v. set (replicate v unreachable) a 0) (M .d-len) in
         let S = settled-start g a work (M .few) (M .source) (M .work-len) in
         rw (O .costs ∙ same, O .order) (record {
-          merges = record {
+          runs = record {
             few = M .few;
             lawful = M .lawful;
             masked = masked-kept (M .masked) (start-rest work a);
@@ -206,10 +207,10 @@ four-first c0 c1 c2 c3 p0 p1 p2 x y z e (suc (suc (suc zero))) h =
     record { zeroth = λ f. z .zeroth (omega arith); past = λ f. z .past (omega arith) }
 four-first c0 c1 c2 c3 p0 p1 p2 x y z e (suc (suc (suc (suc k)))) h = absurd (omega arith)
 
-pub merging-start : {g : Graph} {r : Rows} {shifts : List ℕ} {l : List Class} {a : ℕ} {pos d work : List ℕ}
+pub running-start : {g : Graph} {r : Directions} {shifts : List ℕ} {l : List Class} {a : ℕ} {pos d work : List ℕ}
     → Begun g r shifts l a d work → ((k : ℕ) → k < classCount → First (length d) (classAt l k) (getD pos k 0))
-    → Merging g r a 1 l pos d work work
-merging-start B firsts = let S = B .settled in record {
+    → Running g r a 1 l pos d work work
+running-start B firsts = let S = B .settled in record {
   settled = S;
   passed = λ k h. record {
     unused = λ z. omega (arith, firsts k h .past z, S .d-len);

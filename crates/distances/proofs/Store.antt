@@ -5,7 +5,7 @@
 --   settled-le, key-low       == at most as many settled as vertices, so a key does not reach `unreachable`
 --   grown-refl, grown-trans   == nothing stored, and stores one after the other
 --   ready-more, grown-more    == the settled with vertex w at cost key
---   ready-past, grown-past    == the same settled, with anything stored past them
+--   ready-past, grown-past    == `Ready` and `Grown` stay, with anything stored past the settled vertices
 use Prim.Native.Nat.{ℕ, zero, suc, _+_, _≤_, _<_}
 use mathlib.Core.Path.{_≡_, refl, sym, ap, _∙_, subst}
 use mathlib.Core.Logic.{_⊎_, inl, inr, ⊎-elim}
@@ -24,7 +24,7 @@ use Rattle.paths.specs.Walk.{HasWalk}
 use Rattle.paths.specs.Distance.{unreachable}
 use Rattle.paths.specs.Local.{entry}
 use Rattle.workspace.specs.Regions.{Ordered}
-use Rattle.distances.specs.Merge.{reached, Settled, Ready, Grown}
+use Rattle.distances.specs.Dijkstra.{reached, Settled, Ready, Grown}
 
 one-or-none : (b : Bool) → pick b 1 0 ≤ 1
 one-or-none true = omega arith

@@ -1,18 +1,19 @@
--- One turn of the merge, and its end.
+-- One turn of the algorithm, and its end.
 --
 --   key-in, key-out       == the key of a place that is settled, and of one that is not
 --   keyed                 == the keys can be worked out
---   key-most              == and are at most `unreachable`
+--   key-most              == a key is at most `unreachable`
 --   passed-same           == a position that stays
 --   passed-next           == the position that moves on by one
 --   Lowest ..             == position k has the least key
 --   Keys ..               == the keys of the positions, as the code works them out
---   least-of              == so has the one whose key is at most all
+--   least-of              == the class whose key is at most every other is the `Lowest`
 --   Turn ..               == what a turn of class k takes and leaves: the invariant again, and a lower measure
 --   turn                  == the turn of the position with the least key is such a turn
---   least-again           == after it that key is still the least, for another class at the same place and cost
+--   least-again           == after a turn its key is still the least, for another class at the same place and cost
 --   filled                == at the end every position has passed every settled vertex, so the costs are the distances
---   MergingOn ..          == `Merging` on any graph, rows and source that the merge can run on: the loops' invariant
+--   RunningOn ..          == `Running` on any graph, directions and source that the algorithm can run on: the loops'
+--                            invariant
 --   TurnOn ..             == `Turn` on each of these
 --   turn-on, filled-on    == a turn and the end on each of these
 use Prim.Native.Nat.{ℕ, zero, suc, _+_, _*_, _≤_, _<_}
@@ -28,7 +29,7 @@ use lib.Seq.{getD-set-same, getD-set-other}
 use Rattle.basics.proofs.Order.{le-or-lt, eq-or-ne}
 use Rattle.basics.proofs.Lists.{tabulate-of}
 use Rattle.basics.proofs.Bounded.{pick-yes, pick-no}
-use Rattle.moves.specs.declared.Rows.{Rows}
+use Rattle.moves.specs.declared.Directions.{Directions}
 use Rattle.offsets.specs.declared.Class.{Class}
 use Rattle.offsets.specs.Classes.{classCount, Member, CostClass, classAt}
 use Rattle.paths.specs.Graph.{Graph}
@@ -37,8 +38,8 @@ use Rattle.paths.specs.Local.{entry}
 use Rattle.paths.proofs.Costs.{walked-true}
 use Rattle.workspace.proofs.Regions.{masked-kept}
 use Rattle.distances.specs.Costs.{SettledCosts}
-use Rattle.distances.specs.Merge.{keyOf, Keyed, Settled, Ready, Grown}
-use Rattle.distances.specs.Merge.{Relaxing, Relaxed, Placed, Merging, Mergeable, Begun, remaining}
+use Rattle.distances.specs.Dijkstra.{keyOf, Keyed, Settled, Ready, Grown}
+use Rattle.distances.specs.Dijkstra.{Relaxing, Relaxed, Placed, Running, Runnable, Begun, remaining}
 use Rattle.distances.proofs.Store.{last, settled-le}
 
 -- ---- keys
@@ -71,7 +72,7 @@ module _ {g : Graph} {a n s key : ℕ} {d d′ work work′ : List ℕ} (S : Set
   stays : (i : ℕ) → i < n → entry d′ (entry work′ i) ≡ entry d (entry work i)
   stays i h = ap (entry d′) (G .same-order i h) ∙ G .same-cost (entry work i) (S .ordered .placed i h)
 
-  module _ {r : Rows} {c : Class} {p : ℕ} (c-low : c .cost ≤ 4095) (P : Placed g r n c p d work) where
+  module _ {r : Directions} {c : Class} {p : ℕ} (c-low : c .cost ≤ 4095) (P : Placed g r n c p d work) where
     relaxed-on : 0 < c .cost → (i m w : ℕ) → i < p → Member r c m → m < g .moves → g .step m (entry work′ i) ≡ some w
         → entry d′ w ≤ entry d′ (entry work′ i) + c .cost
     relaxed-on f i m w h M lt st =
@@ -145,17 +146,17 @@ remaining-falls v (x ∷ l) (suc k) h s = omega (arith, remaining-falls v l k (o
 -- ---- a turn
 
 -- What a turn of class k needs, and what it leaves.
-pub record Turn (g : Graph) (r : Rows) (shifts : List ℕ) (a n k key : ℕ) (l : List Class)
+pub record Turn (g : Graph) (r : Directions) (shifts : List ℕ) (a n k key : ℕ) (l : List Class)
     (pos d₀ d work₀ work : List ℕ) : Type 0 where
   pub relaxing : Relaxing g r shifts (classAt l k) a (getD pos k 0) key n d work
   pub small : getD pos k 0 < 16384
   pub falls : remaining (length d₀) (set pos k (getD pos k 0 + 1)) < remaining (length d₀) pos
   pub next : {s : ℕ} {d′ work′ : List ℕ}
       → Relaxed g r a (entry work (getD pos k 0)) (classAt l k) key n s d d′ work work′
-      → Merging g r a s l (set pos k (getD pos k 0 + 1)) d′ work₀ work′
+      → Running g r a s l (set pos k (getD pos k 0 + 1)) d′ work₀ work′
 
-module _ {g : Graph} {r : Rows} {shifts : List ℕ} {a n k key : ℕ} {l : List Class} {pos d₀ d work₀ work : List ℕ}
-    (M : Mergeable g r shifts l a d₀ work₀) (K : Merging g r a n l pos d work₀ work) (T : Lowest n k key l pos d work)
+module _ {g : Graph} {r : Directions} {shifts : List ℕ} {a n k key : ℕ} {l : List Class} {pos d₀ d work₀ work : List ℕ}
+    (M : Runnable g r shifts l a d₀ work₀) (K : Running g r a n l pos d work₀ work) (T : Lowest n k key l pos d work)
   where
     module _ (low : key < unreachable) where
       abbrev p : ℕ
@@ -202,10 +203,10 @@ module _ {g : Graph} {r : Rows} {shifts : List ℕ} {a n k key : ℕ} {l : List 
         };
       }
 
-      merging-next : {s : ℕ} {d′ work′ : List ℕ} → length pos ≡ classCount
+      running-next : {s : ℕ} {d′ work′ : List ℕ} → length pos ≡ classCount
           → Relaxed g r a (entry work p) c key n s d d′ work work′
-          → Merging g r a s l (set pos k (p + 1)) d′ work₀ work′
-      merging-next {s} {d′} {work′} len P = record {
+          → Running g r a s l (set pos k (p + 1)) d′ work₀ work′
+      running-next {s} {d′} {work′} len P = record {
         settled = P .ready .settled;
         passed = λ j h. ⊎-elim
             (λ e. subst (λ z. Placed g r s (classAt l z) (getD (set pos k (p + 1)) z 0) d′ work′) (sym e) moved)
@@ -228,7 +229,7 @@ module _ {g : Graph} {r : Rows} {shifts : List ℕ} {a n k key : ℕ} {l : List 
         relaxing = relaxing;
         small = omega (arith, before-all, K .settled .few);
         falls = remaining-falls (length d₀) pos k (omega (arith, T .one)) (omega (arith, before-all, M .d-len));
-        next = merging-next len;
+        next = running-next len;
       }
 
       -- ---- the same key again, for another class at the same place and cost
@@ -326,22 +327,22 @@ module _ {g : Graph} {r : Rows} {shifts : List ℕ} {a n k key : ℕ} {l : List 
         rest = K .rest;
       }
 
--- ---- on any graph, rows and source
+-- ---- on any graph, directions and source
 
-abbrev pub MergingOn : (shifts : List ℕ) (n : ℕ) (l : List Class) (pos d₀ d work₀ work : List ℕ) → Type 0
-MergingOn shifts n l pos d₀ d work₀ work =
-    (g : Graph) (r : Rows) (a : ℕ) → Begun g r shifts l a d₀ work₀ → Merging g r a n l pos d work₀ work
+abbrev pub RunningOn : (shifts : List ℕ) (n : ℕ) (l : List Class) (pos d₀ d work₀ work : List ℕ) → Type 0
+RunningOn shifts n l pos d₀ d work₀ work =
+    (g : Graph) (r : Directions) (a : ℕ) → Begun g r shifts l a d₀ work₀ → Running g r a n l pos d work₀ work
 
 abbrev pub TurnOn : (shifts : List ℕ) (n k key : ℕ) (l : List Class) (pos d₀ d work₀ work : List ℕ) → Type 0
 TurnOn shifts n k key l pos d₀ d work₀ work =
-    (g : Graph) (r : Rows) (a : ℕ) → Begun g r shifts l a d₀ work₀
+    (g : Graph) (r : Directions) (a : ℕ) → Begun g r shifts l a d₀ work₀
     → Turn g r shifts a n k key l pos d₀ d work₀ work
 
 module _ {shifts : List ℕ} {n k key : ℕ} {l : List Class} {pos d₀ d work₀ work : List ℕ}
-    (I : MergingOn shifts n l pos d₀ d work₀ work) (T : Lowest n k key l pos d work) where
+    (I : RunningOn shifts n l pos d₀ d work₀ work) (T : Lowest n k key l pos d work) where
   pub turn-on : key < unreachable → length pos ≡ classCount → TurnOn shifts n k key l pos d₀ d work₀ work
-  turn-on low len g r a B = turn (B .merges) (I g r a B) T low len
+  turn-on low len g r a B = turn (B .runs) (I g r a B) T low len
 
-  pub filled-on : key ≡ unreachable → (g : Graph) (r : Rows) (a : ℕ) → Begun g r shifts l a d₀ work₀
+  pub filled-on : key ≡ unreachable → (g : Graph) (r : Directions) (a : ℕ) → Begun g r shifts l a d₀ work₀
       → SettledCosts g a n d work₀ work
-  filled-on end g r a B = filled (B .merges) (I g r a B) T end
+  filled-on end g r a B = filled (B .runs) (I g r a B) T end

@@ -13,7 +13,7 @@ use mathlib.Core.List.{List}
 use lib.ListN.{length}
 use Rattle.basics.specs.Lists.{tabulate, zeros}
 use Rattle.floor.specs.Floor.{Floor, vertices}
-use Rattle.moves.specs.declared.Rows.{Rows}
+use Rattle.moves.specs.declared.Directions.{Directions}
 use Rattle.paths.specs.Graph.{Graph}
 use Rattle.paths.specs.Distance.{distance}
 use Rattle.paths.specs.Local.{entry}
@@ -30,12 +30,12 @@ pub record SettledCosts (g : Graph) (a n : ℕ) (d work work′ : List ℕ) : Ty
 
 -- ---- the operations
 
-pub record Costing (w h : ℕ) (map : List ℕ) (r : Rows) (a : ℕ) (d work : List ℕ) : Type 0 where
+pub record Costing (w h : ℕ) (map : List ℕ) (r : Directions) (a : ℕ) (d work : List ℕ) : Type 0 where
   pub job : GoodJob w h map r a a
   pub d-len : length d ≡ vertices w h
   pub work-len : length work ≡ 4 * vertices w h
 
-pub record OrderedCosts (f : Floor) (r : Rows) (a n : ℕ) (d work : List ℕ) : Type 0 where
+pub record OrderedCosts (f : Floor) (r : Directions) (a n : ℕ) (d work : List ℕ) : Type 0 where
   pub costs : d ≡ tabulate (floorGraph f r .size) (distance (floorGraph f r) a)
   pub few : n ≤ floorGraph f r .size
   pub work-len : length work ≡ 4 * floorGraph f r .size

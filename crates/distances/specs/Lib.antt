@@ -1,2 +1,2 @@
 pub mod Costs
-pub mod Merge
+pub mod Dijkstra

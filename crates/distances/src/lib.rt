@@ -1,12 +1,12 @@
-// The costs from one vertex to every vertex of a floor: document 01's d, or e from the other end.
+// The costs from one vertex to every vertex of a floor: d of rule 4.3, or e from the other end.
 ghost use Rattle.floor.specs.Floor.{floorOf};
 ghost use Rattle.grid.specs.Grid.{floorGraph};
 ghost use Rattle.workspace.specs.Regions.{MasksIn};
 ghost use Rattle.distances.specs.Costs.{Costing, OrderedCosts, FilledCosts};
 use floor::Vertex;
-use moves::Rows;
+use moves::Directions;
 
-mod merge; // merge.rt: the vertices settled in order of cost
+mod dijkstra; // dijkstra.rt: Dijkstra's algorithm with one queue for each edge cost
 
 // Fills d with the costs from a, where `work` has the masks; leaves the order beside them, and answers its length. Height
 // and map are for the contract only.
@@ -14,18 +14,18 @@ pub fn costs_over_masks(
     w: usize,
     h: usize,
     map: &[u8],
-    rows: Rows,
+    dirs: Directions,
     a: Vertex,
     d: &mut [u32],
     work: &mut [u32],
 ) -> usize
-    requires { ⌜ Costing w h (now map) rows (a .0) (now d) (now work) ⌝ }
-    requires { ⌜ MasksIn (floorOf w h (now map)) rows (now work) ⌝ }
-    ensures { λ n. ⌜ OrderedCosts (floorOf w h (now (map .entry))) rows (a .0) n (now (d .exit)) (now (work .exit)) ⌝ }
+    requires { ⌜ Costing w h (now map) dirs (a .0) (now d) (now work) ⌝ }
+    requires { ⌜ MasksIn (floorOf w h (now map)) dirs (now work) ⌝ }
+    ensures { λ n. ⌜ OrderedCosts (floorOf w h (now (map .entry))) dirs (a .0) n (now (d .exit)) (now (work .exit)) ⌝ }
 {
-    let shifts = offsets::shifts_of(w, rows);
-    let classes = offsets::classes_of(rows);
-    merge::settle(&shifts, classes, a.0, d, work)
+    let shifts = offsets::shifts_of(w, dirs);
+    let classes = offsets::classes_of(dirs);
+    dijkstra::settle(&shifts, classes, a.0, d, work)
 }
 
 // Fills d with the costs from a, and `work` with 0. It relies on nothing that stands in the two slices.
@@ -33,16 +33,16 @@ pub fn costs_from(
     w: usize,
     h: usize,
     map: &[u8],
-    rows: Rows,
+    dirs: Directions,
     a: Vertex,
     d: &mut [u32],
     work: &mut [u32],
 )
-    requires { ⌜ Costing w h (now map) rows (a .0) (now d) (now work) ⌝ }
-    ensures { λ _. ⌜ FilledCosts (floorGraph (floorOf w h (now (map .entry))) rows) (a .0) (now (d .exit))
+    requires { ⌜ Costing w h (now map) dirs (a .0) (now d) (now work) ⌝ }
+    ensures { λ _. ⌜ FilledCosts (floorGraph (floorOf w h (now (map .entry))) dirs) (a .0) (now (d .exit))
         (now (work .exit)) ⌝ }
 {
-    workspace::store_masks(w, h, map, rows, work);
-    costs_over_masks(w, h, map, rows, a, d, work);
+    workspace::store_masks(w, h, map, dirs, work);
+    costs_over_masks(w, h, map, dirs, a, d, work);
     basics::fill_u32(work, 0);
 }

@@ -6,7 +6,7 @@
 --   bytes-cong    == tests that agree make the same bytes
 --   bytes-same    == a list of bytes is made of its bits
 --   packed-bit    == the bits of a packed map: cell c is bit c, the unused ones are 0
---   packed-clear  == its unused bits are 0, as refusal 3 asks
+--   packed-clear  == the unused bits of a packed map are 0, as refusal 3 asks
 --   packed-cong   == cells that agree make the same map
 --   unused-open   == a bit past the cells is 0, where the unused bits are
 --   packed-same   == a map of bytes whose unused bits are 0 is that of its cells

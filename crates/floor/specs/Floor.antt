@@ -1,6 +1,6 @@
--- Document 01, "The floor", and of document 02 request 6 for how a map is stored: a bit to a cell.
+-- docs/RULES.md, section 1: the floor, and how a map is stored, a bit to a cell.
 --
---   Floor            == its sides in cells, and whether the cell in column i and row j is blocked
+--   Floor            == a floor: its sides in cells, and whether the cell in column i and row j is blocked
 --   cellNumber w i j == the number of the cell in column i and row j
 --   bitAt l c        == bit c of the bytes l: bit c % 8, counted from the low end, of byte c / 8
 --   bitBytes m p     == the m bytes whose bits are those that p has: bit c is set where p c holds

@@ -1,8 +1,7 @@
--- Document 01, "Answers by number", and of document 02 request 6 for 2 and 3, request 5 for 11, request 1 for 12 to 14,
--- request 10 for 15, request 9 for 16 and 17, request 11 for 18 and 20 and request 12 for 19: each refusal's number,
--- and the refusals over the shape of a floor and of an end.
+-- docs/RULES.md, 6.1: each refusal's number, and the refusals over the shape of a floor and of an end.
 --
 --   refusalNumber r    == the number of refusal r
+--   shapeNumber s      == the number of an answer that is only good or refused: 0, or that of the refusal
 --   sidesShape w h     == refusal 1: the sides
 --   unusedClear n l    == every bit of the map l past its n cells is 0
 --   floorShape w h l   == refusals 1 to 3 of a floor, in order: the sides, the map's length, its unused bits
@@ -63,6 +62,10 @@ refusalNumber BadLogRecord = 17
 refusalNumber NoRoom = 18
 refusalNumber FalseChoice = 19
 refusalNumber OutOfTurn = 20
+
+abbrev pub shapeNumber : Shape → ℕ
+shapeNumber Good = 0
+shapeNumber (Refused r) = refusalNumber r
 
 abbrev pub andThen : Shape → Shape → Shape
 andThen Good t = t

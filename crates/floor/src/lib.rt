@@ -8,7 +8,7 @@ ghost use Rattle.floor.specs.Floor.{cellNumber, bitAt, mapLength, stored
 ghost use Rattle.floor.specs.Known.{Sized, blockedFrom};
 ghost use Rattle.floor.specs.Floor.{blocked, vertices, number, column, row};
 ghost use Rattle.floor.specs.Window.{WindowMap};
-ghost use Rattle.floor.specs.Refusals.{refusalNumber, unusedClear, sidesShape, floorShape, endShape};
+ghost use Rattle.floor.specs.Refusals.{refusalNumber, shapeNumber, unusedClear, sidesShape, floorShape, endShape};
 
 // The number of a cell: column + row * W.
 pub struct Cell(pub usize);
@@ -16,7 +16,7 @@ pub struct Cell(pub usize);
 // The number of a vertex, a cell corner: column + row * (W + 1).
 pub struct Vertex(pub usize);
 
-// Every refusal of the papers, in the order of its numbers.
+// Every refusal of rule 6.1, in the order of its numbers.
 pub enum Refusal {
     Size,
     MapLength,
@@ -46,7 +46,7 @@ pub enum Shape {
     Refused(Refusal),
 }
 
-// The papers' number of a refusal.
+// The number of a refusal (rule 6.1).
 pub fn refusal_number(r: Refusal) -> u8
     ensures { λ n. ⌜ n ≡ refusalNumber r ⌝ }
 {
@@ -71,6 +71,16 @@ pub fn refusal_number(r: Refusal) -> u8
         Refusal::NoRoom => 18,
         Refusal::FalseChoice => 19,
         Refusal::OutOfTurn => 20,
+    }
+}
+
+// The number of an answer that is only good or refused (rule 6.1): 0, or that of the refusal.
+pub fn shape_number(s: Shape) -> u8
+    ensures { λ n. ⌜ n ≡ shapeNumber s ⌝ }
+{
+    match s {
+        Shape::Good => 0,
+        Shape::Refused(r) => refusal_number(r),
     }
 }
 

@@ -5,7 +5,7 @@
 --   column-readable            == the moves from the vertex in column x can be read by its mask
 --   column-right               == what the code finds of its cost, said of the graph of the moves that leave
 --   start-false                == a cost at the start other than 0 is false
---   rows-true                  == where it is 0, the tests of all rows say whether the costs are true
+--   rows-true                  == where the cost of a is 0, the tests of all rows say whether the costs are true
 use Prim.Native.Nat.{ℕ, suc, _≤_}
 use mathlib.Core.Path.{_≡_, sym, ap, _∙_}
 use mathlib.Core.Bool.{Bool, true, false}
@@ -18,7 +18,7 @@ use Rattle.basics.proofs.Bools.{iff-eq}
 use Rattle.basics.proofs.Bounded.{every-rows}
 use Rattle.basics.proofs.Lists.{same-refl, same-eq}
 use Rattle.floor.specs.Floor.{floorOf, vertices, number}
-use Rattle.moves.specs.declared.Rows.{Rows}
+use Rattle.moves.specs.declared.Directions.{Directions}
 use Rattle.moves.specs.Table.{OnFloor}
 use Rattle.moves.proofs.Table.{listed-lawful}
 use Rattle.masks.specs.Masks.{Leaving}
@@ -34,7 +34,7 @@ use Rattle.grid.specs.Leaving.{leavingGraph}
 use Rattle.grid.specs.Known.{GoodJob}
 use Rattle.grid.proofs.Lawful.{floor-lawful}
 use Rattle.neighbours.specs.Reading.{maskGraph, Readable}
-use Rattle.neighbours.specs.Least.{rightCostIn, rightNear}
+use Rattle.neighbours.specs.Least.{rightCostIn, rightLeast}
 use Rattle.neighbours.proofs.Agree.{rightCostIn-agrees}
 use Rattle.neighbours.proofs.Classed.{mask-classed}
 use Rattle.neighbours.proofs.Columns.{column-shows}
@@ -62,13 +62,13 @@ module _ (g : Graph) (a : ℕ) (d : List ℕ) where
 
 -- ---- one vertex
 
-pub vertex-tested : {n mask v : ℕ} {r : Rows} {s : List ℕ} {c : List Class} {t : Bool} → Readable n r s mask v
-    → Classes r c → (a : ℕ) (D : ℕ → ℕ) → D v ≤ unreachable → t ≡ rightNear s c mask a D v
+pub vertex-tested : {n mask v : ℕ} {r : Directions} {s : List ℕ} {c : List Class} {t : Bool} → Readable n r s mask v
+    → Classes r c → (a : ℕ) (D : ℕ → ℕ) → D v ≤ unreachable → t ≡ rightLeast s c mask a D v
     → t ≡ rightCostIn (maskGraph n r s mask) a D v
 vertex-tested {n} {mask} {v} {r} {s} R C a D small is =
     is ∙ sym (least-right (mask-classed C s mask v (R .lawful) n) D small a)
 
-module _ {w h : ℕ} {l : List ℕ} {r : Rows} {a : ℕ} (J : GoodJob w h l r a a) where
+module _ {w h : ℕ} {l : List ℕ} {r : Directions} {a : ℕ} (J : GoodJob w h l r a a) where
   abbrev g : Graph
   g = floorGraph (floorOf w h l) r
 

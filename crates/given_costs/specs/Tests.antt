@@ -3,7 +3,7 @@
 --
 --   columnTest g a d w y x   == the cost of the vertex in column x and row y, on a floor of width w, is right by its
 --                               neighbours
---   rowTest g a d w y        == so are those of the vertices of row y
+--   rowTest g a d w y        == the costs of the vertices of row y of a floor of width w are right by their neighbours
 use Prim.Native.Nat.{ℕ, suc}
 use mathlib.Core.Bool.{Bool}
 use mathlib.Core.List.{List}

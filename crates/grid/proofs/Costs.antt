@@ -1,8 +1,9 @@
 -- No cost of a floor passes 16,383 times the dearest move.
 --
---   cost-bound       == so it is of every vertex that is reached, with each neighbourhood
---   cost-small       == with 4 and 8 no cost passes 9,452,991
---   cost-sixteen     == with 16 none passes 36,632,388: request 8 of document 02
+--   cost-bound       == the cost of a vertex that is reached is at most 16,383 times the dearest move of the
+--                       neighbourhood
+--   cost-small       == with neighbourhoods 4 and 8 no cost passes 9,452,991
+--   cost-sixteen     == with neighbourhood 16 no cost passes 36,632,388 (rule 4.2)
 use Prim.Native.Nat.{ℕ, _-_, _*_, _≤_, _<_}
 use mathlib.Core.Path.{_≡_, ap, _∙_}
 use native.Mathlib.Omega.{arith}
@@ -12,7 +13,7 @@ use lib.Dec.{eqb}
 use Rattle.basics.specs.Bounded.{pick}
 use Rattle.floor.specs.Floor.{Floor, vertices}
 use Rattle.floor.proofs.Numbers.{vertices-le}
-use Rattle.moves.specs.declared.Rows.{Rows}
+use Rattle.moves.specs.declared.Directions.{Directions}
 use Rattle.moves.specs.Table.{Listed}
 use Rattle.moves.proofs.Table.{listed-lawful, dearest, listed-cost}
 use Rattle.paths.specs.Distance.{unreachable, distance}
@@ -20,7 +21,7 @@ use Rattle.paths.proofs.Bound.{distance-bound}
 use Rattle.grid.specs.Grid.{floorGraph}
 use Rattle.grid.proofs.Lawful.{floor-lawful}
 
-module _ (f : Floor) (wide : f .wide ≤ 127) (high : f .high ≤ 127) {r : Rows} (listed : Listed r) (a v : ℕ)
+module _ (f : Floor) (wide : f .wide ≤ 127) (high : f .high ≤ 127) {r : Directions} (listed : Listed r) (a v : ℕ)
     (in-a : a < vertices (f .wide) (f .high)) (in-v : v < vertices (f .wide) (f .high))
     (reached : distance (floorGraph f r) a v < unreachable) where
   abbrev D : ℕ

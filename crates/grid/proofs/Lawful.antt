@@ -1,8 +1,9 @@
 -- A floor with any lawful table of moves is a lawful graph: the opposite of a move is open where the move is, since sight
 -- goes both ways.
 --
---   table-lawful       == the law, over any table
---   floor-lawful       == so it is with the rows of a neighbourhood, which pass the computed test
+--   table-lawful       == a floor with any lawful table of moves is a lawful graph
+--   floor-lawful       == a floor with directions that pass `lawfulDirs`, as those of a neighbourhood do, is a lawful
+--                         graph
 --   size-le            == the number of vertices
 --   graph-same         == two floors with the same cells have the same graph: what a change of how floors are stored
 --                         has to show
@@ -14,12 +15,12 @@ use Rattle.floor.proofs.Numbers.{vertices-le, column-le}
 use Rattle.sight.specs.Sight.{Segment, sees}
 use Rattle.sight.proofs.Symmetry.{sees-back, sees-same}
 use Rattle.moves.specs.declared.Move.{Move}
-use Rattle.moves.specs.declared.Rows.{Rows}
+use Rattle.moves.specs.declared.Directions.{Directions}
 use Rattle.moves.specs.Moves.{moveAt}
 use Rattle.moves.specs.Steps.{endIf}
 use Rattle.moves.specs.AnyTable.{LawfulTable}
-use Rattle.moves.specs.Table.{lawfulRows}
-use Rattle.moves.proofs.Table.{rows-lawful}
+use Rattle.moves.specs.Table.{lawfulDirs}
+use Rattle.moves.proofs.Table.{dirs-lawful}
 use Rattle.moves.proofs.Steps.{goes-end}
 use Rattle.moves.proofs.Opposites.{goes, goes-inside, goes-dx, goes-dy, goes-back}
 use Rattle.paths.specs.Graph.{Lawful}
@@ -45,13 +46,13 @@ module _ (f : Floor) (n : ℕ) (M : ℕ → Move) (T : LawfulTable n M) where
   }
 
 module _ (f : Floor) where
-  pub floor-lawful : (r : Rows) → lawfulRows r ≡ true → Lawful (floorGraph f r)
-  floor-lawful r e = table-lawful f (r .count) (moveAt r) (rows-lawful r e)
+  pub floor-lawful : (r : Directions) → lawfulDirs r ≡ true → Lawful (floorGraph f r)
+  floor-lawful r e = table-lawful f (r .count) (moveAt r) (dirs-lawful r e)
 
-  pub size-le : f .wide ≤ 127 → f .high ≤ 127 → (r : Rows) → floorGraph f r .size ≤ 16384
+  pub size-le : f .wide ≤ 127 → f .high ≤ 127 → (r : Directions) → floorGraph f r .size ≤ 16384
   size-le p q r = vertices-le p q
 
-pub graph-same : (f h : Floor) (r : Rows) → f .wide ≡ h .wide → f .high ≡ h .high
+pub graph-same : (f h : Floor) (r : Directions) → f .wide ≡ h .wide → f .high ≡ h .high
     → ((i j : ℕ) → i < f .wide → j < f .high → f .cell i j ≡ h .cell i j) → floorGraph f r ≡ floorGraph h r
 unfolding endIf
 graph-same f h r p q e =

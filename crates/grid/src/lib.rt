@@ -4,17 +4,17 @@ ghost use mathlib.Core.Path.{_≡_};
 ghost use Prim.Native.Nat.{_<_};
 ghost use Rattle.floor.specs.Floor.{floorOf, vertices};
 ghost use Rattle.floor.specs.Known.{Sized};
-ghost use Rattle.grid.specs.Grid.{pinchShape, endsShape, jobOf};
+ghost use Rattle.grid.specs.Grid.{pinchShape, endsShape, jobShape};
 use floor::Refusal;
 use floor::Shape;
 use floor::Vertex;
+use moves::Directions;
 use moves::Neighbourhood;
-use moves::Rows;
 
-// What the tests of a job's shape find: the rows of its neighbourhood, or the first refusal of 1 to 5, then 11.
-pub enum Job {
-    Fit(Rows),
-    Unfit(Refusal),
+// What the tests of a job's shape find: the directions of its neighbourhood, or the first refusal of 1 to 5, then 11.
+pub enum JobShape {
+    Fit(Directions),
+    Refused(Refusal),
 }
 
 // Refusal 11: one end is a pinch.
@@ -49,19 +49,19 @@ fn ends_shape(w: usize, h: usize, map: &[u8], a: usize, b: usize) -> Shape
 }
 
 // Refusals 1 to 5, then 11, of a job: those of the floor, of the neighbourhood, then of the two ends.
-pub fn job_of(w: usize, h: usize, map: &[u8], nb: usize, a: usize, b: usize) -> Job
-    ensures { λ r. ⌜ r ≡ jobOf w h (now (map .entry)) nb a b ⌝ }
+pub fn job_shape(w: usize, h: usize, map: &[u8], nb: usize, a: usize, b: usize) -> JobShape
+    ensures { λ r. ⌜ r ≡ jobShape w h (now (map .entry)) nb a b ⌝ }
 {
     let map_shape = floor::floor_shape(w, h, map);
     if let Shape::Refused(r) = map_shape {
-        return Job::Unfit(r);
+        return JobShape::Refused(r);
     }
-    let Neighbourhood::Known(rows) = moves::rows_of(nb) else {
-        return Job::Unfit(Refusal::Neighbourhood);
+    let Neighbourhood::Known(dirs) = moves::directions_of(nb) else {
+        return JobShape::Refused(Refusal::Neighbourhood);
     };
     let ends = ends_shape(w, h, map, a, b);
     if let Shape::Refused(r) = ends {
-        return Job::Unfit(r);
+        return JobShape::Refused(r);
     }
-    Job::Fit(rows)
+    JobShape::Fit(dirs)
 }

@@ -2,7 +2,7 @@
 --
 --   Points s n i l       == the positions l, by their places: they start with i, end with n - 1, and from each to the
 --                           next is a leg
---   points-choice, choice-points == these are the rising clear choices
+--   points-choice, choice-points == `Points` are the rising clear choices, `Choice`
 --   choice-short         == a choice from i has at most n - i positions
 --   TrueChoice s n kept c legs == the first c positions of `kept` are a rising clear choice from 0 to the last, with as
 --                           many legs as the number at position 0; the first n numbers of `legs` are the fewest legs
@@ -29,9 +29,8 @@ use Rattle.floor.specs.declared.Shape.{Shape}
 use Rattle.floor.specs.declared.Shape.the-variants.{Good, Refused}
 use Rattle.floor.proofs.Shapes.{good-first, good-second, good-pick}
 use Rattle.legs.specs.Choices.{Leg, Choice, last, leg, Fewest, isLeg, fewestLegs}
-use Rattle.legs.specs.Answer.{legsShape, keptRight, numbersRight, zeroFrom, trueChoice, checkedBy, checkAnswer}
+use Rattle.legs.specs.Answer.{legsShape, keptRight, numbersRight, zeroFrom, trueChoice, checkAnswer}
 use Rattle.legs.specs.Known.{sightOn}
-use Rattle.legs.specs.declared.Checked.the-variants.{Accepted}
 use Rattle.legs.proofs.Fewest.{leg-cases, leg-at, fewest-legs, fewest-one}
 use Rattle.legs.proofs.Tests.{zeroAt, KeptParts, kept-parts, kept-whole, choice-numbers}
 use Rattle.legs.proofs.Shapes.{good-legs, joined-on}
@@ -167,33 +166,28 @@ module _ (s : ℕ → ℕ → Bool) (n : ℕ) where
     true-exact kept c legs = (true-parts kept c legs, true-whole kept c legs)
 
 module _ (w h : ℕ) (map list : List ℕ) (n : ℕ) (kept : List ℕ) (c : ℕ) (legs : List ℕ) where
-  accepted-shape : (t : Shape) → checkedBy t ≡ Accepted → t ≡ Good
-  accepted-shape Good e = refl
-  accepted-shape (Refused r) e = let z : _≡_ {A = ℕ} 0 1 = cc in absurd (omega arith)
-
-  accepted-parts : checkAnswer w h map list n kept c legs ≡ Accepted
+  accepted-parts : checkAnswer w h map list n kept c legs ≡ Good
       → (legsShape w h map list (length kept) (length legs) n ≡ Good) × TrueChoice (sightOn w h map list) n kept c legs
   unfolding checkAnswer
   accepted-parts e =
       let shape = legsShape w h map list (length kept) (length legs) n in
       let test = trueChoice (sightOn w h map list) n kept c legs in
-      let all = accepted-shape (andThen shape (pick test Good (Refused FalseChoice))) e in
-      let x = good-first shape (pick test Good (Refused FalseChoice)) all in
-      let y = good-second shape (pick test Good (Refused FalseChoice)) all in
+      let x = good-first shape (pick test Good (Refused FalseChoice)) e in
+      let y = good-second shape (pick test Good (Refused FalseChoice)) e in
       let g = good-legs w h map list (length kept) (length legs) n x in
       let j = joined-on w h map list (length kept) (length legs) n g in
       (x, true-parts (sightOn w h map list) n (j .sees) kept c legs (good-pick FalseChoice test y))
 
   accepted-whole : (legsShape w h map list (length kept) (length legs) n ≡ Good)
       × TrueChoice (sightOn w h map list) n kept c legs
-      → checkAnswer w h map list n kept c legs ≡ Accepted
+      → checkAnswer w h map list n kept c legs ≡ Good
   accepted-whole p =
       let g = good-legs w h map list (length kept) (length legs) n (p .0) in
       let j = joined-on w h map list (length kept) (length legs) n g in
       let t = true-whole (sightOn w h map list) n (j .sees) kept c legs (p .1) in
       sym (check-true w h map list n kept c legs (p .0) t)
 
-  pub accepted-exact : (checkAnswer w h map list n kept c legs ≡ Accepted)
+  pub accepted-exact : (checkAnswer w h map list n kept c legs ≡ Good)
       ↔ ((legsShape w h map list (length kept) (length legs) n ≡ Good)
       × TrueChoice (sightOn w h map list) n kept c legs)
   accepted-exact = (accepted-parts, accepted-whole)

@@ -4,10 +4,11 @@
 --   choice-leads, leads-choice  == `leadsIn` says that there is a choice with so many legs
 --   fewest-legs                 == `fewestLegs` is the least number of legs of any choice
 --   fewest-one                  == no other number is
---   fewest-short                == it is less than the number of positions
---   fewest-last                 == it is 0 at the last position
---   fewest-leg                  == it is at most one more than at a position to which there is a leg
---   fewest-witness              == it is just one more at some such position
+--   fewest-short                == the fewest legs from a position are fewer than there are positions
+--   fewest-last                 == the fewest legs from the last position are 0
+--   fewest-leg                  == where there is a leg from i to j, fewestLegs s n i ≤ suc (fewestLegs s n j)
+--   fewest-witness              == from a position i before the last there is a leg to some j with fewestLegs s n i ≡
+--                                  suc (fewestLegs s n j)
 --
 -- The last five are of a list of which each position sees the next.
 use Prim.Native.Nat.{ℕ, zero, suc, _+_, _-_, _≤_, _<_}

@@ -21,15 +21,14 @@ use Rattle.basics.proofs.Lists.{length-padded, getD-padded, getD-padded-past, l
 use Rattle.floor.specs.Refusals.{leftBy}
 use Rattle.floor.specs.declared.Refusal.{Refusal}
 use Rattle.floor.specs.declared.Shape.{Shape}
-use Rattle.floor.specs.declared.Shape.the-variants.{Good, Refused}
+use Rattle.floor.specs.declared.Shape.the-variants.{Good, Refused as BadShape}
 use Rattle.thinning.specs.Answer.{shapeAnswer}
-use Rattle.thinning.specs.declared.Thinned.the-variants.{Kept, Unthinned}
+use Rattle.thinning.specs.declared.Thinned.the-variants.{Kept, Refused}
 use Rattle.thinning.proofs.Recording.{chain, chain-more, chain-end}
 use Rattle.legs.specs.Choices.{Choice, last, leg, fewestLegs}
 use Rattle.legs.specs.Answer.{legsShape, checkAnswer, farthestNext, proposedFrom, proposed}
 use Rattle.legs.specs.Answer.{proposeAnswer, keptLeft, legsLeft}
 use Rattle.legs.specs.Known.{sightOn}
-use Rattle.legs.specs.declared.Checked.the-variants.{Accepted, Unaccepted}
 use Rattle.legs.proofs.Fewest.{fewest-legs, fewest-last}
 use Rattle.legs.proofs.Farthest.{farthest-is, proposed-chain}
 use Rattle.legs.proofs.Shapes.{good-legs, joined-on}
@@ -82,7 +81,7 @@ module _ (w h : ℕ) (map list : List ℕ) (k m n : ℕ) where
   pub choice-accepted : legsShape w h map list k m n ≡ Good → (l : List ℕ) → Choice (sightOn w h map list) n 0 l
       → length l ≡ suc (fewestLegs (sightOn w h map list) n 0)
       → checkAnswer w h map list n (padded k l) (length l)
-      (padded m (tabulate n (fewestLegs (sightOn w h map list) n))) ≡ Accepted
+      (padded m (tabulate n (fewestLegs (sightOn w h map list) n))) ≡ Good
   choice-accepted good l c e =
       let s = sightOn w h map list in
       let g = good-legs w h map list k m n good in
@@ -97,7 +96,7 @@ module _ (w h : ℕ) (map list : List ℕ) (k m n : ℕ) where
 
 module _ (w h : ℕ) (map list kept legs : List ℕ) (n : ℕ) where
   pub proposal-accepted : (c : ℕ) → proposeAnswer w h map list kept legs n ≡ Kept c
-      → checkAnswer w h map list n (keptLeft w h map list kept legs n) c (legsLeft w h map list kept legs n) ≡ Accepted
+      → checkAnswer w h map list n (keptLeft w h map list kept legs n) c (legsLeft w h map list kept legs n) ≡ Good
   unfolding proposeAnswer keptLeft legsLeft proposed
   proposal-accepted c e = cases (legsShape w h map list (length kept) (length legs) n) refl e
     where
@@ -107,23 +106,23 @@ module _ (w h : ℕ) (map list kept legs : List ℕ) (n : ℕ) where
       cases : (t : Shape) → legsShape w h map list (length kept) (length legs) n ≡ t
           → shapeAnswer t (length (proposed s n)) ≡ Kept c
           → checkAnswer w h map list n (leftBy t (padded (length kept) (proposed s n)) kept) c
-          (leftBy t (padded (length legs) (tabulate n (fewestLegs s n))) legs) ≡ Accepted
+          (leftBy t (padded (length legs) (tabulate n (fewestLegs s n))) legs) ≡ Good
       cases Good q x =
           let g = good-legs w h map list (length kept) (length legs) n q in
           let j = joined-on w h map list (length kept) (length legs) n g in
           let p = proposed-choice s n (j .sees) n 0 (j .some) (omega arith) in
           let z : length (proposedFrom s n n 0) ≡ c = cc in
           rw z at (choice-accepted w h map list (length kept) (length legs) n q (proposed s n) (p .0) (p .1))
-      cases (Refused r) q x = let z : _≡_ {A = ℕ} 0 1 = cc in absurd (omega arith)
+      cases (BadShape r) q x = let z : _≡_ {A = ℕ} 0 1 = cc in absurd (omega arith)
 
-  pub refused-alike : (r : Refusal) (c : ℕ) → proposeAnswer w h map list kept legs n ≡ Unthinned r
-      → checkAnswer w h map list n kept c legs ≡ Unaccepted r
+  pub refused-alike : (r : Refusal) (c : ℕ) → proposeAnswer w h map list kept legs n ≡ Refused r
+      → checkAnswer w h map list n kept c legs ≡ BadShape r
   unfolding proposeAnswer
   refused-alike r c e = cases (legsShape w h map list (length kept) (length legs) n) refl e
     where
       cases : (t : Shape) → legsShape w h map list (length kept) (length legs) n ≡ t
-          → shapeAnswer t (length (proposed (sightOn w h map list) n)) ≡ Unthinned r
-          → checkAnswer w h map list n kept c legs ≡ Unaccepted r
+          → shapeAnswer t (length (proposed (sightOn w h map list) n)) ≡ Refused r
+          → checkAnswer w h map list n kept c legs ≡ BadShape r
       cases Good q x = let z : _≡_ {A = ℕ} 0 1 = cc in absurd (omega arith)
-      cases (Refused p) q x =
-          let z : p ≡ r = cc in sym (check-refused w h map list n kept c legs q) ∙ ap Unaccepted z
+      cases (BadShape p) q x =
+          let z : p ≡ r = cc in sym (check-refused w h map list n kept c legs q) ∙ ap BadShape z

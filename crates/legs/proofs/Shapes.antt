@@ -1,9 +1,10 @@
 -- The refusals: what `legsShape` comes to, and what an input has that is not refused.
 --
---   shape-other, shape-same == it is the thinning's shape, for the one slice or the other
+--   shape-other, shape-same == `legsShape` is the thinning's `listShape`, of the first slice where its length is
+--                              another than the list's, else of the second
 --   GoodLegs ..             == what an input has that is not refused
 --   joined-on               == what the code knows of such an input
---   joined-few              == it has at most 16,384 positions
+--   joined-few              == a joined list has at most 16,384 positions
 use Prim.Native.Nat.{ℕ, _≤_}
 use mathlib.Core.Path.{_≡_}
 use mathlib.Core.Bool.{true, _&&_}

@@ -4,8 +4,8 @@
 --   small-numbers     == the fewest legs: position 1 has more than position 0
 --   small-proposed    == the proposal takes 4, the farther of the two positions with one leg left
 --   small-accepted    == both choices of two legs are accepted, the other one too
---   small-unaccepted  == not so a choice of three legs, with the true number at position 0 or with its own, a kept
---                        position past the count, and a number past the list
+--   small-refused     == not accepted are a choice of three legs, with the true number at position 0 or with its own, a
+--                        kept position past the count, and a number past the list
 use Prim.Native.Nat.{ℕ, suc}
 use mathlib.Core.Path.{_≡_, refl}
 use mathlib.Core.Bool.{Bool, true, false, _&&_, _||_}
@@ -37,10 +37,10 @@ pub small-accepted :
 unfolding bounded-opened choices-opened answer-opened
 small-accepted = (refl, refl)
 
-pub small-unaccepted :
+pub small-refused :
     (taken (0 ∷ 3 ∷ 4 ∷ 5 ∷ 0 ∷ 0 ∷ 0 ∷ []) 4 (2 ∷ 3 ∷ 2 ∷ 1 ∷ 1 ∷ 0 ∷ 0 ∷ []) ≡ false)
     × (taken (0 ∷ 3 ∷ 4 ∷ 5 ∷ 0 ∷ 0 ∷ 0 ∷ []) 4 (3 ∷ 3 ∷ 2 ∷ 1 ∷ 1 ∷ 0 ∷ 0 ∷ []) ≡ false)
     × (taken (0 ∷ 4 ∷ 5 ∷ 0 ∷ 0 ∷ 0 ∷ 1 ∷ []) 3 (2 ∷ 3 ∷ 2 ∷ 1 ∷ 1 ∷ 0 ∷ 0 ∷ []) ≡ false)
     × (taken (0 ∷ 4 ∷ 5 ∷ 0 ∷ 0 ∷ 0 ∷ 0 ∷ []) 3 (2 ∷ 3 ∷ 2 ∷ 1 ∷ 1 ∷ 0 ∷ 1 ∷ []) ≡ false)
 unfolding bounded-opened choices-opened answer-opened
-small-unaccepted = (refl, refl, refl, refl)
+small-refused = (refl, refl, refl, refl)

@@ -1,4 +1,4 @@
--- Request 12, "Fewest stops": what the checker of a proposal and our own proposer answer and leave, for every input.
+-- docs/RULES.md, 10.3 to 10.7: what the checker of a proposal and our own proposer answer and leave, for every input.
 --
 --   legsShape ..        == refusals 1, 2, 3, then 6 for the list slice and two proposed slices of k and m places, then
 --                          10
@@ -8,20 +8,19 @@
 --   zeroFrom k l        == the slice l has 0 from place k on
 --   trueChoice s n kept c legs == what is accepted: the first c of `kept` are right and have as many legs as the number
 --                          at position 0 says, the numbers `legs` are right, and the rest of both slices is 0
---   checkedBy t         == the checker's answer for the shape t
 --   checkAnswer ..      == the checker's answer: the first refusal that applies, the last 19 for a choice that is not
 --                          true
---   checkNumber a       == the papers' number of an answer
 --   lastBelow n p       == the greatest k below n with p k; 0 where there is none
 --   farthestNext s n i  == of the positions to which i has a leg, the farthest with the fewest legs left: these are one
 --                          fewer than i has
 --   proposedFrom s n c i == the proposed positions from i on, at most c of them; the last is n - 1
 --   proposed s n        == the proposed positions, from 0 on
 --   proposeAnswer ..    == the proposer's answer: how many positions are kept, or the refusal
---   keptLeft ..         == its first slice afterwards: the proposed positions, then 0; untouched at a refusal
---   legsLeft ..         == its second slice afterwards: the fewest legs from each position, then 0; untouched at a
+--   keptLeft ..         == the proposer's first slice afterwards: the proposed positions, then 0; untouched at a
 --                          refusal
---   Proposes ..         == all three, as the proposer promises them
+--   legsLeft ..         == the proposer's second slice afterwards: the fewest legs from each position, then 0;
+--                          untouched at a refusal
+--   Proposes ..         == the proposer's promise: `proposeAnswer`, `keptLeft` and `legsLeft`, for every input
 use Prim.Native.Nat.{ℕ, zero, suc, pred}
 use mathlib.Core.Path.{_≡_}
 use mathlib.Core.Bool.{Bool, _&&_, _||_}
@@ -39,8 +38,6 @@ use Rattle.thinning.specs.Thinning.{seen, joinedList}
 use Rattle.thinning.specs.Answer.{shapeAnswer}
 use Rattle.thinning.specs.declared.Thinned.{Thinned}
 use Rattle.legs.specs.Choices.{isLeg, fewestLegs}
-use Rattle.legs.specs.declared.Checked.{Checked}
-use Rattle.legs.specs.declared.Checked.the-variants.{Accepted, Unaccepted}
 
 unfoldable pub legsShape : ℕ → ℕ → List ℕ → List ℕ → ℕ → ℕ → ℕ → Shape
 legsShape w h map list k m n =
@@ -66,18 +63,10 @@ trueChoice s n kept c legs =
     keptRight s n kept c && (eqb c (suc (getD legs 0 0)) && (zeroFrom c kept && (zeroFrom n legs
     && numbersRight s n legs)))
 
-abbrev pub checkedBy : Shape → Checked
-checkedBy Good = Accepted
-checkedBy (Refused r) = Unaccepted r
-
-unfoldable pub checkAnswer : ℕ → ℕ → List ℕ → List ℕ → ℕ → List ℕ → ℕ → List ℕ → Checked
+unfoldable pub checkAnswer : ℕ → ℕ → List ℕ → List ℕ → ℕ → List ℕ → ℕ → List ℕ → Shape
 checkAnswer w h map list n kept c legs =
-    checkedBy (andThen (legsShape w h map list (length kept) (length legs) n)
-    (pick (trueChoice (seen (floorOf w h map) list) n kept c legs) Good (Refused FalseChoice)))
-
-abbrev pub checkNumber : Checked → ℕ
-checkNumber Accepted = 0
-checkNumber (Unaccepted r) = refusalNumber r
+    andThen (legsShape w h map list (length kept) (length legs) n)
+    (pick (trueChoice (seen (floorOf w h map) list) n kept c legs) Good (Refused FalseChoice))
 
 -- ---- our own proposer
 

@@ -1,4 +1,4 @@
--- Request 12, "Fewest stops": the rising clear choices of positions of a list, and the fewest legs from a position to
+-- docs/RULES.md, 10.1 and 10.2: the rising clear choices of positions of a list, and the fewest legs from a position to
 -- the last one. `s i j` says that the vertices at positions i and j see each other; the list has n positions.
 --
 --   Leg s n i j       == a leg from position i to position j: j is one of the later positions, and i sees it

@@ -96,7 +96,7 @@ pub fn least_ahead(
     ensures { λ r. ⌜ Least (sightOn w h (now (map .entry)) (now (list .entry))) n (now (legs .entry)) i
         (suc i) n cap r ⌝ }
 {
-    let next = numbers::lesser(cap, numbers::number_at(legs, i + 1));
+    let next = numbers::min(cap, numbers::number_at(legs, i + 1));
     let mut least = near::near_ahead(w, h, map, list, legs, n, i, next);
     let mut j = i + 2;
     while j + 8 <= n {

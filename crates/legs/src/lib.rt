@@ -7,7 +7,7 @@
 // where a leg to j would leave i with fewer legs than its number says, and for each i some positions that have one leg
 // fewer left, until one is seen: first those whose vertices are near, then all, in the order of the list.
 ghost use mathlib.Core.Path.{_≡_};
-ghost use Rattle.legs.specs.Answer.{legsShape, checkAnswer, checkNumber, Proposes};
+ghost use Rattle.legs.specs.Answer.{legsShape, checkAnswer, Proposes};
 use floor::Refusal;
 use floor::Shape;
 use thinning::Thinned;
@@ -17,22 +17,6 @@ mod checking; // checking.rt: the tests of a proposal
 mod near; // near.rt: one leg fewer, sought near a position
 mod numbers; // numbers.rt: the numbers of a slice, and the least of some
 mod proposing; // proposing.rt: our own proposal
-
-// The checker's answer.
-pub enum Checked {
-    Accepted,
-    Unaccepted(Refusal),
-}
-
-// The papers' number of the checker's answer.
-pub fn check_number(c: Checked) -> u8
-    ensures { λ r. ⌜ r ≡ checkNumber c ⌝ }
-{
-    match c {
-        Checked::Accepted => 0,
-        Checked::Unaccepted(r) => floor::refusal_number(r),
-    }
-}
 
 // The refusals over floor, list and the lengths of the two proposed slices. Where the first has another length than the
 // list slice, the thinning's refusals end with 6 at the latest.
@@ -64,17 +48,17 @@ pub fn check(
     kept: &[u16],
     count: usize,
     legs: &[u16],
-) -> Checked
+) -> Shape
     ensures { λ r. ⌜ r ≡ checkAnswer w h (now (map .entry)) (now (list .entry)) n (now (kept .entry)) count
         (now (legs .entry)) ⌝ }
 {
     match legs_shape(w, h, map, list, kept.len(), legs.len(), n) {
-        Shape::Refused(r) => Checked::Unaccepted(r),
+        Shape::Refused(r) => Shape::Refused(r),
         Shape::Good => {
             if checking::true_choice(w, h, map, list, n, kept, count, legs) {
-                return Checked::Accepted;
+                return Shape::Good;
             }
-            Checked::Unaccepted(Refusal::FalseChoice)
+            Shape::Refused(Refusal::FalseChoice)
         }
     }
 }
@@ -94,7 +78,7 @@ pub fn propose(
         (now (kept .exit)) (now (legs .exit)) ⌝ }
 {
     match legs_shape(w, h, map, list, kept.len(), legs.len(), n) {
-        Shape::Refused(r) => Thinned::Unthinned(r),
+        Shape::Refused(r) => Thinned::Refused(r),
         Shape::Good => {
             proposing::fill_legs(w, h, map, list, legs, n);
             Thinned::Kept(proposing::record_kept(w, h, map, list, kept, legs, n))

@@ -12,8 +12,8 @@ pub fn number_at(numbers: &[u16], k: usize) -> usize
     numbers[k] as usize
 }
 
-// The lesser of two numbers.
-pub fn lesser(a: usize, b: usize) -> usize
+// The minimum of two numbers.
+pub fn min(a: usize, b: usize) -> usize
     ensures { λ r. ⌜ r ≡ min a b ⌝ }
 {
     if a < b {
@@ -27,7 +27,7 @@ fn least_of_two(numbers: &[u16], k: usize) -> usize
     requires { ⌜ k + 2 ≤ length (now numbers) ⌝ }
     ensures { λ r. ⌜ AtMost (now (numbers .entry)) k (k + 2) r ⌝ }
 {
-    lesser(number_at(numbers, k), number_at(numbers, k + 1))
+    min(number_at(numbers, k), number_at(numbers, k + 1))
 }
 
 // The least of four numbers, from position k on.
@@ -35,7 +35,7 @@ fn least_of_four(numbers: &[u16], k: usize) -> usize
     requires { ⌜ k + 4 ≤ length (now numbers) ⌝ }
     ensures { λ r. ⌜ AtMost (now (numbers .entry)) k (k + 4) r ⌝ }
 {
-    lesser(least_of_two(numbers, k), least_of_two(numbers, k + 2))
+    min(least_of_two(numbers, k), least_of_two(numbers, k + 2))
 }
 
 // The least of eight numbers, from position k on. No comparison waits for more than two others.
@@ -43,5 +43,5 @@ pub fn least_of_eight(numbers: &[u16], k: usize) -> usize
     requires { ⌜ k + 8 ≤ length (now numbers) ⌝ }
     ensures { λ r. ⌜ AtMost (now (numbers .entry)) k (k + 8) r ⌝ }
 {
-    lesser(least_of_four(numbers, k), least_of_four(numbers, k + 4))
+    min(least_of_four(numbers, k), least_of_four(numbers, k + 4))
 }

@@ -1,7 +1,7 @@
 -- A log is what stepping finds: the bound on the steps in its definition is never met.
 --
 --   log-step   == the log from a cursor on is what the step finds there, then the log from the cursor handed back
---   Finding    == what a step can find, and when; finding == so it is
+--   Finding    == what a step can find, and when; finding == `Finding` holds of what the step finds
 --   stop-found == a stop's cursor has moved on by four bytes, which lie in the log, and its vertex is below v
 --   stops-few  == a log has at most a quarter as many stops as bytes
 --   is-end, is-cut, is-unmarked, is-off, is-stop == what the tests of the code tell of a step

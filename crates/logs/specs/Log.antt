@@ -1,5 +1,5 @@
--- Request 9, "Replay of a night log": the bytes of a log, for each stop a record 56 54 hex and a 16-bit little-endian
--- vertex number.
+-- docs/RULES.md, 12.1 and 12.2: the bytes of a log, for each stop a record 56 54 hex and a 16-bit little-endian vertex
+-- number.
 --
 --   cursorAt p      == the cursor at place p
 --   goodStop s v p  == a whole record with the mark 56 54 hex stands at place p of s and names one of v vertices

@@ -3,13 +3,14 @@
 --
 --   move-off, move-cleared  == one move from a vertex: off the floor, or to a vertex whose opposite bit is cleared
 --   clears-none, clears-more == the moves one after the other
---   turned-twice, turned-xor == the opposite of the opposite; where the row opposite to a row stands
+--   turned-twice, turned-xor == the opposite of the opposite; where the direction opposite to a direction stands
 --   far-back                == the opposite move leads back
 --   leads-all               == the moves that lead from v to u, turned, are those that lead from u to v
 --   cleared-none            == before the first vertex no bit is cleared
 --   cleared-skip, cleared-hit == past a vertex that is no pinch, and past one that is, where the moves of a table that has
---                              the rows are cleared
---   past-skip, past-hit     == the same of the vertex (x, y), by its mask
+--                              the directions are cleared
+--   past-skip, past-hit     == `Cleared` one vertex past (x, y), where its mask does not mark a pinch, and where it
+--                              does
 --   cleared-all             == past the last vertex the masks are those of the open moves
 use Prim.Native.Nat.{ℕ, zero, suc, _+_, _*_, _≤_, _<_}
 use mathlib.Core.Path.{_≡_, refl, sym, ap, ap₂, subst, _∙_}
@@ -35,8 +36,8 @@ use Rattle.floor.proofs.Numbers.{number-lt, number-of, column-le, column-number
 use Rattle.sight.specs.Sight.{Segment, segment, pinch, sees}
 use Rattle.moves.specs.declared.Move.{Move}
 use Rattle.moves.specs.declared.Step.the-variants.{To, Off}
-use Rattle.moves.specs.declared.Rows.{Rows}
-use Rattle.moves.specs.Moves.{moveOf, rowMove, rowAt, moveAt}
+use Rattle.moves.specs.declared.Directions.{Directions}
+use Rattle.moves.specs.Moves.{moveOf, dirMove, dirAt, moveAt}
 use Rattle.moves.specs.Steps.{shifted, thenAt, farEndAt, endIf, stepOf}
 use Rattle.moves.proofs.Steps.{shifted-is}
 use Rattle.moves.specs.Leaving.{leaves}
@@ -45,11 +46,11 @@ use Rattle.moves.proofs.Table.{LawfulMove, lawful-move, listed-lawful, each-lis
 use Rattle.moves.proofs.Steps.{goes-end}
 use Rattle.moves.proofs.Opposites.{goes, goes-back}
 use Rattle.moves.proofs.Leaving.{seen-far}
-use Rattle.masks.specs.Masks.{rowIf, OpenMasks, pinchBit, LeavingTo, clearedTo, Cleared}
-use Rattle.masks.proofs.Windows.{row-apart}
-use Rattle.masks.specs.Masks.{WithoutBit, rowEndAt, leadsTo, turnedRow, leadsBack, ClearsMove, ClearsTo}
+use Rattle.masks.specs.Masks.{dirIf, OpenMasks, pinchBit, LeavingTo, clearedTo, Cleared}
+use Rattle.masks.proofs.Windows.{dir-apart}
+use Rattle.masks.specs.Masks.{WithoutBit, dirEndAt, leadsTo, turnedDir, leadsBack, ClearsMove, ClearsTo}
 
--- ---- where a row leads
+-- ---- where a direction leads
 
 pub end-off : (o : Option ℕ) → stepOf o ≡ Off → o ≡ none
 unfolding stepOf
@@ -67,12 +68,12 @@ unfolding farEndAt
 offsets-end w h x y m = refl
 
 -- It is a vertex of the floor.
-pub end-inside : (w h x y k u : ℕ) → rowEndAt w h x y k ≡ some u → u < vertices w h
+pub end-inside : (w h x y k u : ℕ) → dirEndAt w h x y k ≡ some u → u < vertices w h
 unfolding farEndAt thenAt
 end-inside w h x y k u e = cases (shifted w x (m .dx)) (shifted h y (m .dy)) refl refl e
   where
     m : Move
-    m = rowMove k
+    m = dirMove k
 
     cases : (a b : Option ℕ) → shifted w x (m .dx) ≡ a → shifted h y (m .dy) ≡ b
         → thenAt a (λ i. thenAt b (λ j. some (number w i j))) ≡ some u → u < vertices w h
@@ -84,13 +85,13 @@ end-inside w h x y k u e = cases (shifted w x (m .dx)) (shifted h y (m .dy)) ref
 
 -- ---- one move, and all
 
-module _ {w h x y m : ℕ} {r : Rows} {l : List ℕ} where
-  pub move-off : rowEndAt w h x y (rowAt r m) ≡ none → ClearsMove w h r x y m l l
+module _ {w h x y m : ℕ} {r : Directions} {l : List ℕ} where
+  pub move-off : dirEndAt w h x y (dirAt r m) ≡ none → ClearsMove w h r x y m l l
   unfolding leadsTo
   move-off e = record { len = refl; at = λ u j i. sym (rw e (and-true (bit (getD l u 0) j))) }
 
-  pub move-cleared : {u n : ℕ} → rowEndAt w h x y (rowAt r m) ≡ some u → u < length l
-      → WithoutBit (turnedRow r m) (getD l u 0) n → ClearsMove w h r x y m l (set l u n)
+  pub move-cleared : {u n : ℕ} → dirEndAt w h x y (dirAt r m) ≡ some u → u < length l
+      → WithoutBit (turnedDir r m) (getD l u 0) n → ClearsMove w h r x y m l (set l u n)
   unfolding leadsTo
   move-cleared {u} {n} e i W = record {
     len = length-set l u n;
@@ -100,11 +101,12 @@ module _ {w h x y m : ℕ} {r : Rows} {l : List ℕ} where
         rw (e, getD-set-other l u v n 0 (λ q. ne (sym q)), ne-eqb u v ne) (sym (and-true (bit (getD l v 0) j)))) (eq-or-ne u v);
   }
 
-pub clears-none : {w h x y : ℕ} {r : Rows} {l : List ℕ} → ClearsTo w h r x y 0 l l
+pub clears-none : {w h x y : ℕ} {r : Directions} {l : List ℕ} → ClearsTo w h r x y 0 l l
 unfolding any
 clears-none {l = l} = record { len = refl; at = λ u j i. sym (and-true (bit (getD l u 0) j)) }
 
-pub clears-more : {w h x y n : ℕ} {r : Rows} {l k t : List ℕ} → ClearsTo w h r x y n l k → ClearsMove w h r x y n k t
+pub clears-more : {w h x y n : ℕ} {r : Directions} {l k t : List ℕ} → ClearsTo w h r x y n l k
+    → ClearsMove w h r x y n k t
     → ClearsTo w h r x y (suc n) l t
 unfolding any
 clears-more {w} {h} {x} {y} {n} {r} {l} {k} {t} A B = record {
@@ -134,22 +136,22 @@ end-anyway f m x y = cases (farEndAt (f .wide) (f .high) m x y)
     cases (some u) = refl
 
 -- The opposite of the opposite is the move itself.
-pub turned-twice : {r : Rows} → Listed r → (m : ℕ) → m < r .count → oppositeOf r (oppositeOf r m) ≡ m
+pub turned-twice : {r : Directions} → Listed r → (m : ℕ) → m < r .count → oppositeOf r (oppositeOf r m) ≡ m
 unfolding bounded-opened
 turned-twice {r} h m l =
     eqb-true _ _
     (every-at (r .count) (λ m. eqb (oppositeOf r (oppositeOf r m)) m)
     (each-listed (λ r. every (r .count) (λ m. eqb (oppositeOf r (oppositeOf r m)) m) ≡ true) refl refl refl h) m l)
 
--- It stands eight rows on or back.
-pub turned-xor : {r : Rows} → Listed r → (m : ℕ) → m < r .count → bitXor (rowAt r m) 8 ≡ turnedRow r m
+-- It stands eight directions on or back.
+pub turned-xor : {r : Directions} → Listed r → (m : ℕ) → m < r .count → bitXor (dirAt r m) 8 ≡ turnedDir r m
 unfolding bounded-opened
 turned-xor {r} h m l =
     eqb-true _ _
-    (every-at (r .count) (λ m. eqb (bitXor (rowAt r m) 8) (turnedRow r m))
-    (each-listed (λ r. every (r .count) (λ m. eqb (bitXor (rowAt r m) 8) (turnedRow r m)) ≡ true) refl refl refl h) m l)
+    (every-at (r .count) (λ m. eqb (bitXor (dirAt r m) 8) (turnedDir r m))
+    (each-listed (λ r. every (r .count) (λ m. eqb (bitXor (dirAt r m) 8) (turnedDir r m)) ≡ true) refl refl refl h) m l)
 
-module _ (f : Floor) (r : Rows) (listed : Listed r) where
+module _ (f : Floor) (r : Directions) (listed : Listed r) where
   abbrev W : ℕ
   W = f .wide
 
@@ -166,9 +168,9 @@ module _ (f : Floor) (r : Rows) (listed : Listed r) where
   law m l = lawful-move r m (listed-lawful listed) l
 
   abbrev end : ℕ → ℕ → Option ℕ
-  end v k = rowEndAt W H (X v) (Y v) k
+  end v k = dirEndAt W H (X v) (Y v) k
 
-  far-back : (u v m : ℕ) → u < vertices W H → m < r .count → end u (rowAt r m) ≡ some v → end v (turnedRow r m) ≡ some u
+  far-back : (u v m : ℕ) → u < vertices W H → m < r .count → end u (dirAt r m) ≡ some v → end v (turnedDir r m) ≡ some u
   far-back u v m i l e =
       let g = goes anyway f (moveAt r m) u v (end-anyway f (moveAt r m) (X u) (Y u) ∙ e) in
       let back = moveAt r (oppositeOf r m) in
@@ -186,19 +188,19 @@ module _ (f : Floor) (r : Rows) (listed : Listed r) where
   is-leads o v e = rw e (eq-eqb v v refl)
 
   leads-all : (u v m : ℕ) → u < vertices W H → v < vertices W H → m < r .count
-      → any (r .count) (leadsBack W H r (X v) (Y v) u (rowAt r m)) ≡ leadsTo (end u (rowAt r m)) v
+      → any (r .count) (leadsBack W H r (X v) (Y v) u (dirAt r m)) ≡ leadsTo (end u (dirAt r m)) v
   leads-all u v m i j l = iff-eq _ _
       (λ t.
-      let c = any-cases (r .count) (leadsBack W H r (X v) (Y v) u (rowAt r m)) t in
-      let there = and-left (leadsTo (end v (rowAt r (c .0))) u) (eqb (turnedRow r (c .0)) (rowAt r m)) (c .2) in
-      let turned : turnedRow r (c .0) ≡ rowAt r m =
-      eqb-true _ _ (and-right (leadsTo (end v (rowAt r (c .0))) u) (eqb (turnedRow r (c .0)) (rowAt r m)) (c .2)) in
-      is-leads (end u (rowAt r m)) v
-      (rw turned at (far-back v u (c .0) j (c .1) (leads-is (end v (rowAt r (c .0))) u there))))
+      let c = any-cases (r .count) (leadsBack W H r (X v) (Y v) u (dirAt r m)) t in
+      let there = and-left (leadsTo (end v (dirAt r (c .0))) u) (eqb (turnedDir r (c .0)) (dirAt r m)) (c .2) in
+      let turned : turnedDir r (c .0) ≡ dirAt r m =
+      eqb-true _ _ (and-right (leadsTo (end v (dirAt r (c .0))) u) (eqb (turnedDir r (c .0)) (dirAt r m)) (c .2)) in
+      is-leads (end u (dirAt r m)) v
+      (rw turned at (far-back v u (c .0) j (c .1) (leads-is (end v (dirAt r (c .0))) u there))))
       (λ t.
-      any-one (r .count) (oppositeOf r m) (leadsBack W H r (X v) (Y v) u (rowAt r m)) (law m l .opposite-listed)
-      (and-intro _ _ (is-leads (end v (turnedRow r m)) u (far-back u v m i l (leads-is (end u (rowAt r m)) v t)))
-      (eq-eqb _ _ (ap (rowAt r) (turned-twice listed m l)))))
+      any-one (r .count) (oppositeOf r m) (leadsBack W H r (X v) (Y v) u (dirAt r m)) (law m l .opposite-listed)
+      (and-intro _ _ (is-leads (end v (turnedDir r m)) u (far-back u v m i l (leads-is (end u (dirAt r m)) v t)))
+      (eq-eqb _ _ (ap (dirAt r) (turned-twice listed m l)))))
 
   -- The bit of a pinch is not cleared.
   leads-none : (u v : ℕ) → any (r .count) (leadsBack W H r (X v) (Y v) u pinchBit) ≡ false
@@ -208,9 +210,9 @@ module _ (f : Floor) (r : Rows) (listed : Listed r) where
       cases false e = refl
       cases true e =
           let c = any-cases (r .count) (leadsBack W H r (X v) (Y v) u pinchBit) e in
-          let turned : turnedRow r (c .0) ≡ pinchBit =
-          eqb-true _ _ (and-right (leadsTo (end v (rowAt r (c .0))) u) (eqb (turnedRow r (c .0)) pinchBit) (c .2)) in
-          absurd (row-apart listed (oppositeOf r (c .0)) (law (c .0) (c .1) .opposite-listed) turned)
+          let turned : turnedDir r (c .0) ≡ pinchBit =
+          eqb-true _ _ (and-right (leadsTo (end v (dirAt r (c .0))) u) (eqb (turnedDir r (c .0)) pinchBit) (c .2)) in
+          absurd (dir-apart listed (oppositeOf r (c .0)) (law (c .0) (c .1) .opposite-listed) turned)
 
   -- ---- past one vertex after the other
 
@@ -222,19 +224,19 @@ module _ (f : Floor) (r : Rows) (listed : Listed r) where
   holds-is true w = refl
   holds-is false w = refl
 
-  -- A row from vertex v, by its far end.
-  row-at : (S : Floor → Segment → Bool) (v k : ℕ) (o : Option ℕ) → end v k ≡ o
-      → rowIf S f (X v) (Y v) k ≡ isSome (thenAt o (λ w. elim (S f (segment W v w)) [ true ↦ some w | false ↦ none ]))
+  -- A direction from vertex v, by its far end.
+  dir-at : (S : Floor → Segment → Bool) (v k : ℕ) (o : Option ℕ) → end v k ≡ o
+      → dirIf S f (X v) (Y v) k ≡ isSome (thenAt o (λ w. elim (S f (segment W v w)) [ true ↦ some w | false ↦ none ]))
   unfolding endIf
-  row-at S v k o e = rw (e, number-of W v)
+  dir-at S v k o e = rw (e, number-of W v)
 
-  row-to : (S : Floor → Segment → Bool) (v k w : ℕ) → end v k ≡ some w → rowIf S f (X v) (Y v) k ≡ S f (segment W v w)
+  dir-to : (S : Floor → Segment → Bool) (v k w : ℕ) → end v k ≡ some w → dirIf S f (X v) (Y v) k ≡ S f (segment W v w)
   unfolding thenAt
-  row-to S v k w e = row-at S v k (some w) e ∙ holds-is (S f (segment W v w)) w
+  dir-to S v k w e = dir-at S v k (some w) e ∙ holds-is (S f (segment W v w)) w
 
-  row-nowhere : (S : Floor → Segment → Bool) (v k : ℕ) → end v k ≡ none → rowIf S f (X v) (Y v) k ≡ false
+  dir-nowhere : (S : Floor → Segment → Bool) (v k : ℕ) → end v k ≡ none → dirIf S f (X v) (Y v) k ≡ false
   unfolding thenAt isSome
-  row-nowhere S v k e = row-at S v k none e
+  dir-nowhere S v k e = dir-at S v k none e
 
   cleared-to : (t v w : ℕ)
       → clearedTo t f (segment W v w) ≡ (leaves f (segment W v w) && not (pinch f (X w) (Y w) && ltb w t))
@@ -246,16 +248,17 @@ module _ (f : Floor) (r : Rows) (listed : Listed r) where
   cleared-none {l} L = record {
     len = L .len;
     at = λ v i. record {
-      at = λ m h. L .at v i .rows .at m h ∙ none-yet v (rowAt r m) (end v (rowAt r m)) refl;
+      at = λ m h. L .at v i .dirs .at m h ∙ none-yet v (dirAt r m) (end v (dirAt r m)) refl;
     };
     mark = λ v i. L .at v i .mark;
   }
     where
-      none-yet : (v k : ℕ) (o : Option ℕ) → end v k ≡ o → rowIf leaves f (X v) (Y v) k ≡ rowIf (clearedTo 0) f (X v) (Y v) k
-      none-yet v k none e = row-nowhere leaves v k e ∙ sym (row-nowhere (clearedTo 0) v k e)
+      none-yet : (v k : ℕ) (o : Option ℕ) → end v k ≡ o
+          → dirIf leaves f (X v) (Y v) k ≡ dirIf (clearedTo 0) f (X v) (Y v) k
+      none-yet v k none e = dir-nowhere leaves v k e ∙ sym (dir-nowhere (clearedTo 0) v k e)
       none-yet v k (some w) e =
-          row-to leaves v k w e
-          ∙ sym (row-to (clearedTo 0) v k w e ∙ cleared-to 0 v w
+          dir-to leaves v k w e
+          ∙ sym (dir-to (clearedTo 0) v k w e ∙ cleared-to 0 v w
           ∙ rw (le-ltb w 0 (omega arith), and-false (pinch f (X w) (Y w))) (and-true (leaves f (segment W v w))))
 
   -- Past vertex v, where each move to it that is not cleared yet is cleared, if it is a pinch.
@@ -273,28 +276,28 @@ module _ (f : Floor) (r : Rows) (listed : Listed r) where
         next w n = ⊎-elim (λ (l : suc w ≤ v). lt-ltb w v l ∙ sym (lt-ltb w (suc v) (omega arith)))
             (λ (l : v < suc w). le-ltb w v (omega arith) ∙ sym (le-ltb w (suc v) (omega (arith, n)))) (le-or-lt (suc w) v)
 
-    row-past : (u k : ℕ) → pinch f (X v) (Y v) ≡ true → (o : Option ℕ) → end u k ≡ o
-        → (rowIf (clearedTo v) f (X u) (Y u) k && not (leadsTo o v)) ≡ rowIf (clearedTo (suc v)) f (X u) (Y u) k
+    dir-past : (u k : ℕ) → pinch f (X v) (Y v) ≡ true → (o : Option ℕ) → end u k ≡ o
+        → (dirIf (clearedTo v) f (X u) (Y u) k && not (leadsTo o v)) ≡ dirIf (clearedTo (suc v)) f (X u) (Y u) k
     unfolding leadsTo
-    row-past u k p none e =
-        ap (λ b. b && true) (row-nowhere (clearedTo v) u k e) ∙ sym (row-nowhere (clearedTo (suc v)) u k e)
-    row-past u k p (some w) e =
-        ap (λ b. b && not (eqb w v)) (row-to (clearedTo v) u k w e ∙ cleared-to v u w)
-        ∙ past (leaves f (segment W u w)) w p ∙ sym (row-to (clearedTo (suc v)) u k w e ∙ cleared-to (suc v) u w)
+    dir-past u k p none e =
+        ap (λ b. b && true) (dir-nowhere (clearedTo v) u k e) ∙ sym (dir-nowhere (clearedTo (suc v)) u k e)
+    dir-past u k p (some w) e =
+        ap (λ b. b && not (eqb w v)) (dir-to (clearedTo v) u k w e ∙ cleared-to v u w)
+        ∙ past (leaves f (segment W u w)) w p ∙ sym (dir-to (clearedTo (suc v)) u k w e ∙ cleared-to (suc v) u w)
 
-    pub cleared-hit : {q : Rows} {l l′ : List ℕ} → Within q r → v < vertices W H → pinch f (X v) (Y v) ≡ true
+    pub cleared-hit : {q : Directions} {l l′ : List ℕ} → Within q r → v < vertices W H → pinch f (X v) (Y v) ≡ true
         → Cleared f q v l → ClearsTo W H r (X v) (Y v) (r .count) l l′ → Cleared f q (suc v) l′
     cleared-hit {q} {l} {l′} I j p C R = record {
       len = R .len ∙ C .len;
       at = λ u i. record {
         at = λ m h.
-            let k = rowAt q m in
+            let k = dirAt q m in
             let n = I .at m h in
             let all : any (r .count) (leadsBack W H r (X v) (Y v) u k) ≡ leadsTo (end u k) v =
             subst (λ k. any (r .count) (leadsBack W H r (X v) (Y v) u k) ≡ leadsTo (end u k) v) (sym (n .2))
             (leads-all u v (n .0) i j (n .1)) in
             R .at u k (omega (arith, C .len)) ∙ ap₂ (λ a b. a && not b) (C .at u i .at m h) all
-            ∙ row-past u k p (end u k) refl;
+            ∙ dir-past u k p (end u k) refl;
       };
       mark = λ u i.
           R .at u pinchBit (omega (arith, C .len))
@@ -302,13 +305,13 @@ module _ (f : Floor) (r : Rows) (listed : Listed r) where
           ∙ and-true (pinch f (X u) (Y u));
     }
 
-    row-same : (u k : ℕ) → pinch f (X v) (Y v) ≡ false → (o : Option ℕ) → end u k ≡ o
-        → rowIf (clearedTo v) f (X u) (Y u) k ≡ rowIf (clearedTo (suc v)) f (X u) (Y u) k
-    row-same u k p none e = row-nowhere (clearedTo v) u k e ∙ sym (row-nowhere (clearedTo (suc v)) u k e)
-    row-same u k p (some w) e =
-        row-to (clearedTo v) u k w e ∙ cleared-to v u w
+    dir-same : (u k : ℕ) → pinch f (X v) (Y v) ≡ false → (o : Option ℕ) → end u k ≡ o
+        → dirIf (clearedTo v) f (X u) (Y u) k ≡ dirIf (clearedTo (suc v)) f (X u) (Y u) k
+    dir-same u k p none e = dir-nowhere (clearedTo v) u k e ∙ sym (dir-nowhere (clearedTo (suc v)) u k e)
+    dir-same u k p (some w) e =
+        dir-to (clearedTo v) u k w e ∙ cleared-to v u w
         ∙ ap (λ b. leaves f (segment W u w) && not b) (same w)
-        ∙ sym (row-to (clearedTo (suc v)) u k w e ∙ cleared-to (suc v) u w)
+        ∙ sym (dir-to (clearedTo (suc v)) u k w e ∙ cleared-to (suc v) u w)
       where
         same : (w : ℕ) → (pinch f (X w) (Y w) && ltb w v) ≡ (pinch f (X w) (Y w) && ltb w (suc v))
         same w = ⊎-elim (λ (l : suc w ≤ v). rw (lt-ltb w v l, lt-ltb w (suc v) (omega arith)))
@@ -316,15 +319,16 @@ module _ (f : Floor) (r : Rows) (listed : Listed r) where
             (λ (n : w ≡ v → ⊥). rw (le-ltb w v (omega arith), le-ltb w (suc v) (omega (arith, n)))) (eq-or-ne w v))
             (le-or-lt (suc w) v)
 
-    pub cleared-skip : {q : Rows} {l : List ℕ} → pinch f (X v) (Y v) ≡ false → Cleared f q v l → Cleared f q (suc v) l
+    pub cleared-skip : {q : Directions} {l : List ℕ} → pinch f (X v) (Y v) ≡ false → Cleared f q v l
+        → Cleared f q (suc v) l
     cleared-skip {q} p C = record {
       len = C .len;
-      at = λ u i. record { at = λ m h. C .at u i .at m h ∙ row-same u (rowAt q m) p (end u (rowAt q m)) refl };
+      at = λ u i. record { at = λ m h. C .at u i .at m h ∙ dir-same u (dirAt q m) p (end u (dirAt q m)) refl };
       mark = C .mark;
     }
 
   -- The same of the vertex (x, y), by the bit of its mask that says whether it is a pinch.
-  module _ (x y : ℕ) (on : x ≤ W) (in-y : y ≤ H) {q : Rows} (I : Within q r) {l : List ℕ}
+  module _ (x y : ℕ) (on : x ≤ W) (in-y : y ≤ H) {q : Directions} (I : Within q r) {l : List ℕ}
       (C : Cleared f q (number W x y) l) where
     abbrev v : ℕ
     v = number W x y
@@ -350,16 +354,16 @@ module _ (f : Floor) (r : Rows) (listed : Listed r) where
   pub cleared-all : {t : ℕ} {l : List ℕ} → vertices W H ≤ t → Cleared f r t l → OpenMasks f r l
   cleared-all {t} {l} all C = record {
     len = C .len;
-    at = λ v i. record { at = λ m h. C .at v i .at m h ∙ open-row v m i h (end v (rowAt r m)) refl };
+    at = λ v i. record { at = λ m h. C .at v i .at m h ∙ open-dir v m i h (end v (dirAt r m)) refl };
   }
     where
-      open-row : (v m : ℕ) → v < vertices W H → m < r .count → (o : Option ℕ) → end v (rowAt r m) ≡ o
-          → rowIf (clearedTo t) f (X v) (Y v) (rowAt r m) ≡ rowIf sees f (X v) (Y v) (rowAt r m)
-      open-row v m i h none e = row-nowhere (clearedTo t) v (rowAt r m) e ∙ sym (row-nowhere sees v (rowAt r m) e)
-      open-row v m i h (some w) e =
-          let k = rowAt r m in
-          let g = goes anyway f (rowMove k) v w (end-anyway f (rowMove k) (X v) (Y v) ∙ e) in
+      open-dir : (v m : ℕ) → v < vertices W H → m < r .count → (o : Option ℕ) → end v (dirAt r m) ≡ o
+          → dirIf (clearedTo t) f (X v) (Y v) (dirAt r m) ≡ dirIf sees f (X v) (Y v) (dirAt r m)
+      open-dir v m i h none e = dir-nowhere (clearedTo t) v (dirAt r m) e ∙ sym (dir-nowhere sees v (dirAt r m) e)
+      open-dir v m i h (some w) e =
+          let k = dirAt r m in
+          let g = goes anyway f (dirMove k) v w (end-anyway f (dirMove k) (X v) (Y v) ∙ e) in
           let below = end-inside W H (X v) (Y v) k w e in
-          row-to (clearedTo t) v k w e ∙ cleared-to t v w
+          dir-to (clearedTo t) v k w e ∙ cleared-to t v w
           ∙ rw (lt-ltb w t (omega arith), and-true (pinch f (X w) (Y w)))
-          (sym (row-to sees v k w e ∙ seen-far f (rowMove k) (law m h .is-short) (law m h .is-narrow) v i anyway w g))
+          (sym (dir-to sees v k w e ∙ seen-far f (dirMove k) (law m h .is-short) (law m h .is-narrow) v i anyway w g))

@@ -4,18 +4,20 @@
 --   window-bits, window-cells == the four cells are the bits of their number
 --   start-centre    == from its start a move has the middle of a floor of 2 by 2 as the vertex between its cells
 --   open-window     == what sight says of a move in a floor of 2 by 2 cells
---   pinch-window    == and of its middle
---   Gathered ..     == the rows of the moves before m, gathered in a mask
---   gathered-none, -more, -all == one move after the other
---   row-apart       == no row of a neighbourhood has the bit of a pinch
+--   pinch-window    == whether the middle of a floor of 2 by 2 cells is a pinch, by the bits of its number
+--   Gathered ..     == the directions of the moves before m, gathered in a mask
+--   gathered-none, -more, -all == `Gathered` of no move, of one move more, and of all
+--   dir-apart       == no direction of a neighbourhood has the bit of a pinch
 --   pinch-alone     == the mask of a pinch
---   window-within   == the mask of a table is that of the rows that it has
+--   window-within   == the mask of a table is that of the directions that it has
 --   windows-none, -more == the masks of all sixteen, made one after the other
 --   Cells r f x y n == n is the mask of the window at (x, y)
---   window-read     == so is the one that is read by the number of the window
+--   window-read     == the mask that is read by the number of the window at (x, y) is that of its four cells
 --   read-none, -more == a row of windows, read one after the other
---   listed-sixteen, listed-unit == a neighbourhood of sixteen has that table, and no other goes two columns or rows
---   unit-leaving    == where no move goes two columns or rows, it is that of the moves that leave (x, y)
+--   listed-sixteen, listed-unit == a neighbourhood of sixteen has the table of sixteen, and no move of another goes two
+--                      columns or rows
+--   unit-leaving    == where no move goes two columns or rows, the mask of the window at (x, y) is that of the moves
+--                      that leave (x, y)
 --   joined-leaving  == the masks of five windows, joined, are that of the sixteen moves that leave (x, y)
 --   past-right      == on the right of the floor all cells are blocked
 --   line-leaving    == the masks of three lines of windows, joined, are those of the sixteen moves that leave a vertex
@@ -42,19 +44,19 @@ use Rattle.floor.specs.Window.{WindowMap}
 use Rattle.floor.proofs.Cells.{blocked-inside, blocked-right}
 use Rattle.sight.specs.Sight.{unblocked, pinch}
 use Rattle.moves.specs.declared.Move.{Move}
-use Rattle.moves.specs.declared.Rows.{Rows}
-use Rattle.moves.specs.Moves.{rowCount, rowMove, rowAt, moveAt}
+use Rattle.moves.specs.declared.Directions.{Directions}
+use Rattle.moves.specs.Moves.{dirCount, dirMove, dirAt, moveAt}
 use Rattle.moves.specs.Steps.{up, down, endIf}
 use Rattle.moves.specs.Leaving.{leaves}
 use Rattle.moves.specs.Cells.{beside, windowBlocked, centre}
-use Rattle.moves.specs.Table.{isSome, Listed, sixteenRows, Within, Short, narrow, lawfulRows}
-use Rattle.moves.proofs.Table.{lawful-move, listed-lawful, same-row, each-listed, sixteen-listed}
+use Rattle.moves.specs.Table.{isSome, Listed, sixteenDirs, Within, Short, narrow, lawfulDirs}
+use Rattle.moves.proofs.Table.{lawful-move, listed-lawful, same-dir, each-listed, sixteen-listed}
 use Rattle.moves.proofs.Cells.{cells-tell}
-use Rattle.masks.specs.Masks.{rowIf, pinchBit, pinchMask, Leaving, LeavingRow}
+use Rattle.masks.specs.Masks.{dirIf, pinchBit, pinchMask, Leaving, LeavingRow}
 use Rattle.masks.specs.Windows.{windowAt, pinchOf, openIn, startOf, Window, WindowsTo, WindowRow, WindowLines}
-use Rattle.masks.specs.Windows.{unitRows, allBits, unitMask, leftMask, rightMask, upperMask, lowerMask}
+use Rattle.masks.specs.Windows.{unitDirs, allBits, unitMask, leftMask, rightMask, upperMask, lowerMask}
 use Rattle.masks.specs.Windows.{joinedMask}
-use Rattle.masks.proofs.Masks.{leaves-row}
+use Rattle.masks.proofs.Masks.{leaves-dir}
 
 -- ---- the four cells
 
@@ -150,94 +152,97 @@ start-centre (negsuc (suc (suc n))) h = absurd (omega arith)
 
 -- ---- the mask of one window
 
--- A bit of a row is below 2^32.
-pub row-shifted : (k : ℕ) → k < rowCount → 1 * 2 ^ k % 4294967296 ≡ 2 ^ k
+-- A bit of a direction is below 2^32.
+pub dir-shifted : (k : ℕ) → k < dirCount → 1 * 2 ^ k % 4294967296 ≡ 2 ^ k
 unfolding bounded-opened
-row-shifted k l = eqb-true _ _ (every-at rowCount (λ k. eqb (1 * 2 ^ k % 4294967296) (2 ^ k)) refl k l)
+dir-shifted k l = eqb-true _ _ (every-at dirCount (λ k. eqb (1 * 2 ^ k % 4294967296) (2 ^ k)) refl k l)
 
--- A mask has row k where it is the row of one of the first n moves of r, and that move passes the test.
-pub record Gathered (r : Rows) (T : ℕ → Bool) (n mask : ℕ) : Type 0 where
-  pub at : (k : ℕ) → bit mask k ≡ any n (λ m. T m && eqb (rowAt r m) k)
+-- A mask has direction k where it is the direction of one of the first n moves of r, and that move passes the test.
+pub record Gathered (r : Directions) (T : ℕ → Bool) (n mask : ℕ) : Type 0 where
+  pub at : (k : ℕ) → bit mask k ≡ any n (λ m. T m && eqb (dirAt r m) k)
 
-pub gathered-none : {r : Rows} {T : ℕ → Bool} → Gathered r T 0 0
+pub gathered-none : {r : Directions} {T : ℕ → Bool} → Gathered r T 0 0
 unfolding any
 gathered-none = record { at = bit-zero }
 
-pub gathered-more : {r : Rows} {T : ℕ → Bool} {n mask t : ℕ} → Gathered r T n mask → t ≡ pick (T n) (2 ^ rowAt r n) 0
+pub gathered-more : {r : Directions} {T : ℕ → Bool} {n mask t : ℕ} → Gathered r T n mask
+    → t ≡ pick (T n) (2 ^ dirAt r n) 0
     → Gathered r T (suc n) (bitOr mask t)
 unfolding any
 gathered-more {r} {T} {n} {mask} G e = record {
-  at = λ k. rw e (bit-or mask (pick (T n) (2 ^ rowAt r n) 0) k ∙ ap₂ _||_ (G .at k) (row-bit (T n) (rowAt r n) k));
+  at = λ k. rw e (bit-or mask (pick (T n) (2 ^ dirAt r n) 0) k ∙ ap₂ _||_ (G .at k) (row-bit (T n) (dirAt r n) k));
 }
 
--- No row of a neighbourhood has the bit of a pinch.
-pub row-apart : {r : Rows} → Listed r → (m : ℕ) → m < r .count → rowAt r m ≡ pinchBit → ⊥
+-- No direction of a neighbourhood has the bit of a pinch.
+pub dir-apart : {r : Directions} → Listed r → (m : ℕ) → m < r .count → dirAt r m ≡ pinchBit → ⊥
 unfolding bounded-opened
-row-apart {r} h m l e =
-    not-both _ (eq-eqb (rowAt r m) pinchBit e)
+dir-apart {r} h m l e =
+    not-both _ (eq-eqb (dirAt r m) pinchBit e)
     (not-true _
-    (every-at (r .count) (λ m. not (eqb (rowAt r m) pinchBit))
-    (each-listed (λ r. every (r .count) (λ m. not (eqb (rowAt r m) pinchBit)) ≡ true) refl refl refl h) m l))
+    (every-at (r .count) (λ m. not (eqb (dirAt r m) pinchBit))
+    (each-listed (λ r. every (r .count) (λ m. not (eqb (dirAt r m) pinchBit)) ≡ true) refl refl refl h) m l))
 
-module _ {r : Rows} (listed : Listed r) where
-  gathered-row : {T : ℕ → Bool} {mask : ℕ} → Gathered r T (r .count) mask → (m : ℕ) → m < r .count
-      → bit mask (rowAt r m) ≡ T m
-  gathered-row {T} {mask} G m l =
-      let test : ℕ → Bool = λ n. T n && eqb (rowAt r n) (rowAt r m) in
-      G .at (rowAt r m)
+module _ {r : Directions} (listed : Listed r) where
+  gathered-dir : {T : ℕ → Bool} {mask : ℕ} → Gathered r T (r .count) mask → (m : ℕ) → m < r .count
+      → bit mask (dirAt r m) ≡ T m
+  gathered-dir {T} {mask} G m l =
+      let test : ℕ → Bool = λ n. T n && eqb (dirAt r n) (dirAt r m) in
+      G .at (dirAt r m)
       ∙ iff-eq (any (r .count) test) (T m)
       (λ t.
       let c = any-cases (r .count) test t in
-      let e = eqb-true (rowAt r (c .0)) (rowAt r m) (and-right (T (c .0)) (eqb (rowAt r (c .0)) (rowAt r m)) (c .2)) in
-      ap T (sym (same-row r (listed-lawful listed) (c .0) m (c .1) l e)) ∙ and-left (T (c .0)) (eqb (rowAt r (c .0)) (rowAt r m)) (c .2))
-      (λ t. any-one (r .count) m test l (and-intro _ _ t (eq-eqb (rowAt r m) (rowAt r m) refl)))
+      let e = eqb-true (dirAt r (c .0)) (dirAt r m) (and-right (T (c .0)) (eqb (dirAt r (c .0)) (dirAt r m)) (c .2)) in
+      ap T (sym (same-dir r (listed-lawful listed) (c .0) m (c .1) l e)) ∙ and-left (T (c .0))
+      (eqb (dirAt r (c .0)) (dirAt r m)) (c .2))
+      (λ t. any-one (r .count) m test l (and-intro _ _ t (eq-eqb (dirAt r m) (dirAt r m) refl)))
 
-  -- No bit but those of the rows is set.
+  -- No bit but those of the directions is set.
   gathered-past : {T : ℕ → Bool} {mask : ℕ} → Gathered r T (r .count) mask → bit mask pinchBit ≡ false
-  gathered-past {T} {mask} G = G .at pinchBit ∙ cases (any (r .count) (λ m. T m && eqb (rowAt r m) pinchBit)) refl
+  gathered-past {T} {mask} G = G .at pinchBit ∙ cases (any (r .count) (λ m. T m && eqb (dirAt r m) pinchBit)) refl
     where
-      cases : (t : Bool) → any (r .count) (λ m. T m && eqb (rowAt r m) pinchBit) ≡ t → t ≡ false
+      cases : (t : Bool) → any (r .count) (λ m. T m && eqb (dirAt r m) pinchBit) ≡ t → t ≡ false
       cases false e = refl
       cases true e =
-          let c = any-cases (r .count) (λ m. T m && eqb (rowAt r m) pinchBit) e in
-          let is = eqb-true (rowAt r (c .0)) pinchBit (and-right (T (c .0)) (eqb (rowAt r (c .0)) pinchBit) (c .2)) in
-          absurd (row-apart listed (c .0) (c .1) is)
+          let c = any-cases (r .count) (λ m. T m && eqb (dirAt r m) pinchBit) e in
+          let is = eqb-true (dirAt r (c .0)) pinchBit (and-right (T (c .0)) (eqb (dirAt r (c .0)) pinchBit) (c .2)) in
+          absurd (dir-apart listed (c .0) (c .1) is)
 
   pub gathered-all : {b mask : ℕ} → pinchOf (bit b 0) (bit b 1) (bit b 2) (bit b 3) ≡ false
       → Gathered r (λ m. openIn (moveAt r m) (bit b 0) (bit b 1) (bit b 2) (bit b 3)) (r .count) mask → Window r b mask
-  gathered-all free G = record { rows = λ m l. gathered-row G m l; mark = gathered-past G ∙ sym free }
+  gathered-all free G = record { dirs = λ m l. gathered-dir G m l; mark = gathered-past G ∙ sym free }
 
-  -- No row's bit is set in the mask of a pinch.
-  pinch-row : (m : ℕ) → m < r .count → bit pinchMask (rowAt r m) ≡ false
+  -- No direction's bit is set in the mask of a pinch.
+  pinch-dir : (m : ℕ) → m < r .count → bit pinchMask (dirAt r m) ≡ false
   unfolding bounded-opened
-  pinch-row m l =
+  pinch-dir m l =
       not-true _
-      (every-at (r .count) (λ m. not (bit pinchMask (rowAt r m)))
-      (each-listed (λ r. every (r .count) (λ m. not (bit pinchMask (rowAt r m))) ≡ true) refl refl refl listed) m l)
+      (every-at (r .count) (λ m. not (bit pinchMask (dirAt r m)))
+      (each-listed (λ r. every (r .count) (λ m. not (bit pinchMask (dirAt r m))) ≡ true) refl refl refl listed) m l)
 
   pub pinch-alone : {b : ℕ} → pinchOf (bit b 0) (bit b 1) (bit b 2) (bit b 3) ≡ true → Window r b pinchMask
   pinch-alone {b} is = record {
-    rows = λ m l.
-        pinch-row m l
+    dirs = λ m l.
+        pinch-dir m l
         ∙ sym (rw is (and-false (not (windowBlocked (moveAt r m .dx) (moveAt r m .dy) (bit b 0) (bit b 1) (bit b 2) (bit b 3)))));
     mark = sym is;
   }
 
--- The mask of a table, for the rows that it has.
-pub window-within : {r t : Rows} {b n : ℕ} → Within r t → Window t b n → Window r b n
+-- The mask of a table, for the directions that it has.
+pub window-within : {r t : Directions} {b n : ℕ} → Within r t → Window t b n → Window r b n
 window-within {r} {t} {b} {n} I W = record {
-  rows = λ m l.
+  dirs = λ m l.
       let k = I .at m l in
-      subst (λ k. bit n k ≡ openIn (rowMove k) (bit b 0) (bit b 1) (bit b 2) (bit b 3)) (sym (k .2)) (W .rows (k .0) (k .1));
+      subst (λ k. bit n k ≡ openIn (dirMove k) (bit b 0) (bit b 1) (bit b 2) (bit b 3)) (sym (k .2))
+      (W .dirs (k .0) (k .1));
   mark = W .mark;
 }
 
 -- ---- the sixteen
 
-pub windows-none : {r : Rows} {l : List ℕ} → length l ≡ 16 → WindowsTo r 0 l
+pub windows-none : {r : Directions} {l : List ℕ} → length l ≡ 16 → WindowsTo r 0 l
 windows-none e = record { len = e; at = λ b h. absurd (omega arith) }
 
-pub windows-more : {r : Rows} {k n : ℕ} {l : List ℕ} → WindowsTo r k l → k < 16 → Window r k n
+pub windows-more : {r : Directions} {k n : ℕ} {l : List ℕ} → WindowsTo r k l → k < 16 → Window r k n
     → WindowsTo r (suc k) (set l k n)
 windows-more {r} {k} {n} {l} W i M = record {
   len = length-set l k n ∙ W .len;
@@ -248,13 +253,13 @@ windows-more {r} {k} {n} {l} W i M = record {
 }
 
 -- The mask of the window at (x, y), by its cells.
-pub record Cells (r : Rows) (f : Floor) (x y n : ℕ) : Type 0 where
-  pub rows : (m : ℕ) → m < r .count
-      → bit n (rowAt r m)
+pub record Cells (r : Directions) (f : Floor) (x y n : ℕ) : Type 0 where
+  pub dirs : (m : ℕ) → m < r .count
+      → bit n (dirAt r m)
       ≡ openIn (moveAt r m) (blocked f x y) (blocked f (suc x) y) (blocked f x (suc y)) (blocked f (suc x) (suc y))
   pub mark : bit n pinchBit ≡ pinch f x y
 
-pub window-read : {r : Rows} {l : List ℕ} {b : ℕ} → WindowsTo r 16 l → (f : Floor) (x y : ℕ) → b ≡ windowAt f x y
+pub window-read : {r : Directions} {l : List ℕ} {b : ℕ} → WindowsTo r 16 l → (f : Floor) (x y : ℕ) → b ≡ windowAt f x y
     → Cells r f x y (getD l b 0)
 unfolding pinch
 window-read {r} {l} {b} W f x y e =
@@ -262,7 +267,7 @@ window-read {r} {l} {b} W f x y e =
     let B : Bits (blocked f x y) (blocked f (suc x) y) (blocked f x (suc y)) (blocked f (suc x) (suc y)) b =
     rw e (window-cells f x y) in
     record {
-      rows = λ m l. w .rows m l ∙ rw (B .first, B .second, B .third, B .fourth);
+      dirs = λ m l. w .dirs m l ∙ rw (B .first, B .second, B .third, B .fourth);
       mark = w .mark ∙ rw (B .first, B .second, B .third, B .fourth);
     }
 
@@ -279,14 +284,15 @@ read-more {f} {y} {n} {b} {t} {l} R i e = record {
       rw (s, getD-set-same l n (getD t b 0) 0 (omega (arith, R .len))) (ap (λ k. getD t k 0) e)) (le-or-lt (suc x) n);
 }
 
-pub listed-sixteen : {r : Rows} → Listed r → r .count ≡ 16 → r ≡ sixteenRows
+pub listed-sixteen : {r : Directions} → Listed r → r .count ≡ 16 → r ≡ sixteenDirs
 listed-sixteen h =
-    each-listed (λ r. r .count ≡ 16 → r ≡ sixteenRows) (λ e. absurd (omega arith)) (λ e. absurd (omega arith)) (λ e. refl) h
+    each-listed (λ r. r .count ≡ 16 → r ≡ sixteenDirs) (λ e. absurd (omega arith)) (λ e. absurd (omega arith))
+    (λ e. refl) h
 
-pub listed-unit : {r : Rows} → Listed r → (r .count ≡ 16 → ⊥) → unitRows r ≡ true
+pub listed-unit : {r : Directions} → Listed r → (r .count ≡ 16 → ⊥) → unitDirs r ≡ true
 unfolding bounded-opened
 listed-unit h =
-    each-listed (λ r. (r .count ≡ 16 → ⊥) → unitRows r ≡ true) (λ n. refl) (λ n. refl) (λ n. absurd (n refl)) h
+    each-listed (λ r. (r .count ≡ 16 → ⊥) → unitDirs r ≡ true) (λ n. refl) (λ n. refl) (λ n. absurd (n refl)) h
 
 -- ---- the mask of a vertex
 
@@ -298,7 +304,7 @@ centre-unit (pos (suc (suc n))) a h = absurd (omega arith)
 centre-unit (negsuc zero) a h = refl
 centre-unit (negsuc (suc n)) a h = absurd (omega arith)
 
-module _ {r : Rows} (listed : Listed r) (f : Floor) (x y : ℕ) (on : x ≤ f .wide) (in-y : y ≤ f .high) where
+module _ {r : Directions} (listed : Listed r) (f : Floor) (x y : ℕ) (on : x ≤ f .wide) (in-y : y ≤ f .high) where
   abbrev closed : ℕ → ℕ → ℕ → Bool
   closed m X Y =
       windowBlocked (moveAt r m .dx) (moveAt r m .dy) (blocked f X Y) (blocked f (suc X) Y) (blocked f X (suc Y))
@@ -306,29 +312,30 @@ module _ {r : Rows} (listed : Listed r) (f : Floor) (x y : ℕ) (on : x ≤ f .w
 
   -- A move that leaves (x, y), by the cells at the vertex between them.
   leaves-told : (m X Y : ℕ) → m < r .count → centre (moveAt r m .dx) x ≡ X → centre (moveAt r m .dy) y ≡ Y
-      → rowIf leaves f x y (rowAt r m) ≡ (not (closed m X Y) && not (pinch f x y))
+      → dirIf leaves f x y (dirAt r m) ≡ (not (closed m X Y) && not (pinch f x y))
   leaves-told m X Y l p q =
       let t = lawful-move r m (listed-lawful listed) l in
-      leaves-row f x y on (rowAt r m)
+      leaves-dir f x y on (dirAt r m)
       ∙ ap (λ b. b && not (pinch f x y))
       (cells-tell f (moveAt r m) x y on in-y (t .is-short) (t .is-narrow)
       ∙ ap₂ (λ i j. not (closed m i j)) p q)
 
-  pub unit-leaving : {n : ℕ} → unitRows r ≡ true → Cells r f x y n → Leaving f r x y n
+  pub unit-leaving : {n : ℕ} → unitDirs r ≡ true → Cells r f x y n → Leaving f r x y n
   unfolding pinch
   unit-leaving u C = record {
-    rows = record {
+    dirs = record {
       at = λ m l.
           let t = every-at (r .count) (λ m. leb (natAbs (moveAt r m .dx)) 1 && leb (natAbs (moveAt r m .dy)) 1) u m l in
           let dx = leb-true _ 1 (and-left (leb (natAbs (moveAt r m .dx)) 1) (leb (natAbs (moveAt r m .dy)) 1) t) in
           let dy = leb-true _ 1 (and-right (leb (natAbs (moveAt r m .dx)) 1) (leb (natAbs (moveAt r m .dy)) 1) t) in
-          C .rows m l ∙ sym (leaves-told m x y l (centre-unit (moveAt r m .dx) x dx) (centre-unit (moveAt r m .dy) y dy));
+          C .dirs m l ∙ sym (leaves-told m x y l (centre-unit (moveAt r m .dx) x dx)
+          (centre-unit (moveAt r m .dy) y dy));
     };
     mark = C .mark;
   }
 
 -- The same of a row.
-pub unit-rows : {r : Rows} {f : Floor} {y : ℕ} {t l : List ℕ} → Listed r → unitRows r ≡ true → y ≤ f .high
+pub unit-rows : {r : Directions} {f : Floor} {y : ℕ} {t l : List ℕ} → Listed r → unitDirs r ≡ true → y ≤ f .high
     → WindowsTo r 16 t → WindowRow f y t (suc (f .wide)) l → LeavingRow f r y (suc (f .wide)) l
 unit-rows {r} {f} {y} {t} {l} listed u in-y W R = record {
   len = R .len;
@@ -463,33 +470,34 @@ module _ (here left right upper lower : ℕ) where
         (bit-and far-mask 0 k ∙ ap (λ t. bit far-mask k && t) (bit-zero k) ∙ and-false (bit far-mask k))
         ∙ or-false (A && bit unitMask k)
 
-module _ (listed : Listed sixteenRows) (f : Floor) (x y : ℕ) (on : x ≤ f .wide) (in-y : y ≤ f .high)
-    {here left right upper lower : ℕ} (H : Cells sixteenRows f x y here) (L : Cells sixteenRows f (x - 1) y left)
-    (R : Cells sixteenRows f (suc x) y right) (U : Cells sixteenRows f x (y - 1) upper)
-    (D : Cells sixteenRows f x (suc y) lower) where
+module _ (listed : Listed sixteenDirs) (f : Floor) (x y : ℕ) (on : x ≤ f .wide) (in-y : y ≤ f .high)
+    {here left right upper lower : ℕ} (H : Cells sixteenDirs f x y here) (L : Cells sixteenDirs f (x - 1) y left)
+    (R : Cells sixteenDirs f (suc x) y right) (U : Cells sixteenDirs f x (y - 1) upper)
+    (D : Cells sixteenDirs f x (suc y) lower) where
   abbrev J : ℕ
   J = joined-with here left right upper lower allBits
 
   module _ (free : pinch f x y ≡ false) where
     abbrev Says : ℕ → Type 0
-    Says m = bit J (rowAt sixteenRows m) ≡ rowIf leaves f x y (rowAt sixteenRows m)
+    Says m = bit J (dirAt sixteenDirs m) ≡ dirIf leaves f x y (dirAt sixteenDirs m)
 
-    abbrev told : (m X Y : ℕ) → m < 16 → centre (moveAt sixteenRows m .dx) x ≡ X → centre (moveAt sixteenRows m .dy) y ≡ Y
-        → rowIf leaves f x y (rowAt sixteenRows m) ≡ (not (closed listed f x y on in-y m X Y) && not (pinch f x y))
+    abbrev told : (m X Y : ℕ) → m < 16 → centre (moveAt sixteenDirs m .dx) x ≡ X
+        → centre (moveAt sixteenDirs m .dy) y ≡ Y
+        → dirIf leaves f x y (dirAt sixteenDirs m) ≡ (not (closed listed f x y on in-y m X Y) && not (pinch f x y))
     told = leaves-told listed f x y on in-y
 
-    unit : (m : ℕ) → m < 16 → bit J (rowAt sixteenRows m) ≡ bit here (rowAt sixteenRows m)
-        → centre (moveAt sixteenRows m .dx) x ≡ x → centre (moveAt sixteenRows m .dy) y ≡ y → Says m
+    unit : (m : ℕ) → m < 16 → bit J (dirAt sixteenDirs m) ≡ bit here (dirAt sixteenDirs m)
+        → centre (moveAt sixteenDirs m .dx) x ≡ x → centre (moveAt sixteenDirs m .dy) y ≡ y → Says m
     unfolding pinch
-    unit m l e p q = e ∙ H .rows m l ∙ sym (told m x y l p q)
+    unit m l e p q = e ∙ H .dirs m l ∙ sym (told m x y l p q)
 
     -- A move by two columns or rows, with its cells at (X, Y).
-    far : (m X Y n : ℕ) → m < 16 → Cells sixteenRows f X Y n → bit J (rowAt sixteenRows m) ≡ bit n (rowAt sixteenRows m)
-        → centre (moveAt sixteenRows m .dx) x ≡ X → centre (moveAt sixteenRows m .dy) y ≡ Y
-        → ((ul ur ll lr : Bool) → openIn (moveAt sixteenRows m) ul ur ll lr
-        ≡ not (windowBlocked (moveAt sixteenRows m .dx) (moveAt sixteenRows m .dy) ul ur ll lr)) → Says m
+    far : (m X Y n : ℕ) → m < 16 → Cells sixteenDirs f X Y n → bit J (dirAt sixteenDirs m) ≡ bit n (dirAt sixteenDirs m)
+        → centre (moveAt sixteenDirs m .dx) x ≡ X → centre (moveAt sixteenDirs m .dy) y ≡ Y
+        → ((ul ur ll lr : Bool) → openIn (moveAt sixteenDirs m) ul ur ll lr
+        ≡ not (windowBlocked (moveAt sixteenDirs m .dx) (moveAt sixteenDirs m .dy) ul ur ll lr)) → Says m
     far m X Y n l C e p q shut =
-        e ∙ C .rows m l ∙ shut (blocked f X Y) (blocked f (suc X) Y) (blocked f X (suc Y)) (blocked f (suc X) (suc Y))
+        e ∙ C .dirs m l ∙ shut (blocked f X Y) (blocked f (suc X) Y) (blocked f X (suc Y)) (blocked f (suc X) (suc Y))
         ∙ sym (told m X Y l p q ∙ rw free (and-true (not (closed listed f x y on in-y m X Y))))
 
     abbrev b : (k : ℕ) → bit J k ≡ five here left right upper lower k (bit unitMask k) (bit leftMask k) (bit rightMask k)
@@ -531,35 +539,36 @@ module _ (listed : Listed sixteenRows) (f : Floor) (x y : ℕ) (on : x ≤ f .wi
         let e : 5 + m ≡ suc (suc (suc (suc (suc m)))) = omega arith in
         subst Says e (says-5 m (omega arith))
 
-  -- The window of a pinch has no row.
-  row-shut : (m : ℕ) → m < 16 → pinch f x y ≡ true → bit here (rowAt sixteenRows m) ≡ false
+  -- The window of a pinch has no direction.
+  row-shut : (m : ℕ) → m < 16 → pinch f x y ≡ true → bit here (dirAt sixteenDirs m) ≡ false
   unfolding pinch
   row-shut m l is =
-      H .rows m l
-      ∙ rw is (and-false (not (windowBlocked (moveAt sixteenRows m .dx) (moveAt sixteenRows m .dy) (blocked f x y) (blocked f (suc x) y)
+      H .dirs m l
+      ∙ rw is (and-false (not
+      (windowBlocked (moveAt sixteenDirs m .dx) (moveAt sixteenDirs m .dy) (blocked f x y) (blocked f (suc x) y)
       (blocked f x (suc y)) (blocked f (suc x) (suc y)))))
 
-  pub joined-leaving : Leaving f sixteenRows x y (joinedMask here left right upper lower)
+  pub joined-leaving : Leaving f sixteenDirs x y (joinedMask here left right upper lower)
   joined-leaving = cases (bit here pinchBit) refl
     where
       cases : (p : Bool) → bit here pinchBit ≡ p
-          → Leaving f sixteenRows x y (joined-with here left right upper lower (pick p 0 allBits))
+          → Leaving f sixteenDirs x y (joined-with here left right upper lower (pick p 0 allBits))
       cases true e =
           let is : pinch f x y ≡ true = sym (H .mark) ∙ e in
           record {
-            rows = record {
+            dirs = record {
               at = λ m l.
-                  none-far here left right upper lower (rowAt sixteenRows m)
-                  ∙ ap (λ t. t && bit unitMask (rowAt sixteenRows m)) (row-shut m l is)
-                  ∙ sym (leaves-row f x y on (rowAt sixteenRows m)
-                  ∙ rw is (and-false (rowIf unblocked f x y (rowAt sixteenRows m))));
+                  none-far here left right upper lower (dirAt sixteenDirs m)
+                  ∙ ap (λ t. t && bit unitMask (dirAt sixteenDirs m)) (row-shut m l is)
+                  ∙ sym (leaves-dir f x y on (dirAt sixteenDirs m)
+                  ∙ rw is (and-false (dirIf unblocked f x y (dirAt sixteenDirs m))));
             };
             mark = none-far here left right upper lower pinchBit ∙ and-true (bit here pinchBit) ∙ H .mark;
           }
       cases false e =
           let free : pinch f x y ≡ false = sym (H .mark) ∙ e in
           record {
-            rows = record { at = λ m l. says free m l };
+            dirs = record { at = λ m l. says free m l };
             mark =
                 joined-bit here left right upper lower allBits pinchBit ∙ of-here here left right upper lower pinchBit ∙ H .mark;
           }
@@ -576,15 +585,15 @@ past-right f y =
       blocked-right f (suc (suc (f .wide))) (suc y) (omega arith),
     )
 
-module _ {f : Floor} {y : ℕ} {t above here below : List ℕ} (W : WindowsTo sixteenRows 16 t)
+module _ {f : Floor} {y : ℕ} {t above here below : List ℕ} (W : WindowsTo sixteenDirs 16 t)
     (L : WindowLines f y t above here below) (in-y : y ≤ f .high) where
   pub line-leaving : (x : ℕ) {left right : ℕ} → x ≤ f .wide → left ≡ getD t (windowAt f (x - 1) y) 0
       → right ≡ getD t (windowAt f (suc x) y) 0
-      → Leaving f sixteenRows x y (joinedMask (getD here x 0) left right (getD above x 0) (getD below x 0))
+      → Leaving f sixteenDirs x y (joinedMask (getD here x 0) left right (getD above x 0) (getD below x 0))
   line-leaving x on l r =
       joined-leaving sixteen-listed f x y on in-y
-      (subst (Cells sixteenRows f x y) (sym (L .middle .at x (omega arith))) (window-read W f x y refl))
-      (subst (Cells sixteenRows f (x - 1) y) (sym l) (window-read W f (x - 1) y refl))
-      (subst (Cells sixteenRows f (suc x) y) (sym r) (window-read W f (suc x) y refl))
-      (subst (Cells sixteenRows f x (y - 1)) (sym (L .upper .at x (omega arith))) (window-read W f x (y - 1) refl))
-      (subst (Cells sixteenRows f x (suc y)) (sym (L .lower .at x (omega arith))) (window-read W f x (suc y) refl))
+      (subst (Cells sixteenDirs f x y) (sym (L .middle .at x (omega arith))) (window-read W f x y refl))
+      (subst (Cells sixteenDirs f (x - 1) y) (sym l) (window-read W f (x - 1) y refl))
+      (subst (Cells sixteenDirs f (suc x) y) (sym r) (window-read W f (suc x) y refl))
+      (subst (Cells sixteenDirs f x (y - 1)) (sym (L .upper .at x (omega arith))) (window-read W f x (y - 1) refl))
+      (subst (Cells sixteenDirs f x (suc y)) (sym (L .lower .at x (omega arith))) (window-read W f x (suc y) refl))

@@ -8,17 +8,17 @@
 --   openIn m ul ur ll lr == no cell and no step is in the way of a move of these offsets that has these four cells beside it,
 --                       and their vertex is no pinch
 --   startOf d        == the line of a floor of 2 by 2 from which an offset d has all its cells in that floor
---   Window r b n     == n is the mask of the rows r where the four cells are b
+--   Window r b n     == n is the mask of the directions r where the four cells are b
 --   WindowsTo r k l  == the list l has these masks for the numbers below k
 --   WindowRow f y t n l == the list l begins with the masks, of those in t, of the windows at the first n vertices of row y
---   WindowLines f y t above here below == these lists are such masks for row y and for the rows above and below it
---   unitRows r       == no move of the rows r goes two columns or two rows
---   allBits          == the mask with the bits of all rows
---   unitMask, leftMask, rightMask, upperMask, lowerMask == of the rows of the sixteen, those of the eight moves by at most
---                       one column and one row, with the bit of a pinch, and of those by two, those that go left, right,
---                       up and down
---   joinedMask here left right upper lower == the rows of each from the masks of five windows; those of the first alone
---                       where that one is a pinch
+--   WindowLines f y t above here below == `WindowRow` of the list above at y - 1, of here at y and of below at y + 1
+--   unitDirs r       == no move of the directions r goes two columns or two rows
+--   allBits          == the mask with the bits of all directions
+--   unitMask, leftMask, rightMask, upperMask, lowerMask == of the directions of the sixteen, those of the eight moves
+--                       by at most one column and one row, with the bit of a pinch, and of those by two, those that go
+--                       left, right, up and down
+--   joinedMask here left right upper lower == the directions of each from the masks of five windows; those of the first
+--                       alone where that one is a pinch
 use Prim.Native.Nat.{ℕ, suc, _+_, _-_, _*_, _/_, _≤_, _<_}
 use mathlib.Core.Path.{_≡_}
 use mathlib.Core.Bool.{Bool, _&&_, _||_, not}
@@ -31,8 +31,8 @@ use Rattle.basics.specs.Bounded.{pick, every}
 use Rattle.basics.specs.Bits.{bit}
 use Rattle.floor.specs.Floor.{Floor, blocked}
 use Rattle.moves.specs.declared.Move.{Move}
-use Rattle.moves.specs.declared.Rows.{Rows}
-use Rattle.moves.specs.Moves.{rowAt, moveAt}
+use Rattle.moves.specs.declared.Directions.{Directions}
+use Rattle.moves.specs.Moves.{dirAt, moveAt}
 use Rattle.moves.specs.Steps.{up, down}
 use Rattle.moves.specs.Cells.{windowBlocked}
 use Rattle.masks.specs.Masks.{pinchBit}
@@ -52,11 +52,11 @@ openIn m ul ur ll lr = not (windowBlocked (m .dx) (m .dy) ul ur ll lr) && not (p
 abbrev pub startOf : ℤ → ℕ
 startOf d = 1 + down d / 2 - up d / 2
 
-pub record Window (r : Rows) (b n : ℕ) : Type 0 where
-  pub rows : (m : ℕ) → m < r .count → bit n (rowAt r m) ≡ openIn (moveAt r m) (bit b 0) (bit b 1) (bit b 2) (bit b 3)
+pub record Window (r : Directions) (b n : ℕ) : Type 0 where
+  pub dirs : (m : ℕ) → m < r .count → bit n (dirAt r m) ≡ openIn (moveAt r m) (bit b 0) (bit b 1) (bit b 2) (bit b 3)
   pub mark : bit n pinchBit ≡ pinchOf (bit b 0) (bit b 1) (bit b 2) (bit b 3)
 
-pub record WindowsTo (r : Rows) (k : ℕ) (l : List ℕ) : Type 0 where
+pub record WindowsTo (r : Directions) (k : ℕ) (l : List ℕ) : Type 0 where
   pub len : length l ≡ 16
   pub at : (b : ℕ) → b < k → Window r b (getD l b 0)
 
@@ -69,10 +69,10 @@ pub record WindowLines (f : Floor) (y : ℕ) (t above here below : List ℕ) : T
   pub middle : WindowRow f y t (suc (f .wide)) here
   pub lower : WindowRow f (suc y) t (suc (f .wide)) below
 
--- ---- the rows of the sixteen by where their cells are
+-- ---- the directions of the sixteen by where their cells are
 
-abbrev pub unitRows : Rows → Bool
-unitRows r = every (r .count) (λ m. leb (natAbs (moveAt r m .dx)) 1 && leb (natAbs (moveAt r m .dy)) 1)
+abbrev pub unitDirs : Directions → Bool
+unitDirs r = every (r .count) (λ m. leb (natAbs (moveAt r m .dx)) 1 && leb (natAbs (moveAt r m .dy)) 1)
 
 abbrev pub allBits : ℕ
 allBits = 4294967295

@@ -19,15 +19,15 @@ use Rattle.floor.specs.declared.Shape.{Shape}
 use Rattle.floor.specs.declared.Shape.the-variants.{Good, Refused as BadShape}
 use Rattle.sight.specs.Sight.{pinch}
 use Rattle.moves.specs.declared.Neighbourhood.{Neighbourhood}
-use Rattle.moves.specs.declared.Neighbourhood.the-variants.{Known, Unknown}
+use Rattle.moves.specs.declared.Neighbourhood.the-variants.{Known, Refused as NotKnown}
 use Rattle.moves.specs.Moves.{neighbourhoodOf}
-use Rattle.grid.specs.Grid.{orUnfit, withRows, pinchShape, endsShape, jobOf}
-use Rattle.grid.specs.declared.Job.{Job}
-use Rattle.grid.specs.declared.Job.the-variants.{Fit, Unfit}
+use Rattle.grid.specs.Grid.{orRefused, withDirs, pinchShape, endsShape, jobShape}
+use Rattle.grid.specs.declared.JobShape.{JobShape}
+use Rattle.grid.specs.declared.JobShape.the-variants.{Fit, Refused as BadJob}
 use Rattle.mending.specs.declared.Lengths.{Lengths}
 use Rattle.mending.specs.declared.Mended.{Mended}
 use Rattle.mending.specs.declared.Mended.the-variants.{Route, NoRoute, Refused}
-use Rattle.mending.specs.Mending.{ifSized, mendJob, mendNumber, mendPoints, mendDifferences, noDifferences}
+use Rattle.mending.specs.Mending.{ifSized, mendShape, mendNumber, mendPoints, mendDifferences, noDifferences}
 
 abbrev pub other : ℕ → Bool
 other n = not (eqb n 0 || eqb n 7)
@@ -38,9 +38,9 @@ abbrev otherShape : Shape → Bool
 otherShape Good = true
 otherShape (BadShape r) = other (refusalNumber r)
 
-abbrev otherJob : Job → Bool
-otherJob (Fit rows) = true
-otherJob (Unfit r) = other (refusalNumber r)
+abbrev otherJob : JobShape → Bool
+otherJob (Fit dirs) = true
+otherJob (BadJob r) = other (refusalNumber r)
 
 record OtherShape (s : Shape) : Type 0 where
   is : otherShape s ≡ true
@@ -60,19 +60,19 @@ pick-refused : (b : Bool) (r : Refusal) → other (refusalNumber r) ≡ true →
 pick-refused true r e = record { is = e }
 pick-refused false r e = record { is = refl }
 
-rows-other : (n : Neighbourhood) (s : Shape) → otherShape s ≡ true → otherJob (withRows n s) ≡ true
-rows-other (Known r) Good e = refl
-rows-other (Known r) (BadShape z) e = e
-rows-other Unknown s e = refl
+dirs-other : (n : Neighbourhood) (s : Shape) → otherShape s ≡ true → otherJob (withDirs n s) ≡ true
+dirs-other (Known r) Good e = refl
+dirs-other (Known r) (BadShape z) e = e
+dirs-other NotKnown s e = refl
 
-unfit-other : (s : Shape) (j : Job) → otherShape s ≡ true → otherJob j ≡ true → otherJob (orUnfit s j) ≡ true
-unfit-other Good j e q = q
-unfit-other (BadShape z) j e q = e
+refused-other : (s : Shape) (j : JobShape) → otherShape s ≡ true → otherJob j ≡ true → otherJob (orRefused s j) ≡ true
+refused-other Good j e q = q
+refused-other (BadShape z) j e q = e
 
-sized-other : (z : Bool) (j : Job) → otherJob j ≡ true → otherJob (ifSized z j) ≡ true
-sized-other true (Fit rows) e = refl
-sized-other false (Fit rows) e = refl
-sized-other z (Unfit r) e = e
+sized-other : (z : Bool) (j : JobShape) → otherJob j ≡ true → otherJob (ifSized z j) ≡ true
+sized-other true (Fit dirs) e = refl
+sized-other false (Fit dirs) e = refl
+sized-other z (BadJob r) e = e
 
 -- ---- the operation's
 
@@ -98,17 +98,18 @@ module _ (w h : ℕ) (map : List ℕ) where
       then-other (then-other (end-other a) (end-other b)) (then-other (pinch-other a) (pinch-other b))
 
   module _ (nb a b : ℕ) where
-    job-other : otherJob (jobOf w h map nb a b) ≡ true
-    unfolding jobOf
+    job-other : otherJob (jobShape w h map nb a b) ≡ true
+    unfolding jobShape
     job-other =
         let ends = endsShape w h map a b in
-        unfit-other (floorShape w h map) (withRows (neighbourhoodOf nb) ends) (floor-other .is)
-        (rows-other (neighbourhoodOf nb) ends (ends-other a b .is))
+        refused-other (floorShape w h map) (withDirs (neighbourhoodOf nb) ends) (floor-other .is)
+        (dirs-other (neighbourhoodOf nb) ends (ends-other a b .is))
 
-    pub mend-other : (old second : Lengths) (work : ℕ) {z : Refusal} → mendJob w h map nb a b old second work ≡ Unfit z
+    pub mend-other : (old second : Lengths) (work : ℕ) {z : Refusal}
+        → mendShape w h map nb a b old second work ≡ BadJob z
         → other (refusalNumber z) ≡ true
-    unfolding mendJob
-    mend-other old second work e = ap otherJob (sym e) ∙ sized-other _ (jobOf w h map nb a b) job-other
+    unfolding mendShape
+    mend-other old second work e = ap otherJob (sym e) ∙ sized-other _ (jobShape w h map nb a b) job-other
 
 pub other-counts : (r : Mended) → other (mendNumber r) ≡ true → mendDifferences r ≡ noDifferences
 other-counts (Route n c) e = absurd (true≢false (sym e))

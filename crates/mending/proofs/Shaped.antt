@@ -1,8 +1,8 @@
 -- The shape of the operation's input as the code tests it, and what each step of the code says of the answer.
 --
---   mend-unfit, -old, -second, -work, -fit == the shape by the tests in order
+--   mend-refused, -old, -second, -work, -fit == the shape by the tests in order
 --   job-is-fit, job-mendable == what a fit job with slices of the right lengths has
---   mends-unfit, mends-fit   == the operation's answer by the shape
+--   mends-refused, mends-fit == the operation's answer by the shape
 --   plan-finishable          == a job can be finished once the costs from its start are filled
 --   planned-of               == the costs and the finished job are the planner's sheet
 --   alike-shaped             == the slices of two sheets of v places each are as long as each other
@@ -20,14 +20,14 @@ use Rattle.basics.proofs.Bools.{true-or-false, and-left, and-right}
 use Rattle.floor.specs.Floor.{floorOf, vertices}
 use Rattle.floor.specs.declared.Refusal.{Refusal}
 use Rattle.floor.specs.declared.Refusal.the-variants.{SliceLength}
-use Rattle.moves.specs.declared.Rows.{Rows}
+use Rattle.moves.specs.declared.Directions.{Directions}
 use Rattle.paths.specs.Graph.{Graph}
 use Rattle.paths.specs.Sheet.{Sheet, sheetOf, joined, fits, routeSheet, noRouteSheet}
 use Rattle.paths.specs.Local.{Shaped}
-use Rattle.grid.specs.Grid.{floorGraph, jobOf}
-use Rattle.grid.specs.declared.Job.{Job}
-use Rattle.grid.specs.declared.Job.the-variants.{Fit, Unfit}
-use Rattle.grid.proofs.Jobs.{good-job, unfit-fit}
+use Rattle.grid.specs.Grid.{floorGraph, jobShape}
+use Rattle.grid.specs.declared.JobShape.{JobShape}
+use Rattle.grid.specs.declared.JobShape.the-variants.{Fit, Refused as BadJob}
+use Rattle.grid.proofs.Jobs.{good-job, refused-fit}
 use Rattle.distances.specs.Costs.{FilledCosts}
 use Rattle.planner.specs.declared.Planned.{Planned}
 use Rattle.planner.specs.Plan.{Slices, routeAnswer, routeLeft, planNumber, planPoints}
@@ -49,8 +49,8 @@ use Rattle.mending.specs.Mending.{
   sheetLengths,
   sheetSized,
   ifSized,
-  mendJob,
-  jobFor,
+  mendShape,
+  shapeFor,
   mendAnswer,
   mendLeft,
   Mends,
@@ -59,22 +59,22 @@ use Rattle.mending.specs.Known.{answerBy, AlikeSheets, Plannable, Planne
 
 -- ---- the shape
 
-module _ (w h : ℕ) (map : List ℕ) (nb a b : ℕ) (old second : Lengths) (work : ℕ) (j : Job)
-    (told : j ≡ jobOf w h map nb a b) where
-  pub mend-unfit : (z : Refusal) → j ≡ Unfit z → j ≡ mendJob w h map nb a b old second work
-  unfolding mendJob
-  mend-unfit z t = let e = sym told ∙ t in rw (e, t)
+module _ (w h : ℕ) (map : List ℕ) (nb a b : ℕ) (old second : Lengths) (work : ℕ) (j : JobShape)
+    (told : j ≡ jobShape w h map nb a b) where
+  pub mend-refused : (z : Refusal) → j ≡ BadJob z → j ≡ mendShape w h map nb a b old second work
+  unfolding mendShape
+  mend-refused z t = let e = sym told ∙ t in rw (e, t)
 
-  module _ (rows : Rows) (t : j ≡ Fit rows) where
-    fit : jobOf w h map nb a b ≡ Fit rows
+  module _ (dirs : Directions) (t : j ≡ Fit dirs) where
+    fit : jobShape w h map nb a b ≡ Fit dirs
     fit = sym told ∙ t
 
     module _ (v : ℕ) (count : v ≡ vertices w h) (p : Bool) (first : p ≡ sheetSized v old) where
       first-is : p ≡ sheetSized (vertices w h) old
       first-is = rw count at first
 
-      pub mend-old : not p ≡ true → Unfit SliceLength ≡ mendJob w h map nb a b old second work
-      unfolding mendJob
+      pub mend-old : not p ≡ true → BadJob SliceLength ≡ mendShape w h map nb a b old second work
+      unfolding mendShape
       mend-old n = rw (fit, sym first-is ∙ not-true p n)
 
       module _ (passed : not p ≡ false) (q : Bool) (last : q ≡ sheetSized v second) where
@@ -84,50 +84,50 @@ module _ (w h : ℕ) (map : List ℕ) (nb a b : ℕ) (old second : Lengths) (wor
         last-is : q ≡ sheetSized (vertices w h) second
         last-is = rw count at last
 
-        pub mend-second : not q ≡ true → Unfit SliceLength ≡ mendJob w h map nb a b old second work
-        unfolding mendJob
+        pub mend-second : not q ≡ true → BadJob SliceLength ≡ mendShape w h map nb a b old second work
+        unfolding mendShape
         mend-second n = rw (fit, first-good, sym last-is ∙ not-true q n)
 
         module _ (passed′ : not q ≡ false) where
           last-good : sheetSized (vertices w h) second ≡ true
           last-good = sym last-is ∙ not-false q passed′
 
-          pub mend-work : (work ≡ 4 * v → ⊥) → Unfit SliceLength ≡ mendJob w h map nb a b old second work
-          unfolding mendJob
+          pub mend-work : (work ≡ 4 * v → ⊥) → BadJob SliceLength ≡ mendShape w h map nb a b old second work
+          unfolding mendShape
           mend-work n = rw (fit, first-good, last-good, ne-eqb work (4 * vertices w h) (rw count at n))
 
-          pub mend-fit : work ≡ 4 * v → Fit rows ≡ mendJob w h map nb a b old second work
-          unfolding mendJob
+          pub mend-fit : work ≡ 4 * v → Fit dirs ≡ mendShape w h map nb a b old second work
+          unfolding mendShape
           mend-fit n = rw (fit, first-good, last-good, eq-eqb work (4 * vertices w h) (rw count at n))
 
 -- What a fit job with slices of the right lengths is.
-sized-fit : (z : Bool) (j : Job) {rows : Rows} → ifSized z j ≡ Fit rows → (z ≡ true) × (j ≡ Fit rows)
+sized-fit : (z : Bool) (j : JobShape) {dirs : Directions} → ifSized z j ≡ Fit dirs → (z ≡ true) × (j ≡ Fit dirs)
 sized-fit true (Fit r) e = (refl, e)
-sized-fit false (Fit r) e = unfit-fit e
-sized-fit z (Unfit r) e = unfit-fit e
+sized-fit false (Fit r) e = refused-fit e
+sized-fit z (BadJob r) e = refused-fit e
 
 sized-shaped : (v : ℕ) (s : Sheet) → sheetSized v (sheetLengths s) ≡ true → Shaped v s
 unfolding sheetSized sheetTested
 sized-shaped v s t = tested-shaped v s t
 
-module _ (w h : ℕ) (map : List ℕ) (nb a b : ℕ) (old : Sheet) (s : MendSlices) (rows : Rows)
-    (fit : jobFor w h map nb a b old s ≡ Fit rows) where
-  pub job-is-fit : jobOf w h map nb a b ≡ Fit rows
-  unfolding mendJob
-  job-is-fit = sized-fit _ (jobOf w h map nb a b) fit .1
+module _ (w h : ℕ) (map : List ℕ) (nb a b : ℕ) (old : Sheet) (s : MendSlices) (dirs : Directions)
+    (fit : shapeFor w h map nb a b old s ≡ Fit dirs) where
+  pub job-is-fit : jobShape w h map nb a b ≡ Fit dirs
+  unfolding mendShape
+  job-is-fit = sized-fit _ (jobShape w h map nb a b) fit .1
 
-  pub job-mendable : Mendable w h map rows a b old s
-  unfolding mendJob
+  pub job-mendable : Mendable w h map dirs a b old s
+  unfolding mendShape
   job-mendable =
       let v = vertices w h in
       let O = sheetSized v (sheetLengths old) in
       let S = sheetSized v (sheetLengths (sheetIn s 0)) in
       let W = eqb (length (s .work)) (4 * v) in
-      let t = sized-fit (O && S && W) (jobOf w h map nb a b) fit in
+      let t = sized-fit (O && S && W) (jobShape w h map nb a b) fit in
       let both = and-left (O && S) W (t .0) in
       record {
         plannable = record {
-          job = good-job w h map nb a b rows (t .1);
+          job = good-job w h map nb a b dirs (t .1);
           lent = record {
             sheet = sized-shaped v (sheetIn s 0) (and-right O S both);
             work-len = eqb-true (length (s .work)) (4 * v) (and-right (O && S) W (t .0));
@@ -136,25 +136,25 @@ module _ (w h : ℕ) (map : List ℕ) (nb a b : ℕ) (old : Sheet) (s : MendSlic
         damaged = sized-shaped v old (and-left O S both);
       }
 
-module _ {w h : ℕ} {map : List ℕ} {nb a b : ℕ} {old : Sheet} {s : MendSlices} {j : Job}
-    (told : j ≡ jobFor w h map nb a b old s) where
-  pub mends-unfit : {z : Refusal} {s′ : MendSlices} → j ≡ Unfit z → s′ ≡ s
+module _ {w h : ℕ} {map : List ℕ} {nb a b : ℕ} {old : Sheet} {s : MendSlices} {j : JobShape}
+    (told : j ≡ shapeFor w h map nb a b old s) where
+  pub mends-refused : {z : Refusal} {s′ : MendSlices} → j ≡ BadJob z → s′ ≡ s
       → Mends w h map nb a b old s (Refused z) s′
   unfolding mendAnswer mendLeft
-  mends-unfit t q = let e = sym told ∙ t in record { answer = rw e; left = rw e q }
+  mends-refused t q = let e = sym told ∙ t in record { answer = rw e; left = rw e q }
 
-  pub mends-fit : {rows : Rows} {r : Mended} {s′ : MendSlices} → j ≡ Fit rows
-      → MendsSheet (floorGraph (floorOf w h map) rows) a b old r s′
+  pub mends-fit : {dirs : Directions} {r : Mended} {s′ : MendSlices} → j ≡ Fit dirs
+      → MendsSheet (floorGraph (floorOf w h map) dirs) a b old r s′
       → Mends w h map nb a b old s r s′
   unfolding mendAnswer mendLeft
   mends-fit t P = let e = sym told ∙ t in record { answer = rw e (P .answer); left = rw e (P .left) }
 
 -- ---- the true sheet
 
-module _ {w h : ℕ} {map : List ℕ} {rows : Rows} {a b : ℕ} {d e f back route next work d′ work′ : List ℕ} where
-  pub plan-finishable : Plannable w h map rows a b (mendSlicesOf d e f back route next work)
-      → FilledCosts (floorGraph (floorOf w h map) rows) a d′ work′ → length d′ ≡ length d → length work′ ≡ length work
-      → Finishable w h map rows a b d′ e f back route next work′
+module _ {w h : ℕ} {map : List ℕ} {dirs : Directions} {a b : ℕ} {d e f back route next work d′ work′ : List ℕ} where
+  pub plan-finishable : Plannable w h map dirs a b (mendSlicesOf d e f back route next work)
+      → FilledCosts (floorGraph (floorOf w h map) dirs) a d′ work′ → length d′ ≡ length d → length work′ ≡ length work
+      → Finishable w h map dirs a b d′ e f back route next work′
   plan-finishable P F d-same work-same = record {
     job = P .job;
     lent = record {
@@ -188,8 +188,8 @@ alike-shaped S T = record {
   next = S .next ∙ sym (T .next);
 }
 
-pub alike-left : {w h : ℕ} {map : List ℕ} {rows : Rows} {a b : ℕ} {old : Sheet} {s : MendSlices}
-    (d e f back route next : List ℕ) → Mendable w h map rows a b old s
+pub alike-left : {w h : ℕ} {map : List ℕ} {dirs : Directions} {a b : ℕ} {old : Sheet} {s : MendSlices}
+    (d e f back route next : List ℕ) → Mendable w h map dirs a b old s
     → length d ≡ length (s .d) → length e ≡ length (s .e) → length f ≡ length (s .f)
     → length back ≡ length (s .b) → length route ≡ length (s .route) → length next ≡ length (s .next)
     → AlikeSheets old (sheetOf d e f back route next 0)

@@ -1,14 +1,14 @@
--- What request 14 promises of the outcome, for every input: "at 0 and 7 the checker takes the mended sheet", and the
--- counts tell exactly which slices were damaged.
+-- docs/RULES.md, 14.4, for every input: at 0 and 7 the checker accepts the mended sheet, and the counts tell exactly
+-- which slices were damaged.
 --
 --   takes-route, takes-none == the checker accepts a true route sheet as a route, and a true no-route sheet as no route
 --   Ending ..     == the three ways in which a call ends: with the true route sheet in the second set, with the true
 --                    no-route sheet there, or with a refusal
---   ending        == each call ends in one of them
+--   ending        == each call ends in one of the three ways of `Ending`
 --   mended-route  == at 0 the checker accepts the second set, with the n answered, as a route
 --   mended-none   == at 7 the checker accepts the second set, with the n answered, as no route
 --   Exact c s t   == each count of c is 0 exactly when that slice of the sheets s and t is the same
---   counts-exact  == at 0 and 7 the counts answered are exact in that way of the damaged sheet and the second set
+--   counts-exact  == at 0 and 7 the counts answered are `Exact` of the damaged sheet and the second set
 --   undamaged     == at 0 and 7 all six counts are 0 exactly when every slice of the damaged sheet is the true one
 use Prim.Native.Nat.{ℕ}
 use mathlib.Core.Path.{_≡_, refl, ap}
@@ -25,16 +25,16 @@ use Rattle.floor.specs.Floor.{floorOf, vertices}
 use Rattle.floor.specs.Refusals.{refusalNumber}
 use Rattle.floor.specs.declared.Refusal.{Refusal}
 use Rattle.floor.specs.declared.Refusal.the-variants.{TooMany}
-use Rattle.moves.specs.declared.Rows.{Rows}
+use Rattle.moves.specs.declared.Directions.{Directions}
 use Rattle.moves.proofs.Table.{listed-lawful}
 use Rattle.paths.specs.Graph.{Graph}
 use Rattle.paths.specs.Sheet.{Sheet, joined, fits, routeSheet, noRouteSheet, TrueRoute, TrueNoRoute}
 use Rattle.paths.specs.Local.{Shaped}
 use Rattle.paths.proofs.Sheets.{sameSheet-exact, sheet-eq, route-entries, noRoute-entries}
 use Rattle.planner.specs.Plan.{routeLeft}
-use Rattle.grid.specs.Grid.{floorGraph, jobOf}
-use Rattle.grid.specs.declared.Job.{Job}
-use Rattle.grid.specs.declared.Job.the-variants.{Fit, Unfit}
+use Rattle.grid.specs.Grid.{floorGraph, jobShape}
+use Rattle.grid.specs.declared.JobShape.{JobShape}
+use Rattle.grid.specs.declared.JobShape.the-variants.{Fit, Refused as BadJob}
 use Rattle.grid.proofs.Jobs.{good-job}
 use Rattle.grid.proofs.Lawful.{floor-lawful}
 use Rattle.checker.specs.Answer.{verdict, sheetSized as checkedSized, checkAnswer}
@@ -50,7 +50,7 @@ use Rattle.mending.specs.Mending.{
   sheetAnswer,
   sheetLeft,
   sheetLengths,
-  jobFor,
+  shapeFor,
   jobAnswer,
   jobLeft,
   mendAnswer,
@@ -78,14 +78,15 @@ shaped-sized v s S =
       eq-eqb (length (s .next)) v (S .next),
     )
 
-module _ (w h : ℕ) (map : List ℕ) (nb a b : ℕ) (rows : Rows) (fit : jobOf w h map nb a b ≡ Fit rows) (s : Sheet) where
+module _ (w h : ℕ) (map : List ℕ) (nb a b : ℕ) (dirs : Directions) (fit : jobShape w h map nb a b ≡ Fit dirs)
+    (s : Sheet) where
   abbrev g : Graph
-  g = floorGraph (floorOf w h map) rows
+  g = floorGraph (floorOf w h map) dirs
 
   route-shaped : TrueRoute g a b s → Shaped (g .size) s
   route-shaped T =
-      let J = good-job w h map nb a b rows fit in
-      let L = floor-lawful (floorOf w h map) rows (listed-lawful (J .listed)) in
+      let J = good-job w h map nb a b dirs fit in
+      let L = floor-lawful (floorOf w h map) dirs (listed-lawful (J .listed)) in
       route-entries g L a b (J .start-in) (J .goal-in) s T .shape
 
   none-shaped : TrueNoRoute g a b s → Shaped (g .size) s
@@ -115,50 +116,50 @@ module _ (w h : ℕ) (map : List ℕ) (nb a b : ℕ) (rows : Rows) (fit : jobOf 
 -- ---- the ways in which a call ends
 
 pub data Ending (w h : ℕ) (map : List ℕ) (nb a b : ℕ) (old : Sheet) (s′ : MendSlices) : Mended → Type 0 where
-  with-route : (rows : Rows) (n : ℕ) → jobOf w h map nb a b ≡ Fit rows
-      → TrueRoute (floorGraph (floorOf w h map) rows) a b (sheetIn s′ n) → AlikeSheets old (sheetIn s′ n)
+  with-route : (dirs : Directions) (n : ℕ) → jobShape w h map nb a b ≡ Fit dirs
+      → TrueRoute (floorGraph (floorOf w h map) dirs) a b (sheetIn s′ n) → AlikeSheets old (sheetIn s′ n)
       → Ending w h map nb a b old s′ (Route n (sheetDifferences old (sheetIn s′ n)))
-  without-route : (rows : Rows) → jobOf w h map nb a b ≡ Fit rows
-      → TrueNoRoute (floorGraph (floorOf w h map) rows) a b (sheetIn s′ 0) → AlikeSheets old (sheetIn s′ 0)
+  without-route : (dirs : Directions) → jobShape w h map nb a b ≡ Fit dirs
+      → TrueNoRoute (floorGraph (floorOf w h map) dirs) a b (sheetIn s′ 0) → AlikeSheets old (sheetIn s′ 0)
       → Ending w h map nb a b old s′ (NoRoute (sheetDifferences old (sheetIn s′ 0)))
   with-refusal : (z : Refusal) → other (refusalNumber z) ≡ true → Ending w h map nb a b old s′ (Refused z)
 
 module _ (w h : ℕ) (map : List ℕ) (nb a b : ℕ) (old : Sheet) where
-  sheet-ending : (rows : Rows) → jobOf w h map nb a b ≡ Fit rows → Shaped (vertices w h) old
-      → let g = floorGraph (floorOf w h map) rows in
+  sheet-ending : (dirs : Directions) → jobShape w h map nb a b ≡ Fit dirs → Shaped (vertices w h) old
+      → let g = floorGraph (floorOf w h map) dirs in
       Ending w h map nb a b old (sheetLeft g a b) (sheetAnswer g a b old)
   unfolding sheetAnswer sheetLeft routeLeft routeSheet noRouteSheet
-  sheet-ending rows fit damaged = ⊎-elim
+  sheet-ending dirs fit damaged = ⊎-elim
       (λ (j : joined g a b ≡ true). ⊎-elim
       (λ (f : fits g a b ≡ true).
       let T : TrueRoute g a b (routeSheet g a b) = record { is-joined = j; total-fits = f; is = refl } in
       rw (j, f)
-      (with-route rows (routeSheet g a b .n) fit T
-      (alike-shaped damaged (route-shaped w h map nb a b rows fit (routeSheet g a b) T))))
+      (with-route dirs (routeSheet g a b .n) fit T
+      (alike-shaped damaged (route-shaped w h map nb a b dirs fit (routeSheet g a b) T))))
       (λ (f : fits g a b ≡ false). rw (j, f) (with-refusal TooMany refl)) (true-or-false (fits g a b)))
       (λ (j : joined g a b ≡ false).
       let T : TrueNoRoute g a b (noRouteSheet g a) = record { not-joined = j; is = refl } in
       rw j
-      (without-route rows fit T
-      (alike-shaped damaged (none-shaped w h map nb a b rows fit (noRouteSheet g a) T))))
+      (without-route dirs fit T
+      (alike-shaped damaged (none-shaped w h map nb a b dirs fit (noRouteSheet g a) T))))
       (true-or-false (joined g a b))
     where
       g : Graph
-      g = floorGraph (floorOf w h map) rows
+      g = floorGraph (floorOf w h map) dirs
 
   outcome-ending : (s : MendSlices)
       → Ending w h map nb a b old (mendLeft w h map nb a b old s) (mendAnswer w h map nb a b old s)
   unfolding mendLeft mendAnswer
-  outcome-ending s = cases (jobFor w h map nb a b old s) refl
+  outcome-ending s = cases (shapeFor w h map nb a b old s) refl
     where
-      cases : (j : Job) → jobFor w h map nb a b old s ≡ j
+      cases : (j : JobShape) → shapeFor w h map nb a b old s ≡ j
           → Ending w h map nb a b old (jobLeft w h map a b s j) (jobAnswer w h map a b old j)
-      cases (Unfit z) q =
+      cases (BadJob z) q =
           with-refusal z
           (mend-other w h map nb a b (sheetLengths old) (sheetLengths (sheetIn s 0)) (length (s .work)) q)
-      cases (Fit rows) q =
-          sheet-ending rows (job-is-fit w h map nb a b old s rows q)
-          (job-mendable w h map nb a b old s rows q .damaged)
+      cases (Fit dirs) q =
+          sheet-ending dirs (job-is-fit w h map nb a b old s dirs q)
+          (job-mendable w h map nb a b old s dirs q .damaged)
 
 pub ending : {w h : ℕ} {map : List ℕ} {nb a b : ℕ} {old : Sheet} {s s′ : MendSlices} {r : Mended}
     → Mends w h map nb a b old s r s′ → Ending w h map nb a b old s′ r
@@ -174,8 +175,8 @@ module _ {w h : ℕ} {map : List ℕ} {nb a b : ℕ} {old : Sheet} {s s′ : Men
     where
       cases : (x : Mended) → Ending w h map nb a b old s′ x → mendNumber x ≡ 0
           → checkAnswer w h map nb a b (sheetIn s′ (mendPoints x)) ≡ AcceptedRoute
-      cases _ (with-route rows n fit T l) e = takes-route w h map nb a b rows fit (sheetIn s′ n) T
-      cases _ (without-route rows fit T l) e = absurd (omega arith)
+      cases _ (with-route dirs n fit T l) e = takes-route w h map nb a b dirs fit (sheetIn s′ n) T
+      cases _ (without-route dirs fit T l) e = absurd (omega arith)
       cases _ (with-refusal z o) e = not-both _ o (ap other e)
 
   pub mended-none : mendNumber r ≡ 7
@@ -184,8 +185,8 @@ module _ {w h : ℕ} {map : List ℕ} {nb a b : ℕ} {old : Sheet} {s s′ : Men
     where
       cases : (x : Mended) → Ending w h map nb a b old s′ x → mendNumber x ≡ 7
           → checkAnswer w h map nb a b (sheetIn s′ (mendPoints x)) ≡ AcceptedNoRoute
-      cases _ (with-route rows n fit T l) e = absurd (omega arith)
-      cases _ (without-route rows fit T l) e = takes-none w h map nb a b rows fit (sheetIn s′ 0) T
+      cases _ (with-route dirs n fit T l) e = absurd (omega arith)
+      cases _ (without-route dirs fit T l) e = takes-none w h map nb a b dirs fit (sheetIn s′ 0) T
       cases _ (with-refusal z o) e = not-both _ o (ap other e)
 
 -- ---- the counts
@@ -234,8 +235,8 @@ module _ {w h : ℕ} {map : List ℕ} {nb a b : ℕ} {old : Sheet} {s s′ : Men
     where
       cases : (x : Mended) → Ending w h map nb a b old s′ x → (mendNumber x ≡ 0) ⊎ (mendNumber x ≡ 7)
           → Exact (mendDifferences x) old (sheetIn s′ (old .n))
-      cases _ (with-route rows n fit T l) e = differences-exact old (sheetIn s′ (old .n)) (alike-still s′ l)
-      cases _ (without-route rows fit T l) e = differences-exact old (sheetIn s′ (old .n)) (alike-still s′ l)
+      cases _ (with-route dirs n fit T l) e = differences-exact old (sheetIn s′ (old .n)) (alike-still s′ l)
+      cases _ (without-route dirs fit T l) e = differences-exact old (sheetIn s′ (old .n)) (alike-still s′ l)
       cases _ (with-refusal z o) e = ⊎-elim (λ q. not-both _ o (ap other q)) (λ q. not-both _ o (ap other q)) e
 
   pub undamaged : (mendDifferences r ≡ noDifferences) ↔ (old ≡ sheetIn s′ (old .n))

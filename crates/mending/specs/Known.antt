@@ -16,7 +16,7 @@ use lib.ListN.{length}
 use Rattle.basics.specs.Bounded.{pick}
 use Rattle.floor.specs.Floor.{vertices}
 use Rattle.floor.specs.declared.Refusal.the-variants.{TooMany}
-use Rattle.moves.specs.declared.Rows.{Rows}
+use Rattle.moves.specs.declared.Directions.{Directions}
 use Rattle.paths.specs.Graph.{Graph}
 use Rattle.paths.specs.Sheet.{Sheet}
 use Rattle.paths.specs.Local.{Shaped}
@@ -40,16 +40,16 @@ pub record AlikeSheets (s t : Sheet) : Type 0 where
   pub route : length (s .route) ≡ length (t .route)
   pub next : length (s .next) ≡ length (t .next)
 
-pub record Plannable (w h : ℕ) (map : List ℕ) (rows : Rows) (a b : ℕ) (s : MendSlices) : Type 0 where
-  pub job : GoodJob w h map rows a b
+pub record Plannable (w h : ℕ) (map : List ℕ) (dirs : Directions) (a b : ℕ) (s : MendSlices) : Type 0 where
+  pub job : GoodJob w h map dirs a b
   pub lent : FullSlices (vertices w h) (s .d) (s .e) (s .f) (s .b) (s .route) (s .next) (s .work)
 
 pub record PlannedSheet (g : Graph) (a b : ℕ) (r : Planned) (s : MendSlices) : Type 0 where
   pub answer : r ≡ routeAnswer g a b
   pub left : s ≡ sheetLeft g a b
 
-pub record Mendable (w h : ℕ) (map : List ℕ) (rows : Rows) (a b : ℕ) (old : Sheet) (s : MendSlices) : Type 0 where
-  pub plannable : Plannable w h map rows a b s
+pub record Mendable (w h : ℕ) (map : List ℕ) (dirs : Directions) (a b : ℕ) (old : Sheet) (s : MendSlices) : Type 0 where
+  pub plannable : Plannable w h map dirs a b s
   pub damaged : Shaped (vertices w h) old
 
 pub record MendsSheet (g : Graph) (a b : ℕ) (old : Sheet) (r : Mended) (s : MendSlices) : Type 0 where

@@ -1,22 +1,22 @@
--- Document 02, request 14, "Mend a damaged sheet": what the operation answers, and what it leaves in every lent slice.
--- The damaged sheet is only read. The true sheet is written into a second set of slices, and for each slice it is
--- answered at how many places the damaged one and the true one differ.
+-- docs/RULES.md, 14.1 to 14.3: what the operation answers, and what it leaves in every lent slice. The damaged sheet is
+-- only read. The true sheet is written into a second set of slices, and for each slice it is answered at how many
+-- places the damaged one and the true one differ.
 --
 --   MendSlices           == the slices lent to be written: those of the second set, and the working slice
 --   sheetIn s n          == the sheet that stands in the second set of s, with point count n
 --   sheetDifferences s t == for each slice, at how many places the sheets s and t differ
---   noDifferences        == the same of two sheets that differ nowhere: 0 for each slice
+--   noDifferences        == 0 for each slice: `sheetDifferences` of two sheets that differ nowhere
 --   sheetAnswer g a b s  == the answer for the damaged sheet s of the job from a to b on graph g, once the shape is
 --                           good: 0, 7 or 8
---   sheetLeft g a b      == the slices that this answer leaves: d holds the costs from a, and the others are as the
+--   sheetLeft g a b      == the slices that `sheetAnswer` leaves: d holds the costs from a, and the others are as the
 --                           planner leaves them
 --   sheetSized v l       == the slices of a sheet have v places each, by their lengths l
---   mendJob ..           == the rows of the neighbourhood, or the first refusal of 1 to 5, 11 and 6, by the lengths of
---                           the slices of both sheets and of the working slice
+--   mendShape ..         == the directions of the neighbourhood, or the first refusal of 1 to 5, 11 and 6, by the
+--                           lengths of the slices of both sheets and of the working slice
 --   mendAnswer ..        == the answer, for every input
 --   mendLeft ..          == the slices afterwards, for every input: untouched at answers 1 to 6 and 11
---   Mends ..             == both, as the operation promises them
---   mendNumber, mendPoints, mendDifferences == the papers' number and values of an answer
+--   Mends ..             == the operation's promise: `mendAnswer` and `mendLeft`, for every input
+--   mendNumber, mendPoints, mendDifferences == the number (rule 6.1) and the values (rule 6.4) of an answer
 --
 -- A damaged sheet is a `Sheet` whose point count nothing reads.
 use Prim.Native.Nat.{ℕ, _*_}
@@ -33,9 +33,9 @@ use Rattle.floor.specs.declared.Refusal.the-variants.{SliceLength, NoRoute as N
 use Rattle.paths.specs.Graph.{Graph}
 use Rattle.paths.specs.Distance.{distance}
 use Rattle.paths.specs.Sheet.{Sheet, sheetOf, joined, fits, routeSheet, noRouteSheet}
-use Rattle.grid.specs.Grid.{floorGraph, jobOf}
-use Rattle.grid.specs.declared.Job.{Job}
-use Rattle.grid.specs.declared.Job.the-variants.{Fit, Unfit}
+use Rattle.grid.specs.Grid.{floorGraph, jobShape}
+use Rattle.grid.specs.declared.JobShape.{JobShape}
+use Rattle.grid.specs.declared.JobShape.the-variants.{Fit, Refused as BadJob}
 use Rattle.planner.specs.Plan.{Slices, routeLeft}
 use Rattle.mending.specs.declared.Differences.{Differences}
 use Rattle.mending.specs.declared.Lengths.{Lengths}
@@ -103,32 +103,32 @@ sheetSized v l =
     eqb (l .d) v && eqb (l .e) v && eqb (l .f) v && eqb (l .back) v && eqb (l .route) v && eqb (l .next) v
 
 -- The job, or refusal 6 where it is fit and the slices are not.
-abbrev pub ifSized : Bool → Job → Job
-ifSized z (Fit rows) = pick z (Fit rows) (Unfit SliceLength)
-ifSized z (Unfit r) = Unfit r
+abbrev pub ifSized : Bool → JobShape → JobShape
+ifSized z (Fit dirs) = pick z (Fit dirs) (BadJob SliceLength)
+ifSized z (BadJob r) = BadJob r
 
-unfoldable pub mendJob : ℕ → ℕ → List ℕ → ℕ → ℕ → ℕ → Lengths → Lengths → ℕ → Job
-mendJob w h map nb a b old second work =
+unfoldable pub mendShape : ℕ → ℕ → List ℕ → ℕ → ℕ → ℕ → Lengths → Lengths → ℕ → JobShape
+mendShape w h map nb a b old second work =
     let v = vertices w h in
-    ifSized (sheetSized v old && sheetSized v second && eqb work (4 * v)) (jobOf w h map nb a b)
+    ifSized (sheetSized v old && sheetSized v second && eqb work (4 * v)) (jobShape w h map nb a b)
 
-abbrev pub jobFor : ℕ → ℕ → List ℕ → ℕ → ℕ → ℕ → Sheet → MendSlices → Job
-jobFor w h map nb a b old s =
-    mendJob w h map nb a b (sheetLengths old) (sheetLengths (sheetIn s 0)) (length (s .work))
+abbrev pub shapeFor : ℕ → ℕ → List ℕ → ℕ → ℕ → ℕ → Sheet → MendSlices → JobShape
+shapeFor w h map nb a b old s =
+    mendShape w h map nb a b (sheetLengths old) (sheetLengths (sheetIn s 0)) (length (s .work))
 
-abbrev pub jobAnswer : ℕ → ℕ → List ℕ → ℕ → ℕ → Sheet → Job → Mended
-jobAnswer w h map a b old (Fit rows) = sheetAnswer (floorGraph (floorOf w h map) rows) a b old
-jobAnswer w h map a b old (Unfit r) = Refused r
+abbrev pub jobAnswer : ℕ → ℕ → List ℕ → ℕ → ℕ → Sheet → JobShape → Mended
+jobAnswer w h map a b old (Fit dirs) = sheetAnswer (floorGraph (floorOf w h map) dirs) a b old
+jobAnswer w h map a b old (BadJob r) = Refused r
 
-abbrev pub jobLeft : ℕ → ℕ → List ℕ → ℕ → ℕ → MendSlices → Job → MendSlices
-jobLeft w h map a b s (Fit rows) = sheetLeft (floorGraph (floorOf w h map) rows) a b
-jobLeft w h map a b s (Unfit r) = s
+abbrev pub jobLeft : ℕ → ℕ → List ℕ → ℕ → ℕ → MendSlices → JobShape → MendSlices
+jobLeft w h map a b s (Fit dirs) = sheetLeft (floorGraph (floorOf w h map) dirs) a b
+jobLeft w h map a b s (BadJob r) = s
 
 unfoldable pub mendAnswer : ℕ → ℕ → List ℕ → ℕ → ℕ → ℕ → Sheet → MendSlices → Mended
-mendAnswer w h map nb a b old s = jobAnswer w h map a b old (jobFor w h map nb a b old s)
+mendAnswer w h map nb a b old s = jobAnswer w h map a b old (shapeFor w h map nb a b old s)
 
 unfoldable pub mendLeft : ℕ → ℕ → List ℕ → ℕ → ℕ → ℕ → Sheet → MendSlices → MendSlices
-mendLeft w h map nb a b old s = jobLeft w h map a b s (jobFor w h map nb a b old s)
+mendLeft w h map nb a b old s = jobLeft w h map a b s (shapeFor w h map nb a b old s)
 
 -- The operation's promise: the damaged sheet, s before, s' after, and the answer r.
 pub record Mends (w h : ℕ) (map : List ℕ) (nb a b : ℕ) (old : Sheet) (s : MendSlices) (r : Mended) (s' : MendSlices)

@@ -2,7 +2,7 @@
 // one differs from it.
 //
 //     mend               the operation, for every input
-//     mend_job           the shape of its input: refusals 1 to 5, 11 and 6
+//     mend_shape         the shape of its input: refusals 1 to 5, 11 and 6
 //     mend_sheet         the operation where none of these applies: answers 0, 7 and 8
 //     plan_sheet         the true sheet, by the planner
 //     sheet_differences  at how many places two sheets differ, for each slice
@@ -11,13 +11,13 @@ ghost use Rattle.floor.specs.Floor.{floorOf};
 ghost use Rattle.paths.specs.Sheet.{sheetOf};
 ghost use Rattle.grid.specs.Grid.{floorGraph};
 ghost use Rattle.planner.specs.Plan.{planNumber, planPoints};
-ghost use Rattle.mending.specs.Mending.{mendSlicesOf, sheetDifferences, sheetSized, mendJob, Mends};
+ghost use Rattle.mending.specs.Mending.{mendSlicesOf, sheetDifferences, sheetSized, mendShape, Mends};
 ghost use Rattle.mending.specs.Mending.{mendNumber, mendPoints, mendDifferences};
 ghost use Rattle.mending.specs.Known.{answerBy, AlikeSheets, Plannable, PlannedSheet, Mendable, MendsSheet};
 use floor::Refusal;
 use floor::Vertex;
-use grid::Job;
-use moves::Rows;
+use grid::JobShape;
+use moves::Directions;
 use planner::Planned;
 
 // For each slice of a sheet, at how many places it differs from that of another.
@@ -48,7 +48,7 @@ struct Lengths {
     next: usize,
 }
 
-// The papers' number of an answer.
+// The number of an answer (rule 6.1).
 pub fn mend_number(m: Mended) -> u8
     ensures { λ r. ⌜ r ≡ mendNumber m ⌝ }
 {
@@ -110,9 +110,9 @@ fn sheet_sized(v: usize, l: Lengths) -> bool
     l.next == v
 }
 
-// The rows of the neighbourhood, or the first refusal of 1 to 5, 11 and 6, where the slices of the damaged sheet, those
-// of the second set and the working slice have these lengths.
-fn mend_job(
+// The directions of the neighbourhood, or the first refusal of 1 to 5, 11 and 6, where the slices of the damaged sheet,
+// those of the second set and the working slice have these lengths.
+fn mend_shape(
     w: usize,
     h: usize,
     map: &[u8],
@@ -122,24 +122,24 @@ fn mend_job(
     old: Lengths,
     second: Lengths,
     work: usize,
-) -> Job
-    ensures { λ r. ⌜ r ≡ mendJob w h (now (map .entry)) nb a b old second work ⌝ }
+) -> JobShape
+    ensures { λ r. ⌜ r ≡ mendShape w h (now (map .entry)) nb a b old second work ⌝ }
 {
-    let job = grid::job_of(w, h, map, nb, a, b);
-    let Job::Fit(rows) = job else {
-        return job;
+    let shape = grid::job_shape(w, h, map, nb, a, b);
+    let JobShape::Fit(dirs) = shape else {
+        return shape;
     };
     let v = floor::vertex_count(w, h);
     if !sheet_sized(v, old) {
-        return Job::Unfit(Refusal::SliceLength);
+        return JobShape::Refused(Refusal::SliceLength);
     }
     if !sheet_sized(v, second) {
-        return Job::Unfit(Refusal::SliceLength);
+        return JobShape::Refused(Refusal::SliceLength);
     }
     if work != 4 * v {
-        return Job::Unfit(Refusal::SliceLength);
+        return JobShape::Refused(Refusal::SliceLength);
     }
-    Job::Fit(rows)
+    JobShape::Fit(dirs)
 }
 
 // Writes the sheet of a job of good shape: the planner's answer and slices, d among them.
@@ -147,7 +147,7 @@ fn plan_sheet(
     w: usize,
     h: usize,
     map: &[u8],
-    rows: Rows,
+    dirs: Directions,
     a: Vertex,
     b: Vertex,
     d: &mut [u32],
@@ -158,14 +158,14 @@ fn plan_sheet(
     next: &mut [u16],
     work: &mut [u32],
 ) -> Planned
-    requires { ⌜ Plannable w h (now map) rows (a .0) (b .0)
+    requires { ⌜ Plannable w h (now map) dirs (a .0) (b .0)
         (mendSlicesOf (now d) (now e) (now f) (now back) (now route) (now next) (now work)) ⌝ }
-    ensures { λ r. ⌜ PlannedSheet (floorGraph (floorOf w h (now (map .entry))) rows) (a .0) (b .0) r
+    ensures { λ r. ⌜ PlannedSheet (floorGraph (floorOf w h (now (map .entry))) dirs) (a .0) (b .0) r
         (mendSlicesOf (now (d .exit)) (now (e .exit)) (now (f .exit)) (now (back .exit)) (now (route .exit))
         (now (next .exit)) (now (work .exit))) ⌝ }
 {
-    distances::costs_from(w, h, map, rows, a, d, work);
-    planner::finish_job(w, h, map, rows, a, b, d, e, f, back, route, next, work)
+    distances::costs_from(w, h, map, dirs, a, d, work);
+    planner::finish_job(w, h, map, dirs, a, b, d, e, f, back, route, next, work)
 }
 
 // At how many places two sheets differ, for each slice.
@@ -222,7 +222,7 @@ fn mend_sheet(
     w: usize,
     h: usize,
     map: &[u8],
-    rows: Rows,
+    dirs: Directions,
     a: Vertex,
     b: Vertex,
     old_d: &[u32],
@@ -239,16 +239,16 @@ fn mend_sheet(
     next: &mut [u16],
     work: &mut [u32],
 ) -> Mended
-    requires { ⌜ Mendable w h (now map) rows (a .0) (b .0)
+    requires { ⌜ Mendable w h (now map) dirs (a .0) (b .0)
         (sheetOf (now «old_d») (now «old_e») (now «old_f») (now «old_back») (now «old_route») (now «old_next») 0)
         (mendSlicesOf (now d) (now e) (now f) (now back) (now route) (now next) (now work)) ⌝ }
-    ensures { λ r. ⌜ MendsSheet (floorGraph (floorOf w h (now (map .entry))) rows) (a .0) (b .0)
+    ensures { λ r. ⌜ MendsSheet (floorGraph (floorOf w h (now (map .entry))) dirs) (a .0) (b .0)
         (sheetOf (now («old_d» .entry)) (now («old_e» .entry)) (now («old_f» .entry)) (now («old_back» .entry))
         (now («old_route» .entry)) (now («old_next» .entry)) 0) r
         (mendSlicesOf (now (d .exit)) (now (e .exit)) (now (f .exit)) (now (back .exit)) (now (route .exit))
         (now (next .exit)) (now (work .exit))) ⌝ }
 {
-    let planned = plan_sheet(w, h, map, rows, a, b, d, e, f, back, route, next, work);
+    let planned = plan_sheet(w, h, map, dirs, a, b, d, e, f, back, route, next, work);
     let differences = sheet_differences(
         old_d,
         old_e,
@@ -266,9 +266,9 @@ fn mend_sheet(
     answer_with(planned, differences)
 }
 
-// Mends a damaged sheet of the job from a to b, which it only reads: the slices old_d, old_e, old_f, old_back (document
-// 01's b), old_route and old_next, of V places each. For every input it gives the papers' answer and leaves every lent
-// slice as they say: answers 1 to 6 and 11 touch nothing.
+// Mends a damaged sheet of the job from a to b, which it only reads: the slices old_d, old_e, old_f, old_back (b of
+// rule 5.1), old_route and old_next, of V places each. For every input it gives the answer of rules 14.2 and 14.3 and
+// leaves every lent slice as rule 6.4 says: answers 1 to 6 and 11 touch nothing.
 //
 // Lent are the second set of slices, d, e, f, back, route and next, of V places each, and a working slice of 4 * V.
 pub fn mend(
@@ -316,14 +316,14 @@ pub fn mend(
         route: route.len(),
         next: next.len(),
     };
-    let job = mend_job(w, h, map, nb, a, b, old, second, work.len());
-    match job {
-        Job::Unfit(r) => Mended::Refused(r),
-        Job::Fit(rows) => mend_sheet(
+    let shape = mend_shape(w, h, map, nb, a, b, old, second, work.len());
+    match shape {
+        JobShape::Refused(r) => Mended::Refused(r),
+        JobShape::Fit(dirs) => mend_sheet(
             w,
             h,
             map,
-            rows,
+            dirs,
             Vertex(a),
             Vertex(b),
             old_d,

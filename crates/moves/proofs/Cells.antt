@@ -2,7 +2,8 @@
 -- the floor: a cell that it has to pass then lies outside, and reads as blocked.
 --
 --   beside-on, beside-off == one coordinate of a move, on the floor and off it
---   cells-tell            == the law
+--   cells-tell            == no cell and no step is in the way of a narrow move of at most two columns and rows exactly
+--                            where the four cells in its middle say so
 use Prim.Native.Nat.{ℕ, zero, suc, _+_, _-_, _≤_, _<_, max}
 use mathlib.Core.Path.{_≡_, refl, sym, ap, ap₂, _∙_}
 use mathlib.Core.Bool.{Bool, true, not, or-true}

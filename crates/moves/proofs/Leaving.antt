@@ -1,13 +1,14 @@
--- A move is open exactly when no cell and no step is in its way and neither of its ends is a pinch: the rows of a table
--- are narrow, so that a move passes no vertex between its ends. What masks ask of a move at its first end alone, `leaves`,
--- is the first half of that.
+-- A move is open exactly when no cell and no step is in its way and neither of its ends is a pinch: the directions of a
+-- table are narrow, so that a move passes no vertex between its ends. What masks ask of a move at its first end alone,
+-- `leaves`, is the first half of that.
 --
 --   sees-narrow   == the ends of a narrow segment see each other where it leaves its first end and its last is no pinch
---   seen-far      == so it is of a move of a table, by the numbers of its ends
+--   seen-far      == the ends of a move of a table, by their numbers, see each other where it leaves its first end and
+--                    its last is no pinch
 --   leaves-none   == no move leaves a pinch
 --   leaves-shut   == a move that does not leave is not open
 --   LeadsTo ..    == a move that leaves is open, or leads to a pinch
---   leaves-leads  == so it is
+--   leaves-leads  == `LeadsTo` holds of every move that leaves
 use Prim.Native.Nat.{ℕ, zero, suc, _≤_, _<_}
 use mathlib.Core.Path.{_≡_, refl, sym, ap, ap₂, _∙_}
 use mathlib.Core.Bool.{Bool, true, false, _&&_, _||_, not, and-assoc}

@@ -2,8 +2,8 @@
 -- both ways, as sight does.
 --
 --   goes              == a move that passes the test goes where it leads
---   goes-column, -row == the column and row of its far end
---   goes-inside       == which is a vertex
+--   goes-column, -row == the column and row of the far end of a move that passes the test
+--   goes-inside       == the far end of a move that passes the test is a vertex
 --   goes-dx, goes-dy  == the same two ends give the same offsets
 --   goes-back         == the opposite offsets lead back
 use Prim.Native.Nat.{ℕ, _<_}

@@ -1,7 +1,7 @@
 -- A small signed byte: what the machine reads back, and how far up it goes by its sign.
 --
 --   back, back-neg   == the offset, and its negation, as the machine reads them back
---   parts-abs        == its two parts together are how far it goes
+--   parts-abs        == up d + down d ≡ natAbs d
 --   neg-up           == an offset goes as far down as its negation goes up
 --   below, Above d   == how far up an offset below 0 goes, and one that is not
 --   narrow-one       == a narrow move goes one column or one row

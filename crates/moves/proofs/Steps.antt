@@ -1,12 +1,13 @@
 -- The far end of a move: one coordinate, the spot, the vertex, and a move that passes a test.
 --
 --   shifted-at, shifted-is, -low, -high == one coordinate moved by an offset
---   shifted-span                        == how far that is
+--   shifted-span                        == how far one coordinate moved by an offset goes
 --   spot-reaches, reaches-on            == the spot to which a move leads
 --   Goes S f m x y w                    == move m goes from (x, y) to vertex w, and S holds of the segment
---   end-goes, goes-end                  == `endIf` says so
+--   end-goes, goes-end                  == `endIf S f m x y` is w exactly where `Goes S f m x y w`
 --   end-if, end-past                    == a move by what holds of its segment; a move that leaves the floor has no end
---   end-off, end-there                  == the same, as the code answers it
+--   end-off, end-there                  == `endIf` where the move leaves the floor, and where it does not, as the code
+--                                          answers it
 use Prim.Native.Nat.{ℕ, _+_, _-_, _≤_, _<_}
 use mathlib.Core.Path.{_≡_, refl, sym, ap, _∙_}
 use mathlib.Core.Bool.{Bool, true, false, _&&_, and-false}

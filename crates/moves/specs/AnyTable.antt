@@ -1,5 +1,5 @@
--- Document 01, "Facts shared by neighbourhoods 4 and 8 are proved once over any table of distinct moves with costs 1 to
--- 4,095, each move with its opposite at the same cost".
+-- docs/RULES.md, 3.7: the tables of moves over which the laws are proved: distinct moves of costs 1 to 4,095, each with
+-- its opposite at the same cost.
 --
 --   Turned a b       == the offset a is b turned round
 --   LawfulTable n M  == the moves M 0, .. M (n - 1) are such a table

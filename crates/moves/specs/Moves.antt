@@ -1,15 +1,16 @@
--- Document 01, "Moves", and request 8 of document 02, "Sixteen ways to move": the tables, and which of their rows a
--- neighbourhood has.
+-- docs/RULES.md, 3.1 to 3.3: the tables of moves, and which of their directions a neighbourhood has. In names `dir`
+-- stands for a direction and `dirs` for several.
 --
---   moves               == document 01's table, row by row: signed offsets and cost
---   sixteen             == the table of request 8: the eight moves and, between each two of them, their sum, in order of
---                          angle, with costs of their own
---   rowMove k           == row k of 32, each a sixteenth of a turn after the one before: in rows 0 to 15 document 01's moves,
---                          each at two rows, and in rows 16 to 31 the sixteen; so a quarter turn is four rows in both
---   rowAt r m           == the row of move m of a neighbourhood whose rows are r
+--   moves               == the table of eight moves, direction by direction: signed offsets and cost
+--   sixteen             == the table of sixteen moves: the eight moves and, between each two of them, their sum, in
+--                          order of angle, with costs of their own
+--   dirMove k           == direction k of 32, each a sixteenth of a turn after the one before: in directions 0 to 15
+--                          the eight moves, each at two of them, and in directions 16 to 31 the sixteen; so a quarter
+--                          turn is four directions in both
+--   dirAt r m           == the direction of move m of a neighbourhood whose directions are r
 --   moveAt r m          == the move itself
---   neighbourhoodOf n   == refusal 4: the rows of neighbourhood n; 8 has the table of eight, 4 its cardinal rows in the
---                          same order, 16 the table of sixteen
+--   neighbourhoodOf n   == refusal 4: the directions of neighbourhood n; 8 has the table of eight, 4 its cardinal
+--                          directions in the same order, 16 the table of sixteen
 use Prim.Native.Nat.{ℕ, _+_, _-_, _*_, _/_}
 use mathlib.Core.List.{List, [], _∷_}
 use lib.Dec.{ltb, eqb}
@@ -17,9 +18,9 @@ use lib.IntN.{ℤ, pos, negsuc}
 use lib.ListN.{getD}
 use Rattle.basics.specs.Bounded.{pick}
 use Rattle.moves.specs.declared.Move.{Move}
-use Rattle.moves.specs.declared.Rows.{Rows}
+use Rattle.moves.specs.declared.Directions.{Directions}
 use Rattle.moves.specs.declared.Neighbourhood.{Neighbourhood}
-use Rattle.moves.specs.declared.Neighbourhood.the-variants.{Known, Unknown}
+use Rattle.moves.specs.declared.Neighbourhood.the-variants.{Known, Refused}
 
 abbrev pub moveOf : ℤ → ℤ → ℕ → Move
 moveOf x y c = record { dx = x; dy = y; cost = c }
@@ -58,26 +59,26 @@ sixteen =
     ∷ moveOf (pos 2) (negsuc 0) 2236
     ∷ []
 
-abbrev pub rowCount : ℕ
-rowCount = 32
+abbrev pub dirCount : ℕ
+dirCount = 32
 
 -- Past a table: no offset at no cost.
 abbrev pub noMove : Move
 noMove = moveOf (pos 0) (pos 0) 0
 
-abbrev pub rowMove : ℕ → Move
-rowMove k = pick (ltb k 16) (getD moves (k / 2) noMove) (getD sixteen (k - 16) noMove)
+abbrev pub dirMove : ℕ → Move
+dirMove k = pick (ltb k 16) (getD moves (k / 2) noMove) (getD sixteen (k - 16) noMove)
 
-abbrev pub rowsOf : ℕ → ℕ → ℕ → Rows
-rowsOf first stride count = record { first = first; stride = stride; count = count }
+abbrev pub directionsOf : ℕ → ℕ → ℕ → Directions
+directionsOf first stride count = record { first = first; stride = stride; count = count }
 
-abbrev pub rowAt : Rows → ℕ → ℕ
-rowAt r m = r .first + r .stride * m
+abbrev pub dirAt : Directions → ℕ → ℕ
+dirAt r m = r .first + r .stride * m
 
-abbrev pub moveAt : Rows → ℕ → Move
-moveAt r m = rowMove (rowAt r m)
+abbrev pub moveAt : Directions → ℕ → Move
+moveAt r m = dirMove (dirAt r m)
 
 unfoldable pub neighbourhoodOf : ℕ → Neighbourhood
 neighbourhoodOf n =
-    pick (eqb n 16) (Known (rowsOf 16 1 16))
-    (pick (eqb n 8) (Known (rowsOf 0 2 8)) (pick (eqb n 4) (Known (rowsOf 0 4 4)) Unknown))
+    pick (eqb n 16) (Known (directionsOf 16 1 16))
+    (pick (eqb n 8) (Known (directionsOf 0 2 8)) (pick (eqb n 4) (Known (directionsOf 0 4 4)) Refused))

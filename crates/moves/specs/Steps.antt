@@ -1,10 +1,11 @@
--- Document 01, "Moves": the far end of a move, and when a move is open.
+-- docs/RULES.md, 3.4 and 3.5: the far end of a move, and when a move is open.
 --
 --   shifted n a d       == a + d, where that is from 0 to n
 --   farEndAt w h m x y  == the number of the vertex to which move m leads from (x, y); none where it leaves the floor
---   endIf S f m x y     == the same where S holds of the segment between the two ends
---   openEndAt f m x y   == the same where the two ends see each other: where the move is open
---   openEnd f m v       == the same from the vertex with number v
+--   endIf S f m x y     == the number of the vertex to which move m leads from (x, y), where S holds of the segment
+--                          between the two; else none
+--   openEndAt f m x y   == `endIf sees f m x y`: the far end of move m from (x, y), where the move is open
+--   openEnd f m v       == the far end of move m from the vertex with number v, where the move is open
 --   stepOf o            == the far end o, a vertex or off the floor, as the code answers it
 use Prim.Native.Nat.{ℕ, suc, _+_, _-_}
 use mathlib.Core.Bool.{Bool, true, false, _&&_}

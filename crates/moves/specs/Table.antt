@@ -1,13 +1,15 @@
 -- Used by contracts between functions; nobody has to believe it: laws tie it to the definitions.
--- The test of a neighbourhood's rows that gives the laws of its moves, which is computed in proofs/, and the parts of a
--- step.
+-- The test of a neighbourhood's directions that gives the laws of its moves, which is computed in proofs/, and the
+-- parts of a step.
 --
---   Listed r       == r are the rows of a neighbourhood
---   eightRows, sixteenRows == the rows of the table of eight, and of the table of sixteen
---   tableOf r      == of these two, those that have the rows of the neighbourhood r
---   Within r t     == every row of r is one of t
---   lawfulRows r   == the rows are in the tables; each costs 1 to 4,095, goes at most 2 columns and 2 rows, leads where
---                     no other row leads, has its opposite, half the rows on, at the same cost, and is narrow
+--   Listed r       == r are the directions of a neighbourhood
+--   eightDirs, sixteenDirs == the directions of the table of eight, and of the table of sixteen
+--   tableOf r      == `sixteenDirs` where the neighbourhood r has sixteen directions, else `eightDirs`: the table that
+--                     has them
+--   Within r t     == every direction of r is one of t
+--   lawfulDirs r   == the directions are in the tables; each costs 1 to 4,095, goes at most 2 columns and 2 rows, leads
+--                     where no other direction leads, has its opposite, half the directions on, at the same cost, and
+--                     is narrow
 --   narrow m       == move m goes one column or one row: it passes its two ends and no vertex between them
 --   Short m        == move m goes at most 2 columns and 2 rows: what a step takes
 --   OnFloor ..     == the vertex (x, y) is on a floor whose sides are not refused
@@ -26,34 +28,34 @@ use lib.IntN.{ℤ, natAbs}
 use lib.ListN.{length, getD}
 use Rattle.basics.specs.Bounded.{pick, every}
 use Rattle.moves.specs.declared.Move.{Move}
-use Rattle.moves.specs.declared.Rows.{Rows}
+use Rattle.moves.specs.declared.Directions.{Directions}
 use Rattle.moves.specs.declared.Neighbourhood.the-variants.{Known}
 use Rattle.moves.specs.declared.Offset.{Offset}
 use Rattle.moves.specs.declared.Place.{Place}
 use Rattle.moves.specs.declared.Place.the-variants.{Is, Past}
 use Rattle.moves.specs.declared.Spot.{Spot}
 use Rattle.moves.specs.declared.Spot.the-variants.{At, Outside}
-use Rattle.moves.specs.Moves.{rowCount, rowsOf, rowAt, moveAt, neighbourhoodOf}
+use Rattle.moves.specs.Moves.{dirCount, directionsOf, dirAt, moveAt, neighbourhoodOf}
 use Rattle.moves.specs.Steps.{up, down, shifted}
 
-pub record Listed (r : Rows) : Type 0 where
+pub record Listed (r : Directions) : Type 0 where
   pub number : ℕ
   pub known : neighbourhoodOf number ≡ Known r
 
-abbrev pub eightRows : Rows
-eightRows = rowsOf 0 2 8
+abbrev pub eightDirs : Directions
+eightDirs = directionsOf 0 2 8
 
-abbrev pub sixteenRows : Rows
-sixteenRows = rowsOf 16 1 16
+abbrev pub sixteenDirs : Directions
+sixteenDirs = directionsOf 16 1 16
 
-abbrev pub tableOf : Rows → Rows
-tableOf r = pick (eqb (r .count) 16) sixteenRows eightRows
+abbrev pub tableOf : Directions → Directions
+tableOf r = pick (eqb (r .count) 16) sixteenDirs eightDirs
 
-pub record Within (r t : Rows) : Type 0 where
-  pub at : (m : ℕ) → m < r .count → (k : ℕ) × (k < t .count) × (rowAt r m ≡ rowAt t k)
+pub record Within (r t : Directions) : Type 0 where
+  pub at : (m : ℕ) → m < r .count → (k : ℕ) × (k < t .count) × (dirAt r m ≡ dirAt t k)
 
 -- In a table in order of angle the opposite of a move stands half its length on.
-abbrev pub oppositeOf : Rows → ℕ → ℕ
+abbrev pub oppositeOf : Directions → ℕ → ℕ
 oppositeOf r m = (m + r .count / 2) % r .count
 
 -- The offset a is b turned round.
@@ -70,10 +72,10 @@ pub record Short (m : Move) : Type 0 where
 abbrev pub narrow : Move → Bool
 narrow m = eqb (natAbs (m .dx)) 1 || eqb (natAbs (m .dy)) 1
 
--- What is tested of move m of the rows r.
-abbrev pub lawfulTests : Rows → ℕ → List Bool
+-- What is tested of move m of the directions r.
+abbrev pub lawfulTests : Directions → ℕ → List Bool
 lawfulTests r m =
-    ltb (rowAt r m) rowCount
+    ltb (dirAt r m) dirCount
     ∷ leb 1 (moveAt r m .cost)
     ∷ leb (moveAt r m .cost) 4095
     ∷ leb (natAbs (moveAt r m .dx)) 2
@@ -85,11 +87,11 @@ lawfulTests r m =
     ∷ narrow (moveAt r m)
     ∷ []
 
-abbrev pub lawfulRow : Rows → ℕ → Bool
-lawfulRow r m = every (length (lawfulTests r m)) (λ k. getD (lawfulTests r m) k true)
+abbrev pub lawfulDir : Directions → ℕ → Bool
+lawfulDir r m = every (length (lawfulTests r m)) (λ k. getD (lawfulTests r m) k true)
 
-unfoldable pub lawfulRows : Rows → Bool
-lawfulRows r = every (r .count) (lawfulRow r)
+unfoldable pub lawfulDirs : Directions → Bool
+lawfulDirs r = every (r .count) (lawfulDir r)
 
 -- ---- the parts of a step
 

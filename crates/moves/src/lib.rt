@@ -1,4 +1,4 @@
-// The moves: the table, which rows a neighbourhood has, a step, and whether something is in its way.
+// The moves: the table, which directions a neighbourhood has, a step, and whether something is in its way.
 ghost use mathlib.Core.Path.{_≡_};
 ghost use mathlib.Core.Bool.{true};
 ghost use Prim.Native.Nat.{_+_, _-_, _<_, _≤_};
@@ -7,10 +7,20 @@ ghost use lib.ListN.{getD};
 ghost use Rattle.floor.specs.Floor.{floorOf};
 ghost use Rattle.floor.specs.Known.{Sized};
 ghost use Rattle.sight.specs.Sight.{segmentOf, unblocked};
-ghost use Rattle.moves.specs.Moves.{moves, sixteen, noMove, moveOf, rowCount, neighbourhoodOf, rowMove, rowAt, moveAt};
+ghost use Rattle.moves.specs.Moves.{
+  moves,
+  sixteen,
+  noMove,
+  moveOf,
+  dirCount,
+  neighbourhoodOf,
+  dirMove,
+  dirAt,
+  moveAt,
+};
 ghost use Rattle.moves.specs.Steps.{up, down, shifted, farEndAt, endIf, stepOf};
 ghost use Rattle.moves.specs.Table.{isSome};
-ghost use Rattle.moves.specs.Table.{lawfulRows, Short, narrow, OnFloor, Reaches, partsOf, placeOf, spotOf};
+ghost use Rattle.moves.specs.Table.{lawfulDirs, Short, narrow, OnFloor, Reaches, partsOf, placeOf, spotOf};
 use floor::Vertex;
 
 // A move: its signed offsets in columns and rows, and its cost.
@@ -20,17 +30,17 @@ pub struct Move {
     pub cost: u32,
 }
 
-// The rows that a neighbourhood has: `count` of them, from `first` on, each `stride` after the one before.
-pub struct Rows {
+// The directions that a neighbourhood has: `count` of them, from `first` on, each `stride` after the one before.
+pub struct Directions {
     pub first: usize,
     pub stride: usize,
     pub count: usize,
 }
 
-// A neighbourhood by its number: refusal 4 is `Unknown`.
+// A neighbourhood by its number: refusal 4 is `Refused`.
 pub enum Neighbourhood {
-    Known(Rows),
-    Unknown,
+    Known(Directions),
+    Refused,
 }
 
 // Where a move leads: to a vertex, or off the floor.
@@ -57,7 +67,7 @@ enum Spot {
     Outside,
 }
 
-// Document 01's table, row by row.
+// The table of eight moves (rule 3.1), direction by direction.
 const MOVES: [Move; 8] = [
     Move {
         dx: 1,
@@ -101,7 +111,7 @@ const MOVES: [Move; 8] = [
     },
 ];
 
-// The sixteen moves of request 8 of document 02, in order of angle: the eight and, between each two of them, their sum.
+// The sixteen moves of rule 3.1, in order of angle: the eight and, between each two of them, their sum.
 const SIXTEEN: [Move; 16] = [
     Move {
         dx: 1,
@@ -185,51 +195,52 @@ const SIXTEEN: [Move; 16] = [
     },
 ];
 
-// The rows of the table of eight, and of the table of sixteen.
-pub const EIGHT_ROWS: Rows = Rows {
+// The directions of the table of eight, and of the table of sixteen.
+pub const EIGHT_DIRS: Directions = Directions {
     first: 0,
     stride: 2,
     count: 8,
 };
 
-pub const SIXTEEN_ROWS: Rows = Rows {
+pub const SIXTEEN_DIRS: Directions = Directions {
     first: 16,
     stride: 1,
     count: 16,
 };
 
-// The rows of the neighbourhood with number n: 8 has the table of eight, 4 its cardinal rows, 16 the table of sixteen.
-pub fn rows_of(n: usize) -> Neighbourhood
+// The directions of the neighbourhood with number n: 8 has the table of eight, 4 its cardinal directions, 16 the table
+// of sixteen.
+pub fn directions_of(n: usize) -> Neighbourhood
     ensures { λ r. ⌜ r ≡ neighbourhoodOf n ⌝ }
 {
     if n == 16 {
-        return Neighbourhood::Known(SIXTEEN_ROWS);
+        return Neighbourhood::Known(SIXTEEN_DIRS);
     }
     if n == 8 {
-        return Neighbourhood::Known(EIGHT_ROWS);
+        return Neighbourhood::Known(EIGHT_DIRS);
     }
     if n == 4 {
-        return Neighbourhood::Known(Rows {
+        return Neighbourhood::Known(Directions {
             first: 0,
             stride: 4,
             count: 4,
         });
     }
-    Neighbourhood::Unknown
+    Neighbourhood::Refused
 }
 
-// The table's row of move m of a neighbourhood.
-pub fn row_at(rows: Rows, m: usize) -> usize
-    requires { ⌜ (lawfulRows rows ≡ true) × (m < rows .count) ⌝ }
-    ensures { λ r. ⌜ (r ≡ rowAt rows m) × (r < rowCount) ⌝ }
+// The table's direction of move m of a neighbourhood.
+pub fn dir_at(dirs: Directions, m: usize) -> usize
+    requires { ⌜ (lawfulDirs dirs ≡ true) × (m < dirs .count) ⌝ }
+    ensures { λ r. ⌜ (r ≡ dirAt dirs m) × (r < dirCount) ⌝ }
 {
-    let first = rows.first;
-    let past = rows.stride * m;
+    let first = dirs.first;
+    let past = dirs.stride * m;
     first + past
 }
 
-// Move k of the eight. The moves are named one by one: a place of a table that is known when the program is compiled is a
-// number there, and a table by a place that is not would be put together again at each reading.
+// Move k of the eight. The moves are named one by one: indexed by a constant, the table is folded by the compiler;
+// indexed by a variable, it would be built again on the stack at each reading.
 fn eight_move(k: usize) -> Move
     requires { ⌜ k < 8 ⌝ }
     ensures { λ r. ⌜ r ≡ getD moves k noMove ⌝ }
@@ -271,10 +282,11 @@ fn sixteen_move(k: usize) -> Move
     }
 }
 
-// Row k: each is a sixteenth of a turn after the one before, and the eight stand at every second of the first sixteen.
-fn row_move(k: usize) -> Move
-    requires { ⌜ k < rowCount ⌝ }
-    ensures { λ r. ⌜ r ≡ rowMove k ⌝ }
+// Direction k: each is a sixteenth of a turn after the one before, and the eight stand at every second of the first
+// sixteen.
+fn dir_move(k: usize) -> Move
+    requires { ⌜ k < dirCount ⌝ }
+    ensures { λ r. ⌜ r ≡ dirMove k ⌝ }
 {
     if k < 16 {
         return eight_move(k / 2);
@@ -282,11 +294,11 @@ fn row_move(k: usize) -> Move
     sixteen_move(k - 16)
 }
 
-// The cost of row k. A move costs what the one a quarter turn on costs, so a few moves of the tables tell it, which the
-// compiler can put into a loop.
-fn row_cost(k: usize) -> u32
-    requires { ⌜ k < rowCount ⌝ }
-    ensures { λ r. ⌜ r ≡ rowMove k .cost ⌝ }
+// The cost of direction k. Moves a quarter turn apart cost the same, so a few moves of the tables decide it, and the
+// compiler can inline this in a loop.
+fn dir_cost(k: usize) -> u32
+    requires { ⌜ k < dirCount ⌝ }
+    ensures { λ r. ⌜ r ≡ dirMove k .cost ⌝ }
 {
     if k < 16 {
         if k % 4 < 2 {
@@ -304,19 +316,19 @@ fn row_cost(k: usize) -> u32
 }
 
 // Move m of a neighbourhood.
-pub fn move_at(rows: Rows, m: usize) -> Move
-    requires { ⌜ (lawfulRows rows ≡ true) × (m < rows .count) ⌝ }
-    ensures { λ r. ⌜ r ≡ moveAt rows m ⌝ }
+pub fn move_at(dirs: Directions, m: usize) -> Move
+    requires { ⌜ (lawfulDirs dirs ≡ true) × (m < dirs .count) ⌝ }
+    ensures { λ r. ⌜ r ≡ moveAt dirs m ⌝ }
 {
-    row_move(row_at(rows, m))
+    dir_move(dir_at(dirs, m))
 }
 
 // The cost of move m of a neighbourhood.
-pub fn cost_at(rows: Rows, m: usize) -> u32
-    requires { ⌜ (lawfulRows rows ≡ true) × (m < rows .count) ⌝ }
-    ensures { λ r. ⌜ r ≡ moveAt rows m .cost ⌝ }
+pub fn cost_at(dirs: Directions, m: usize) -> u32
+    requires { ⌜ (lawfulDirs dirs ≡ true) × (m < dirs .count) ⌝ }
+    ensures { λ r. ⌜ r ≡ moveAt dirs m .cost ⌝ }
 {
-    row_cost(row_at(rows, m))
+    dir_cost(dir_at(dirs, m))
 }
 
 // How far up a signed offset goes.
@@ -330,8 +342,8 @@ fn up_of(d: i8) -> usize
     d as usize
 }
 
-// A signed offset as how far it goes up and how far down. Each is told on its own, without a choice between two offsets, so
-// that the compiler sees what a constant one comes to before it puts a function in its caller's place.
+// A signed offset as how far it goes up and how far down. Each is worked out on its own, without a choice between two
+// offsets, so that the compiler folds a constant offset before it inlines the function.
 pub fn parts_of(d: i8) -> Offset
     requires { ⌜ natAbs d ≤ 2 ⌝ }
     ensures { λ r. ⌜ r ≡ partsOf d ⌝ }
@@ -404,8 +416,8 @@ fn moved_by(a: usize, d: i8) -> usize
     a + o.up - o.down
 }
 
-// Whether no cell and no step is in the way from (x, y) to (i, j), to which dx and dy lead from there. How far apart they
-// are is read off the offsets: where these are constants, nothing is left to do but to read the cells.
+// Whether no cell and no step is in the way from (x, y) to (i, j), to which dx and dy lead from there. How far apart
+// they are follows from the offsets: where these are constants, only the reading of the cells is left.
 fn ends_unblocked(
     w: usize,
     h: usize,

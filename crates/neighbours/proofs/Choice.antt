@@ -2,11 +2,11 @@
 --
 --   BestScan T c n k r x   == x is the highest count of the first k candidates of n, 0 where there is none, and r the
 --                             best of them where x is positive
---   best-start, -off, -lower, -higher == so it is at the start, and after a move without a candidate, with one of no
+--   best-start, -off, -lower, -higher == `BestScan` at the start, and after a move without a candidate, with one of no
 --                             higher count, and with one of a higher count
 --   best-end               == the best of all, where one has a positive count
 --   OffScan d e goal i v n == n is 0 only where the vertices from i to v are not on the way
---   off-start, -more, -end == so it is at the start and after the test of one more was added; what it says at the end
+--   off-start, -more, -end == `OffScan` at the start and after one vertex more; what it says at the end
 use Prim.Native.Nat.{ℕ, suc, _+_, _≤_, _<_}
 use mathlib.Core.Path.{_≡_, refl, sym, _∙_, subst}
 use mathlib.Core.Bool.{Bool, true, false, _&&_, not, and-false}
@@ -112,11 +112,11 @@ pub record OffScan (d e : List ℕ) (goal i v n : ℕ) : Type 0 where
   pub few : n + i ≤ v
   pub off : n ≡ 0 → OffWay d e goal i v
 
-uneven : (d e : List ℕ) (goal v : ℕ) (t : Bool) → t ≡ eqb (entry d v + entry e v) (entry d goal)
+not-adding-up : (d e : List ℕ) (goal v : ℕ) (t : Bool) → t ≡ eqb (entry d v + entry e v) (entry d goal)
     → _≡_ {A = ℕ} (pick t 1 0) 0 → onShortest (entry d) (entry e) goal v ≡ false
 unfolding onShortest
-uneven d e goal v true q z = absurd (omega arith)
-uneven d e goal v false q z = rw (sym q) (and-false (ltb (entry d goal) unreachable))
+not-adding-up d e goal v true q z = absurd (omega arith)
+not-adding-up d e goal v false q z = rw (sym q) (and-false (ltb (entry d goal) unreachable))
 
 module _ {d e : List ℕ} {goal i : ℕ} where
   pub off-start : OffScan d e goal i i 0
@@ -133,7 +133,7 @@ module _ {d e : List ℕ} {goal i : ℕ} where
           (λ ge.
           let same : v ≡ u = omega arith in
           subst (λ w. onShortest (entry d) (entry e) goal w ≡ false) same
-          (uneven d e goal v (eqb (x + y) z) (rw (p, q, r)) (sym one ∙ omega arith))) (le-or-lt (suc u) v);
+          (not-adding-up d e goal v (eqb (x + y) z) (rw (p, q, r)) (sym one ∙ omega arith))) (le-or-lt (suc u) v);
     };
   }
 
@@ -143,17 +143,17 @@ module _ {d e : List ℕ} {goal i : ℕ} where
   }
 
 module _ (on : ℕ → Bool) (D : ℕ → ℕ) (v w c : ℕ) where
-  pub follows-uneven : (D w ≡ D v + c → ⊥) → false ≡ followsBy on D v w c
+  pub follows-not : (D w ≡ D v + c → ⊥) → false ≡ followsBy on D v w c
   unfolding followsBy
-  follows-uneven ne = rw (ne-eqb (D w) (D v + c) ne) (and-false (on w))
+  follows-not ne = rw (ne-eqb (D w) (D v + c) ne) (and-false (on w))
     where
       and-false : (p : Bool) → false ≡ (p && false)
       and-false true = refl
       and-false false = refl
 
-  pub follows-even : D w ≡ D v + c → on w ≡ followsBy on D v w c
+  pub follows-adds-up : D w ≡ D v + c → on w ≡ followsBy on D v w c
   unfolding followsBy
-  follows-even e = rw (eq-eqb (D w) (D v + c) e) (and-true (on w))
+  follows-adds-up e = rw (eq-eqb (D w) (D v + c) e) (and-true (on w))
     where
       and-true : (p : Bool) → p ≡ (p && true)
       and-true true = refl

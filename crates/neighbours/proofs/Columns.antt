@@ -11,7 +11,7 @@ use borrow.Author.Tests.{not-true, not-false}
 use Rattle.basics.specs.Bounded.{every}
 use Rattle.floor.specs.Floor.{floorOf, number}
 use Rattle.floor.proofs.Numbers.{number-lt}
-use Rattle.moves.specs.declared.Rows.{Rows}
+use Rattle.moves.specs.declared.Directions.{Directions}
 use Rattle.moves.specs.Table.{OnFloor}
 use Rattle.moves.proofs.Table.{listed-lawful}
 use Rattle.moves.specs.Leaving.{leaves}
@@ -22,7 +22,7 @@ use Rattle.grid.specs.Leaving.{leavingGraph}
 use Rattle.grid.specs.Known.{GoodJob}
 use Rattle.neighbours.proofs.Shown.{Shows, mask-shows}
 
-pub column-shows : {w h a b x y mask v : ℕ} {map s : List ℕ} {r : Rows} → GoodJob w h map r a b → Shifts w r s
+pub column-shows : {w h a b x y mask v : ℕ} {map s : List ℕ} {r : Directions} → GoodJob w h map r a b → Shifts w r s
     → OnFloor w h x y → Leaving (floorOf w h map) r x y mask → v ≡ number w x y
     → Shows (leavingGraph (floorOf w h map) r) r s mask v
 column-shows {w} {h} {x = x} {y} {mask} {map = map} {r = r} J S o is numbered =

@@ -5,9 +5,10 @@
 --                         source a has it not
 --   right-small        == a cost that passes the test is at most M
 --   far-of, half-far   == where every cost passes the test on g, or on h, a vertex that has P is unreached
---   half-costs         == the test of every cost is the same
---   counts-half, next-half == where these vertices are unreached, so are a count and the next vertex
---   leads-half         == and a move leads on from v on h where one does on g
+--   half-costs         == the test of every cost is the same on g and on h
+--   counts-half, next-half == where the vertices that have P are unreached, a count and the next vertex are the same on
+--                         g and on h
+--   leads-half         == where the vertices that have P are unreached, a move leads on from v on h where one does on g
 use Prim.Native.Nat.{ℕ, zero, suc, _+_, _≤_, _<_}
 use mathlib.Core.Path.{_≡_, refl, sym, ap, _∙_}
 use mathlib.Core.Bool.{Bool, true, false, _&&_, _||_}

@@ -2,16 +2,17 @@
 -- passes the checker's tests of all vertices exactly when the floor's graph does.
 --
 --   pinched f v     == vertex v is a pinch
---   leaving-half    == the law, for a source that is no pinch
+--   leaving-half    == `HalfOf` of the floor's graph and that of the moves that leave a vertex, for a source that is no
+--                      pinch
 use Prim.Native.Nat.{ℕ, _<_}
 use mathlib.Core.Path.{_≡_, refl}
 use mathlib.Core.Bool.{Bool, true, false}
 use Rattle.floor.specs.Floor.{Floor, column, row}
 use Rattle.sight.specs.Sight.{pinch}
-use Rattle.moves.specs.declared.Rows.{Rows}
+use Rattle.moves.specs.declared.Directions.{Directions}
 use Rattle.moves.specs.Moves.{moveAt}
 use Rattle.moves.specs.Leaving.{leaves}
-use Rattle.moves.specs.Table.{lawfulRows}
+use Rattle.moves.specs.Table.{lawfulDirs}
 use Rattle.moves.proofs.Table.{LawfulMove, lawful-move}
 use Rattle.moves.proofs.Opposites.{goes, goes-inside}
 use Rattle.moves.proofs.Leaving.{leaves-none, leaves-shut, leaves-leads}
@@ -22,7 +23,7 @@ use Rattle.neighbours.proofs.Half.{HalfOf}
 abbrev pub pinched : Floor → ℕ → Bool
 pinched f v = pinch f (column (f .wide) v) (row (f .wide) v)
 
-module _ (f : Floor) (r : Rows) (lawful : lawfulRows r ≡ true) where
+module _ (f : Floor) (r : Directions) (lawful : lawfulDirs r ≡ true) where
   law : (m : ℕ) → m < r .count → LawfulMove r m
   law m l = lawful-move r m lawful l
 

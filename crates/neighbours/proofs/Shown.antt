@@ -1,15 +1,15 @@
--- What the mask of a vertex of a floor shows, with the shifts of the rows.
+-- What the mask of a vertex of a floor shows, with the shifts of the directions.
 --
 --   Shows g r s mask v   == the steps from v by its mask are those of the graph g, and can be read
---   mask-shows           == so it is on a floor, with the mask of v's moves that pass the test S
+--   mask-shows           == on a floor the mask of v's moves that pass the test S `Shows` the graph of those moves
 use Prim.Native.Nat.{ℕ, _≤_, _<_}
 use mathlib.Core.Path.{_≡_, refl, sym, _∙_}
 use mathlib.Core.Bool.{Bool, true}
 use mathlib.Core.List.{List}
 use Rattle.floor.specs.Floor.{Floor, vertices}
 use Rattle.sight.specs.Sight.{Segment}
-use Rattle.moves.specs.declared.Rows.{Rows}
-use Rattle.moves.specs.Table.{lawfulRows}
+use Rattle.moves.specs.declared.Directions.{Directions}
+use Rattle.moves.specs.Table.{lawfulDirs}
 use Rattle.moves.specs.Moves.{moveAt}
 use Rattle.moves.proofs.Opposites.{goes, goes-inside}
 use Rattle.masks.specs.Masks.{MaskAt}
@@ -20,11 +20,11 @@ use Rattle.grid.proofs.Masks.{step-masked, step-movable}
 use Rattle.neighbours.specs.Reading.{readStep, maskGraph, Readable}
 use Rattle.neighbours.proofs.Agree.{Agrees}
 
-pub record Shows (g : Graph) (r : Rows) (s : List ℕ) (mask v : ℕ) : Type 0 where
+pub record Shows (g : Graph) (r : Directions) (s : List ℕ) (mask v : ℕ) : Type 0 where
   pub readable : Readable (g .size) r s mask v
   pub agrees : Agrees (maskGraph (g .size) r s mask) g v
 
-module _ (S : Floor → Segment → Bool) (f : Floor) (r : Rows) (lawful : lawfulRows r ≡ true) {s : List ℕ}
+module _ (S : Floor → Segment → Bool) (f : Floor) (r : Directions) (lawful : lawfulDirs r ≡ true) {s : List ℕ}
     (H : Shifts (f .wide) r s) (p : f .wide ≤ 127) (q : f .high ≤ 127) (mask v : ℕ)
     (i : v < vertices (f .wide) (f .high)) (o : MaskAt S f r v mask) where
   step-same : (m : ℕ) → m < r .count → readStep r s mask v m ≡ graphIf S f r .step m v

@@ -63,10 +63,10 @@ module _ {g : Graph} {D F : ℕ → ℕ} {v : ℕ} where
     unfolding inflowBy given
     sum-slack ne = nothing h l (rw (goes, inflowBy) (when-no (D w + g .cost k) (D v) (F w) ne))
 
-    module _ (even : D w + g .cost k ≡ D v) where
+    module _ (adds-up : D w + g .cost k ≡ D v) where
       adds : inflowBy g D F v k ≡ F w
       unfolding inflowBy given
-      adds = rw (goes, inflowBy) (when-yes (D w + g .cost k) (D v) (F w) even)
+      adds = rw (goes, inflowBy) (when-yes (D w + g .cost k) (D v) (F w) adds-up)
 
       pub sum-tight : s + F w < 2 ^ 64 → SumScan g D F v (k + 1) (s + F w)
       sum-tight fits = more (F w) h l adds fits

@@ -8,7 +8,8 @@
 --   candidateOf, traversalOf       == `candidate` and the traversal count, by the slices
 --   nextOf r s mask d e f b goal v == `nextVertex`, by the slices
 --   OnwardBy r s mask d e f b goal v == some move leads on from v, by the slices (`Onward` of paths)
---   LeadsBy r s mask d e f b goal v  == so it is where v is on the way and not the goal (`Leads` of paths)
+--   LeadsBy r s mask d e f b goal v == where v is on the way and not the goal, some move leads on from v, by the slices
+--                                     (`Leads` of paths)
 use Prim.Native.Nat.{ℕ, _+_, _*_, _^_, _≤_, _<_}
 use mathlib.Core.Path.{_≡_}
 use mathlib.Core.Bool.{Bool, false, _&&_}
@@ -19,10 +20,10 @@ use lib.ListN.{length}
 use Rattle.paths.specs.Route.{onShortest, candidate, nextVertex}
 use Rattle.paths.specs.Onward.{Onward, Leads}
 use Rattle.paths.specs.Local.{entry}
-use Rattle.moves.specs.declared.Rows.{Rows}
+use Rattle.moves.specs.declared.Directions.{Directions}
 use Rattle.neighbours.specs.Reading.{maskGraph, Readable}
 
-pub record Choosing (r : Rows) (s : List ℕ) (mask : ℕ) (d e : List ℕ) (goal v : ℕ) : Type 0 where
+pub record Choosing (r : Directions) (s : List ℕ) (mask : ℕ) (d e : List ℕ) (goal v : ℕ) : Type 0 where
   pub readable : Readable (length d) r s mask v
   pub goal-in : goal < length d
   pub e-len : length e ≡ length d
@@ -41,18 +42,18 @@ pub record OffWay (d e : List ℕ) (goal i j : ℕ) : Type 0 where
 unfoldable pub followsBy : (ℕ → Bool) → (ℕ → ℕ) → ℕ → ℕ → ℕ → Bool
 followsBy on D v w c = on w && eqb (D w) (D v + c)
 
-abbrev pub candidateOf : Rows → List ℕ → ℕ → List ℕ → List ℕ → ℕ → ℕ → ℕ → Option ℕ
+abbrev pub candidateOf : Directions → List ℕ → ℕ → List ℕ → List ℕ → ℕ → ℕ → ℕ → Option ℕ
 candidateOf r s mask d e goal =
     candidate (maskGraph (length d) r s mask) (onShortest (entry d) (entry e) goal) (entry d)
 
-abbrev pub nextOf : Rows → List ℕ → ℕ → List ℕ → List ℕ → List ℕ → List ℕ → ℕ → ℕ → Option ℕ
+abbrev pub nextOf : Directions → List ℕ → ℕ → List ℕ → List ℕ → List ℕ → List ℕ → ℕ → ℕ → Option ℕ
 nextOf r s mask d e f b goal =
     nextVertex (maskGraph (length d) r s mask) (onShortest (entry d) (entry e) goal) (entry d) (traversalOf f b)
 
-abbrev pub OnwardBy : Rows → List ℕ → ℕ → List ℕ → List ℕ → List ℕ → List ℕ → ℕ → ℕ → Type 0
+abbrev pub OnwardBy : Directions → List ℕ → ℕ → List ℕ → List ℕ → List ℕ → List ℕ → ℕ → ℕ → Type 0
 OnwardBy r s mask d e f b goal =
     Onward (maskGraph (length d) r s mask) (onShortest (entry d) (entry e) goal) (entry d) (traversalOf f b)
 
-abbrev pub LeadsBy : Rows → List ℕ → ℕ → List ℕ → List ℕ → List ℕ → List ℕ → ℕ → ℕ → Type 0
+abbrev pub LeadsBy : Directions → List ℕ → ℕ → List ℕ → List ℕ → List ℕ → List ℕ → ℕ → ℕ → Type 0
 LeadsBy r s mask d e f b goal =
     Leads (maskGraph (length d) r s mask) (onShortest (entry d) (entry e) goal) (entry d) (traversalOf f b) goal

@@ -1,26 +1,26 @@
 // What the open moves of a vertex say of numbers that are kept for each vertex: costs, counts and the next vertex of
 // the central route.
 //
-// The moves are read in one form: the rows of the neighbourhood, with their costs in the table; by how much the move of
-// each row changes a vertex number, as `offsets::shifts_of` has it; and a mask of the vertex's moves, the open ones or those
-// that leave it. The shifts are lent, since an array passed by value would be copied at each vertex.
+// The moves are read in one form: the directions of the neighbourhood, with their costs in the table; by how much the
+// move of each direction changes a vertex number, as `offsets::shifts_of` has it; and a mask of the vertex's moves, the
+// open ones or those that leave it. The shifts are lent, since an array passed by value would be copied at each vertex.
 ghost use mathlib.Core.Path.{_≡_};
 ghost use mathlib.Core.Bool.{_&&_, true, false};
 ghost use mathlib.Core.Option.{some};
-ghost use Prim.Native.Nat.{_<_, _≤_, _^_};
+ghost use Prim.Native.Nat.{_<_, _≤_, _^_, min};
 ghost use lib.ListN.{length};
 ghost use Rattle.basics.specs.Bounded.{pick};
-ghost use Rattle.moves.specs.Moves.{rowCount, rowAt, moveAt};
-ghost use Rattle.moves.specs.Table.{lawfulRows};
+ghost use Rattle.moves.specs.Moves.{dirCount, dirAt, moveAt};
+ghost use Rattle.moves.specs.Table.{lawfulDirs};
 ghost use Rattle.offsets.specs.Offsets.{Movable, shiftedBy, endOf};
 ghost use Rattle.paths.specs.Route.{onShortest};
 ghost use Rattle.paths.specs.Local.{entry, inflow};
 ghost use Rattle.neighbours.specs.Reading.{readStep, maskGraph, Readable, sumOf};
-ghost use Rattle.neighbours.specs.Least.{endAt, lesserOf, leastBy, leastTwo, rightBy, rightNear};
-ghost use Rattle.neighbours.specs.Least.{ClassLent, Near};
+ghost use Rattle.neighbours.specs.Least.{endAt, leastBy, leastTwo, rightBy, rightLeast};
+ghost use Rattle.neighbours.specs.Least.{ClassLent, ClassesLent};
 ghost use Rattle.neighbours.specs.Choice.{Choosing, Counted, OnwardBy, OffWay, followsBy, traversalOf, nextOf};
 use floor::Vertex;
-use moves::Rows;
+use moves::Directions;
 use offsets::Class;
 use offsets::OpenEnd;
 
@@ -33,41 +33,34 @@ pub enum Sum {
     Over,
 }
 
-// A cost in 64 bits, where a sum of two fits.
-fn wide(x: u32) -> u64
-    ensures { λ r. ⌜ (r ≡ x) × (r < 4294967296) ⌝ }
-{
-    x as u64
-}
-
 // The cost of vertex v, in 64 bits.
 fn cost_at(d: &[u32], v: usize) -> u64
     requires { ⌜ v < length (now d) ⌝ }
     ensures { λ r. ⌜ (r ≡ entry (now (d .entry)) v) × (r < 4294967296) ⌝ }
 {
-    wide(d[v])
+    basics::wide(d[v])
 }
 
-// Where move m of the rows leads from v.
-fn far_end(rows: Rows, shifts: &[usize], mask: u32, v: usize, m: usize) -> OpenEnd
-    requires { ⌜ (lawfulRows rows ≡ true) × (m < rows .count) × (length (now shifts) ≡ rowCount)
-        × Movable mask v (rowAt rows m) (shiftedBy (now shifts) (rowAt rows m)) ⌝ }
-    ensures { λ r. ⌜ r ≡ endOf (readStep rows (now (shifts .entry)) mask v m) ⌝ }
+// Where move m of the directions leads from v.
+fn far_end(dirs: Directions, shifts: &[usize], mask: u32, v: usize, m: usize) -> OpenEnd
+    requires { ⌜ (lawfulDirs dirs ≡ true) × (m < dirs .count) × (length (now shifts) ≡ dirCount)
+        × Movable mask v (dirAt dirs m) (shiftedBy (now shifts) (dirAt dirs m)) ⌝ }
+    ensures { λ r. ⌜ r ≡ endOf (readStep dirs (now (shifts .entry)) mask v m) ⌝ }
 {
-    let k = moves::row_at(rows, m);
+    let k = moves::dir_at(dirs, m);
     offsets::open_end(mask, Vertex(v), k, shifts[k])
 }
 
-// The cost of move m of the rows, in 64 bits.
-fn move_cost(rows: Rows, m: usize) -> u64
-    requires { ⌜ (lawfulRows rows ≡ true) × (m < rows .count) ⌝ }
-    ensures { λ r. ⌜ (r ≡ moveAt rows m .cost) × (r < 4294967296) ⌝ }
+// The cost of move m of the directions, in 64 bits.
+fn move_cost(dirs: Directions, m: usize) -> u64
+    requires { ⌜ (lawfulDirs dirs ≡ true) × (m < dirs .count) ⌝ }
+    ensures { λ r. ⌜ (r ≡ moveAt dirs m .cost) × (r < 4294967296) ⌝ }
 {
-    wide(moves::cost_at(rows, m))
+    basics::wide(moves::cost_at(dirs, m))
 }
 
-// Where row k of the table leads from v, by the mask of v's open moves and the shifts: v itself where that move is shut. A
-// loop over the rows of a class then has nothing to branch on.
+// Where direction k of the table leads from v, by the mask of v's open moves and the shifts: v itself where that move
+// is shut. A loop over the directions of a class then has nothing to branch on.
 pub fn end_or_self(mask: u32, v: Vertex, k: usize, shifts: &[usize]) -> Vertex
     requires { ⌜ (k < length (now shifts)) × Movable mask (v .0) k (shiftedBy (now shifts) k) ⌝ }
     ensures { λ r. ⌜ r .0 ≡ endAt (now (shifts .entry)) mask (v .0) k ⌝ }
@@ -78,9 +71,9 @@ pub fn end_or_self(mask: u32, v: Vertex, k: usize, shifts: &[usize]) -> Vertex
     end
 }
 
-// The lesser of two costs.
-fn lesser(x: u64, y: u64) -> u64
-    ensures { λ r. ⌜ r ≡ lesserOf x y ⌝ }
+// The minimum of two costs.
+fn min(x: u64, y: u64) -> u64
+    ensures { λ r. ⌜ r ≡ min x y ⌝ }
 {
     if x < y {
         return x;
@@ -99,10 +92,10 @@ fn least_by(shifts: &[usize], class: Class, mask: u32, d: &[u32], v: usize) -> u
     }
     let mut least = NOWHERE;
     for j in 0..4 {
-        let w = end_or_self(mask, Vertex(v), offsets::class_row(class, j), shifts);
-        least = lesser(least, cost_at(d, w.0));
+        let w = end_or_self(mask, Vertex(v), offsets::class_dir(class, j), shifts);
+        least = min(least, cost_at(d, w.0));
     }
-    least + wide(class.cost)
+    least + basics::wide(class.cost)
 }
 
 // The cost of v from a is right, where `least` is the least that a move gives it. The source and a vertex that is not
@@ -132,7 +125,7 @@ fn least_two(shifts: &[usize], one: Class, other: Class, mask: u32, d: &[u32], v
 {
     let x = least_by(shifts, one, mask, d, v);
     let y = least_by(shifts, other, mask, d, v);
-    lesser(x, y)
+    min(x, y)
 }
 
 // The cost d(v) from a is right, as far as v and its neighbours can tell. The last two classes are asked only where the
@@ -146,12 +139,12 @@ pub fn cost_right(
     d: &[u32],
     v: usize,
 ) -> bool
-    requires { ⌜ Near (length (now d)) (now shifts) classes mask v ⌝ }
-    ensures { λ r. ⌜ r ≡ rightNear (now (shifts .entry)) classes mask a (entry (now (d .entry))) v ⌝ }
+    requires { ⌜ ClassesLent (length (now d)) (now shifts) classes mask v ⌝ }
+    ensures { λ r. ⌜ r ≡ rightLeast (now (shifts .entry)) classes mask a (entry (now (d .entry))) v ⌝ }
 {
     let mut least = least_two(shifts, classes[0], classes[1], mask, d, v);
     if classes[2].cost != 0 {
-        least = lesser(least, least_two(shifts, classes[2], classes[3], mask, d, v));
+        least = min(least, least_two(shifts, classes[2], classes[3], mask, d, v));
     }
     right_by(least, a, d, v)
 }
@@ -168,23 +161,23 @@ pub fn costs_right(
     e: &[u32],
     v: usize,
 ) -> bool
-    requires { ⌜ Near (length (now d)) (now shifts) classes mask v × (length (now e) ≡ length (now d)) ⌝ }
-    ensures { λ r. ⌜ r ≡ (rightNear (now (shifts .entry)) classes mask a (entry (now (d .entry))) v
-        && rightNear (now (shifts .entry)) classes mask b (entry (now (e .entry))) v) ⌝ }
+    requires { ⌜ ClassesLent (length (now d)) (now shifts) classes mask v × (length (now e) ≡ length (now d)) ⌝ }
+    ensures { λ r. ⌜ r ≡ (rightLeast (now (shifts .entry)) classes mask a (entry (now (d .entry))) v
+        && rightLeast (now (shifts .entry)) classes mask b (entry (now (e .entry))) v) ⌝ }
 {
     let d_first = least_by(shifts, classes[0], mask, d, v);
     let e_first = least_by(shifts, classes[0], mask, e, v);
     let d_second = least_by(shifts, classes[1], mask, d, v);
     let e_second = least_by(shifts, classes[1], mask, e, v);
-    let mut d_least = lesser(d_first, d_second);
-    let mut e_least = lesser(e_first, e_second);
+    let mut d_least = min(d_first, d_second);
+    let mut e_least = min(e_first, e_second);
     if classes[2].cost != 0 {
         let d_third = least_by(shifts, classes[2], mask, d, v);
         let e_third = least_by(shifts, classes[2], mask, e, v);
         let d_fourth = least_by(shifts, classes[3], mask, d, v);
         let e_fourth = least_by(shifts, classes[3], mask, e, v);
-        d_least = lesser(d_least, lesser(d_third, d_fourth));
-        e_least = lesser(e_least, lesser(e_third, e_fourth));
+        d_least = min(d_least, min(d_third, d_fourth));
+        e_least = min(e_least, min(e_third, e_fourth));
     }
     if !right_by(d_least, a, d, v) {
         return false;
@@ -193,18 +186,25 @@ pub fn costs_right(
 }
 
 // The sum of the counts f of the neighbours of v that lead to it cheapest, by the costs d.
-pub fn inflow_at(rows: Rows, shifts: &[usize], mask: u32, d: &[u32], f: &[u64], v: usize) -> Sum
-    requires { ⌜ Readable (length (now d)) rows (now shifts) mask v × (length (now f) ≡ length (now d)) ⌝ }
-    ensures { λ r. ⌜ r ≡ sumOf (inflow (maskGraph (length (now (d .entry))) rows (now (shifts .entry)) mask)
+pub fn inflow_at(
+    dirs: Directions,
+    shifts: &[usize],
+    mask: u32,
+    d: &[u32],
+    f: &[u64],
+    v: usize,
+) -> Sum
+    requires { ⌜ Readable (length (now d)) dirs (now shifts) mask v × (length (now f) ≡ length (now d)) ⌝ }
+    ensures { λ r. ⌜ r ≡ sumOf (inflow (maskGraph (length (now (d .entry))) dirs (now (shifts .entry)) mask)
         (entry (now (d .entry))) (entry (now (f .entry))) v) ⌝ }
 {
     let here = cost_at(d, v);
     let mut s: u64 = 0;
-    for m in 0..rows.count {
-        let OpenEnd::At(w) = far_end(rows, shifts, mask, v, m) else {
+    for m in 0..dirs.count {
+        let OpenEnd::At(w) = far_end(dirs, shifts, mask, v, m) else {
             continue;
         };
-        if cost_at(d, w.0) + move_cost(rows, m) != here {
+        if cost_at(d, w.0) + move_cost(dirs, m) != here {
             continue;
         }
         let at = w.0;
@@ -276,7 +276,7 @@ fn traversal_at(f: &[u64], b: &[u64], v: usize) -> u64
 // Where the central route goes from v, by the costs d and e and the counts f and b: of the candidates with the highest
 // traversal count the first. There is one, since a move leads on from v: some candidate has a positive count.
 pub fn next_at(
-    rows: Rows,
+    dirs: Directions,
     shifts: &[usize],
     mask: u32,
     d: &[u32],
@@ -286,18 +286,18 @@ pub fn next_at(
     goal: usize,
     v: usize,
 ) -> Vertex
-    requires { ⌜ Choosing rows (now shifts) mask (now d) (now e) goal v × Counted (length (now d)) (now f) (now b)
-        × OnwardBy rows (now shifts) mask (now d) (now e) (now f) (now b) goal v ⌝ }
-    ensures { λ r. ⌜ nextOf rows (now (shifts .entry)) mask
+    requires { ⌜ Choosing dirs (now shifts) mask (now d) (now e) goal v × Counted (length (now d)) (now f) (now b)
+        × OnwardBy dirs (now shifts) mask (now d) (now e) (now f) (now b) goal v ⌝ }
+    ensures { λ r. ⌜ nextOf dirs (now (shifts .entry)) mask
         (now (d .entry)) (now (e .entry)) (now (f .entry)) (now (b .entry)) goal v ≡ some (r .0) ⌝ }
 {
     let mut best = Vertex(v);
     let mut high: u64 = 0;
-    for m in 0..rows.count {
-        let OpenEnd::At(w) = far_end(rows, shifts, mask, v, m) else {
+    for m in 0..dirs.count {
+        let OpenEnd::At(w) = far_end(dirs, shifts, mask, v, m) else {
             continue;
         };
-        if !follows(d, e, goal, v, w.0, move_cost(rows, m)) {
+        if !follows(d, e, goal, v, w.0, move_cost(dirs, m)) {
             continue;
         }
         let x = traversal_at(f, b, w.0);

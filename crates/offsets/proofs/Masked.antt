@@ -1,11 +1,11 @@
--- A step by a mask: a vertex moved by its row's offset, where its mask has that row's bit, goes where the move leads whose
--- test S the mask holds.
+-- A step by a mask: a vertex moved by its direction's offset, where its mask has that direction's bit, goes where the
+-- move leads whose test S the mask holds.
 --
 --   move-offset     == the offset of a move is small
 --   composed        == the offset of a move, from the parts of its two offsets
---   masked-end      == so it does
---   masked-movable  == and that can be worked out
---   shifts-..       == and the same by the list of shifts
+--   masked-end      == `maskedEnd` is the far end of the move, where the mask holds its test S
+--   masked-movable  == `maskedEnd` can be worked out without a number that does not fit (`Movable`)
+--   shifts-..       == `maskedEnd` by the list of shifts
 use Prim.Native.Nat.{ℕ, suc, _+_, _-_, _*_, _≤_, _<_}
 use mathlib.Core.Path.{_≡_, refl, sym, ap, subst, _∙_}
 use mathlib.Core.Logic.{⊎-elim}
@@ -24,16 +24,16 @@ use Rattle.floor.proofs.Numbers.{vertices-le, column-le, number-of}
 use Rattle.sight.specs.Sight.{Segment}
 use Rattle.moves.specs.declared.Move.{Move}
 use Rattle.moves.specs.declared.Offset.{Offset}
-use Rattle.moves.specs.declared.Rows.{Rows}
-use Rattle.moves.specs.Moves.{rowCount, rowMove, rowAt, moveAt}
+use Rattle.moves.specs.declared.Directions.{Directions}
+use Rattle.moves.specs.Moves.{dirCount, dirMove, dirAt, moveAt}
 use Rattle.moves.specs.Steps.{up, down, endIf}
-use Rattle.moves.specs.Table.{isSome, Within, Short, lawfulRows, partsOf}
+use Rattle.moves.specs.Table.{isSome, Within, Short, lawfulDirs, partsOf}
 use Rattle.basics.specs.Bits.{bit}
 use Rattle.masks.specs.Masks.{MaskAt}
 use Rattle.offsets.specs.Offsets.{offsetOf, maskedEnd, Movable}
 use Rattle.offsets.specs.Offsets.{shiftBase, Shifts, shiftedBy}
 use Rattle.moves.proofs.Signs.{up-le, down-le}
-use Rattle.moves.proofs.Table.{LawfulMove, lawful-move, same-row}
+use Rattle.moves.proofs.Table.{LawfulMove, lawful-move, same-dir}
 use Rattle.moves.proofs.Steps.{Goes, end-goes}
 
 -- Where a move leads, by its offset.
@@ -82,10 +82,10 @@ composed w m x y p q l s = rw (p, q) (record {
   is = rw add-one;
 })
 
-module _ (S : Floor → Segment → Bool) (f : Floor) (r : Rows) (lawful : lawfulRows r ≡ true) (v n : ℕ)
+module _ (S : Floor → Segment → Bool) (f : Floor) (r : Directions) (lawful : lawfulDirs r ≡ true) (v n : ℕ)
     (mask : MaskAt S f r v n) (j : ℕ) (l : j < r .count) where
   abbrev k : ℕ
-  k = rowAt r j
+  k = dirAt r j
 
   abbrev m : Move
   m = moveAt r j
@@ -123,7 +123,7 @@ module _ (S : Floor → Segment → Bool) (f : Floor) (r : Rows) (lawful : lawfu
 
   pub masked-movable : f .wide ≤ 127 → f .high ≤ 127 → v < vertices (f .wide) (f .high) → Movable n v k o
   masked-movable p q i = record {
-    row = omega (arith, law .in-table);
+    dir = omega (arith, law .in-table);
     sum = omega (arith, vertices-le p q, up-small (f .wide) m p (law .is-short));
     enough = λ e. enough (end) refl e;
   }
@@ -132,64 +132,65 @@ module _ (S : Floor → Segment → Bool) (f : Floor) (r : Rows) (lawful : lawfu
       enough none e b = let z : true ≡ false = sym b ∙ unset e in let y : _≡_ {A = ℕ} 0 1 = cc in absurd (omega arith)
       enough (some w) e b = omega (arith, moved w e)
 
--- ---- the rows by their shifts
+-- ---- the directions by their shifts
 
-module _ {w : ℕ} {r : Rows} {l : List ℕ} (S : Shifts w r l) (j : ℕ) (h : j < r .count) where
+module _ {w : ℕ} {r : Directions} {l : List ℕ} (S : Shifts w r l) (j : ℕ) (h : j < r .count) where
   abbrev kept : ℕ
-  kept = rowAt r j
+  kept = dirAt r j
 
-  -- v moved by a row's offset, and by that offset as it stands in the list of shifts.
+  -- v moved by a direction's offset, and by that offset as it stands in the list of shifts.
   pub shifts-masked : (n v : ℕ) → maskedEnd n v kept (shiftedBy l kept) ≡ maskedEnd n v kept (offsetOf w (moveAt r j))
   shifts-masked n v =
       let e : v + getD l kept 0 - shiftBase ≡ v + offsetOf w (moveAt r j) .up - offsetOf w (moveAt r j) .down =
       omega (arith, S .at j h) in
       ap (λ u. pick (bit n kept) (some u) none) e
 
-  pub shifts-movable : lawfulRows r ≡ true → (n v : ℕ) → w ≤ 127 → v < 16384
+  pub shifts-movable : lawfulDirs r ≡ true → (n v : ℕ) → w ≤ 127 → v < 16384
       → Movable n v kept (offsetOf w (moveAt r j)) → Movable n v kept (shiftedBy l kept)
   shifts-movable lawful n v p i m =
       let s = lawful-move r j lawful h .is-short in
       let u = up-small w (moveAt r j) p s in
       let d = down-small w (moveAt r j) p s in
       record {
-        row = m .row;
+        dir = m .dir;
         sum = omega (arith, S .at j h);
         enough = λ b. omega (arith, S .at j h, m .enough b);
       }
 
--- The shifts of the rows of the moves before n.
-pub record ShiftsTo (w : ℕ) (r : Rows) (n : ℕ) (l : List ℕ) : Type 0 where
-  pub len : length l ≡ rowCount
+-- The shifts of the directions of the moves before n.
+pub record ShiftsTo (w : ℕ) (r : Directions) (n : ℕ) (l : List ℕ) : Type 0 where
+  pub len : length l ≡ dirCount
   pub at : (m : ℕ) → m < n
-      → getD l (rowAt r m) 0 + offsetOf w (moveAt r m) .down ≡ shiftBase + offsetOf w (moveAt r m) .up
+      → getD l (dirAt r m) 0 + offsetOf w (moveAt r m) .down ≡ shiftBase + offsetOf w (moveAt r m) .up
 
-pub shifts-none : {w : ℕ} {r : Rows} {l : List ℕ} → length l ≡ rowCount → ShiftsTo w r 0 l
+pub shifts-none : {w : ℕ} {r : Directions} {l : List ℕ} → length l ≡ dirCount → ShiftsTo w r 0 l
 shifts-none e = record { len = e; at = λ m h. absurd (omega arith) }
 
-pub shifts-more : {w n k : ℕ} {r : Rows} {l : List ℕ} (x : ℕ) → lawfulRows r ≡ true → ShiftsTo w r n l → n < r .count
-    → k ≡ rowAt r n → x + offsetOf w (moveAt r n) .down ≡ shiftBase + offsetOf w (moveAt r n) .up
+pub shifts-more : {w n k : ℕ} {r : Directions} {l : List ℕ} (x : ℕ) → lawfulDirs r ≡ true → ShiftsTo w r n l
+    → n < r .count
+    → k ≡ dirAt r n → x + offsetOf w (moveAt r n) .down ≡ shiftBase + offsetOf w (moveAt r n) .up
     → ShiftsTo w r (n + 1) (set l k x)
 shifts-more {w} {n} {k} {r} {l} x lawful S h e is = rw e (record {
-  len = length-set l (rowAt r n) x ∙ S .len;
+  len = length-set l (dirAt r n) x ∙ S .len;
   at = λ m g. ⊎-elim
       (λ (lt : suc m ≤ n).
-      rw (getD-set-other l (rowAt r n) (rowAt r m) x 0
-      (λ same. let z = same-row r lawful m n (omega arith) h same in omega arith)) (S .at m lt))
+      rw (getD-set-other l (dirAt r n) (dirAt r m) x 0
+      (λ same. let z = same-dir r lawful m n (omega arith) h same in omega arith)) (S .at m lt))
       (λ (ge : n < suc m).
       let z : m ≡ n = omega arith in
-      rw (z, getD-set-same l (rowAt r n) x 0 (omega (arith, S .len, lawful-move r n lawful h .in-table))) is)
+      rw (z, getD-set-same l (dirAt r n) x 0 (omega (arith, S .len, lawful-move r n lawful h .in-table))) is)
       (le-or-lt (suc m) n);
 })
 
-pub shifts-all : {w : ℕ} {r : Rows} {l : List ℕ} → ShiftsTo w r (r .count) l → Shifts w r l
+pub shifts-all : {w : ℕ} {r : Directions} {l : List ℕ} → ShiftsTo w r (r .count) l → Shifts w r l
 shifts-all S = record { len = S .len; at = S .at }
 
--- The shifts of a table, for the rows that it has.
-pub shifts-within : {w : ℕ} {r t : Rows} {l : List ℕ} → Within r t → Shifts w t l → Shifts w r l
+-- The shifts of a table, for the directions that it has.
+pub shifts-within : {w : ℕ} {r t : Directions} {l : List ℕ} → Within r t → Shifts w t l → Shifts w r l
 shifts-within {w} {r} {t} {l} I S = record {
   len = S .len;
   at = λ m h.
       let k = I .at m h in
-      subst (λ k. getD l k 0 + offsetOf w (rowMove k) .down ≡ shiftBase + offsetOf w (rowMove k) .up) (sym (k .2))
+      subst (λ k. getD l k 0 + offsetOf w (dirMove k) .down ≡ shiftBase + offsetOf w (dirMove k) .up) (sym (k .2))
       (S .at (k .0) (k .1));
 }

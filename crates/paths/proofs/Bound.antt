@@ -2,12 +2,12 @@
 -- joins two vertices, of whatever cost.
 --
 --   nearer              == how many vertices are nearer to a than v
---   nearer-lt           == fewer than there are vertices
---   nearer-falls        == fewer at a nearer vertex
+--   nearer-lt           == nearer to a than v are fewer vertices than there are
+--   nearer-falls        == `nearer` falls from a vertex to one nearer to a
 --   distance-bound      == distance g a v ≤ top * (size - 1), where no move costs more than top
 --   walk-reaches        == on at most 16,384 vertices, a walk of any cost puts the distance below `unreachable`
 --   reached-exact       == the distance is below `unreachable` exactly where a walk joins the two
---   unreachable-exact   == it is `unreachable` exactly where none does
+--   unreachable-exact   == the distance is `unreachable` exactly where no walk joins the two
 --   distance-shortest   == no walk of any cost is cheaper
 use Prim.Native.Nat.{ℕ, zero, suc, _-_, _*_, _≤_, _<_}
 use mathlib.Core.Path.{_≡_, ap, _∙_}
@@ -74,10 +74,10 @@ module _ (g : Graph) (L : Lawful g) (a : ℕ) (in-a : a < g .size) where
     bound-from : (v : ℕ) → v < g .size → (t : Tight g D v) → D (t .to) ≤ top * nearer (t .to) → D v ≤ top * nearer v
     bound-from v i t below =
         let c = L .low (t .move) (t .below) in
-        let lt = nearer-falls (t .to) v (t .inside) (omega (arith, t .even)) in
+        let lt = nearer-falls (t .to) v (t .inside) (omega (arith, t .adds-up)) in
         omega (
           arith,
-          t .even,
+          t .adds-up,
           dear (t .move) (t .below),
           mul-le-mul-left {m = suc (nearer (t .to))} {n = nearer v} top lt,
         )
@@ -87,7 +87,7 @@ module _ (g : Graph) (L : Lawful g) (a : ℕ) (in-a : a < g .size) where
     bound-nearer (suc n) v le i h = ⊎-elim (λ e. omega (arith, ap D e ∙ distance-self g L a)) (λ ne.
         let t = distance-tight g L a in-a v i ne h in
         let c = L .low (t .move) (t .below) in
-        bound-from v i t (bound-nearer n (t .to) (omega (arith, t .even)) (t .inside) (omega (arith, t .even))))
+        bound-from v i t (bound-nearer n (t .to) (omega (arith, t .adds-up)) (t .inside) (omega (arith, t .adds-up))))
         (eq-or-ne v a)
 
     pub distance-bound : (v : ℕ) → v < g .size → D v < unreachable → D v ≤ top * (g .size - 1)

@@ -1,11 +1,11 @@
 -- The choice of the next vertex: the candidate with the highest count, and of equals the first in move order.
 --
 --   Candidate         == w is the far end of the open move m from v, on the way, and costs just that move more than v
---   candidate-cases, candidate-at == so it is of what `candidate` gives
+--   candidate-cases, candidate-at == `candidate g on D v m` is w exactly where w is a `Candidate`
 --   Best T c n w      == w is one of the candidates c 0, .. c (n - 1), none has a higher count, each before it a lower one
---   best-exact        == `best` is that one
---   best-none         == where it gives none, there is no candidate
---   nextVertex-exact  == so it is of the route's next vertex
+--   best-exact        == `best T c n` is w exactly where `Best T c n w`
+--   best-none         == where `best` gives none, there is no candidate
+--   nextVertex-exact  == the route's next vertex is w exactly where w is the `Best` of the candidates
 --   candidate-same, next-same == candidates and choice read their costs and counts at vertices alone, so lists of the
 --                        true ones serve as well
 use Prim.Native.Nat.{ℕ, zero, suc, _+_, _≤_, _<_}
@@ -27,7 +27,7 @@ use Rattle.paths.specs.Route.{candidate, better, best, nextVertex}
 pub record Candidate (g : Graph) (on : ℕ → Bool) (D : ℕ → ℕ) (v m w : ℕ) : Type 0 where
   pub goes : g .step m v ≡ some w
   pub on-way : on w ≡ true
-  pub even : D w ≡ D v + g .cost m
+  pub adds-up : D w ≡ D v + g .cost m
 
 module _ (g : Graph) (on : ℕ → Bool) (D : ℕ → ℕ) (v m w : ℕ) where
   pub candidate-cases : candidate g on D v m ≡ some w → Candidate g on D v m w
@@ -51,12 +51,12 @@ module _ (g : Graph) (on : ℕ → Bool) (D : ℕ → ℕ) (v m w : ℕ) where
           record {
             goes = s ∙ ap some (r .1);
             on-way = ap on (sym (r .1)) ∙ t .0;
-            even = ap D (sym (r .1)) ∙ eqb-true (D x) (D v + g .cost m) (t .1);
+            adds-up = ap D (sym (r .1)) ∙ eqb-true (D x) (D v + g .cost m) (t .1);
           }
 
   pub candidate-at : Candidate g on D v m w → candidate g on D v m ≡ some w
   unfolding candidate
-  candidate-at c = rw (c .goes, c .on-way, eq-eqb (D w) (D v + g .cost m) (c .even), candidate)
+  candidate-at c = rw (c .goes, c .on-way, eq-eqb (D w) (D v + g .cost m) (c .adds-up), candidate)
 
 -- ---- the best of them
 

@@ -2,8 +2,9 @@
 --
 --   costs-true         == costs that pass are the distances from a
 --   true-costs         == the distances from a pass
---   rightCosts-exact   == the two together
---   rightCosts-list    == the same of a list of the right length, which is then the list of the distances
+--   rightCosts-exact   == `rightCosts g a D` passes exactly where D v is the distance from a to v, of every vertex v
+--   rightCosts-list    == `rightCosts` passes on a list of the right length exactly where it is the list of the
+--                         distances
 use Prim.Native.Nat.{ℕ, _+_, _≤_, _<_}
 use mathlib.Core.Path.{_≡_, ap, _∙_}
 use mathlib.Core.Logic.{⊎-elim, _↔_}
@@ -50,14 +51,15 @@ module _ (g : Graph) (D : ℕ → ℕ) (v : ℕ) where
         below = b .1;
         inside = L .inside (b .0) v (c .0) (b .1) i (c .1);
         goes = c .1;
-        even = eqb-true (D (c .0) + g .cost (b .0)) (D v) (c .2);
+        adds-up = eqb-true (D (c .0) + g .cost (b .0)) (D v) (c .2);
       }
 
   pub tight-at : Tight g D v → tight g D v ≡ true
   unfolding tight
   tight-at t =
       any-one (g .moves) (t .move) _ (t .below)
-      (is-there-at (g .step (t .move) v) _ (t .to) (t .goes) (eq-eqb (D (t .to) + g .cost (t .move)) (D v) (t .even)))
+      (is-there-at (g .step (t .move) v) _ (t .to) (t .goes)
+      (eq-eqb (D (t .to) + g .cost (t .move)) (D v) (t .adds-up)))
 
 module _ (g : Graph) (L : Lawful g) (a : ℕ) (in-a : a < g .size) (D : ℕ → ℕ) where
   -- ---- costs that pass
@@ -126,7 +128,7 @@ module _ (g : Graph) (L : Lawful g) (a : ℕ) (in-a : a < g .size) (D : ℕ → 
             below = t .below;
             inside = t .inside;
             goes = t .goes;
-            even = omega (arith, t .even, h v i, h (t .to) (t .inside));
+            adds-up = omega (arith, t .adds-up, h v i, h (t .to) (t .inside));
           }
 
   pub rightCosts-exact : (rightCosts g a D ≡ true) ↔ ((v : ℕ) → v < g .size → D v ≡ distance g a v)

@@ -32,7 +32,7 @@ pub record Tight (g : Graph) (D : ℕ → ℕ) (v : ℕ) : Type 0 where
   pub below : move < g .moves
   pub inside : to < g .size
   pub goes : g .step move v ≡ some to
-  pub even : D to + g .cost move ≡ D v
+  pub adds-up : D to + g .cost move ≡ D v
 
 abbrev pub TightAll : Graph → ℕ → (ℕ → ℕ) → Type 0
 TightAll g a D = (v : ℕ) → v < g .size → (v ≡ a → ⊥) → D v < unreachable → Tight g D v
@@ -64,17 +64,17 @@ module _ (g : Graph) (L : Lawful g) (a : ℕ) (in-a : a < g .size) where
       walk-tight v i t wk =
           let e = L .opposite-cost (t .move) (t .below) in (
             _,
-            at-cost (omega (arith, t .even))
+            at-cost (omega (arith, t .adds-up))
                 (snoc g (L .opposite (t .move)) v (L .opposite-listed (t .move) (t .below))
                 (L .opposite-back (t .move) v (t .to) (t .below) i (t .goes)) (wk .1)),
           )
 
       has-walk : (n v : ℕ) → D v ≤ n → v < g .size → D v < unreachable → HasWalk g (D v) a v
       has-walk zero v le i h = ⊎-elim (walk-start v) (λ ne. let t = T v i ne h in
-          absurd (omega (arith, t .even, L .low _ (t .below)))) (eq-or-ne v a)
+          absurd (omega (arith, t .adds-up, L .low _ (t .below)))) (eq-or-ne v a)
       has-walk (suc n) v le i h = ⊎-elim (walk-start v) (λ ne. let t = T v i ne h in
           let c = L .low (t .move) (t .below) in
-          walk-tight v i t (has-walk n (t .to) (omega (arith, t .even)) (t .inside) (omega (arith, t .even))))
+          walk-tight v i t (has-walk n (t .to) (omega (arith, t .adds-up)) (t .inside) (omega (arith, t .adds-up))))
           (eq-or-ne v a)
 
       pub tight-true : (v : ℕ) → v < g .size → D v ≡ distance g a v
@@ -103,7 +103,7 @@ module _ (g : Graph) (L : Lawful g) (a : ℕ) (in-a : a < g .size) where
         below = L .opposite-listed (r .move) (r .below);
         inside = i;
         goes = L .opposite-back (r .move) u v (r .below) i (r .goes);
-        even = omega (arith, r .total, L .opposite-cost (r .move) (r .below));
+        adds-up = omega (arith, r .total, L .opposite-cost (r .move) (r .below));
       }
 
   pub distance-tight : TightAll g a (distance g a)

@@ -1,12 +1,13 @@
 -- The test `rightCounts` of a list of counts passes on the true counts, and on nothing else; over any vertices `on` that
 -- are reached from a and hold with v each tight neighbour of v.
 --
---   Closed g a on       == `on` is so
---   closed-same         == it is read at vertices alone
---   way-closed, way-closed-to == the vertices on the way from a to b are so, from a and from b
+--   Closed g a on       == the vertices `on` are reached from a, and hold with v each tight neighbour of v
+--   closed-same         == `Closed` reads `on` at vertices alone
+--   way-closed, way-closed-to == the vertices on the way from a to b are `Closed`, from a and from b
 --   counts-true         == counts that pass are the path counts from a where `on` holds, and 0 elsewhere
---   true-counts         == those pass
---   rightCounts-exact   == the two together
+--   true-counts         == the path counts from a where `on` holds, and 0 elsewhere, pass
+--   rightCounts-exact   == `rightCounts` passes exactly where F v is the path count from a to v where `on` holds, and 0
+--                          elsewhere
 --   count-next          == the sum at v is its path count once the counts of smaller cost are right
 use Prim.Native.Nat.{ℕ, _+_, _<_}
 use mathlib.Core.Path.{_≡_, refl, sym, _∙_}

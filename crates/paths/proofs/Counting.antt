@@ -1,7 +1,8 @@
 -- The number of walks of a cost, as a sum over the first move.
 --
 --   count g k u t        == how many open walks from u to t cost k
---   stillCount k u t     == how many of them are of one vertex
+--   stillCount k u t     == how many open walks from u to t of cost k are of one vertex: 1 where u ≡ t and k ≡ 0, else
+--                           0
 --   along g k u F m      == F r w, where move m from u leads to w and leaves r of the cost k; else 0
 --   walks-step           == the listing by its first move, with no bound on the number of moves
 --   count-step           == the count likewise

@@ -6,7 +6,7 @@
 --   pathCount-from   == from a fixed a, the count of v is the sum over its tight neighbours
 --   counts-unique    == no other counts meet the equations
 --   flow-out         == the traversal count of u is the sum over the moves by which a cheapest walk leaves it
---   flow-in          == and the sum over those by which one comes to it
+--   flow-in          == the traversal count of v is the sum over the moves by which a cheapest walk comes to it
 use Prim.Native.Nat.{ℕ, zero, suc, _+_, _*_, _≤_, _<_}
 use mathlib.Core.Path.{_≡_, sym, ap, _∙_}
 use mathlib.Core.Logic.{⊎-elim}
@@ -42,10 +42,11 @@ module _ (g : Graph) (L : Lawful g) where
   -- By a move that is not tight no cheapest walk begins.
   slack-none : (u t m w r : ℕ) → m < g .moves → g .step m u ≡ some w → distance g u t < unreachable
       → (distance g w t + g .cost m ≡ distance g u t → ⊥) → g .cost m + r ≡ distance g u t → count g r w t ≡ 0
-  slack-none u t m w r lt st h ne e = ⊎-elim (λ z. omega arith) (λ p. absurd (ne (even p))) (le-or-lt (count g r w t) 0)
+  slack-none u t m w r lt st h ne e =
+      ⊎-elim (λ z. omega arith) (λ p. absurd (ne (adds-up p))) (le-or-lt (count g r w t) 0)
     where
-      even : 0 < count g r w t → distance g w t + g .cost m ≡ distance g u t
-      even p =
+      adds-up : 0 < count g r w t → distance g w t + g .cost m ≡ distance g u t
+      adds-up p =
           let c = L .low m lt in
           let a = distance-least g L (count-walk g r w t p) (omega arith) in
           let b = distance-walk g w t (omega arith) in

@@ -1,5 +1,5 @@
--- Distances and path counts are what document 01 says, in terms of walks alone: one statement for a reader who does not
--- want to look into the listing.
+-- Distances and path counts are what rules 4.2 and 4.4 say, in terms of walks alone: one statement for a reader who
+-- does not want to look into the listing.
 --
 --   walks-listed     == the listing has exactly the open walks of its cost, each once
 --   faithful         == distances and path counts are faithful in any lawful graph of at most 16,384 vertices

@@ -5,9 +5,12 @@
 --   flow-same      == the equations read their numbers at vertices alone, so lists of the true ones serve as well
 --   flow-onward    == where the equations hold with a positive total, a move leads on from a vertex on the way before b
 --                     with a positive traversal count
---   flow-next      == so the central rule finds a next vertex there: on the way, with a positive traversal count again
+--   flow-next      == where the equations hold with a positive total, the central rule finds from a vertex on the way
+--                     before b with a positive traversal count a next one, on the way and with a positive traversal
+--                     count again
 --   Comes next a b v == the walk by the rule `next` from a, which ends at b, comes to v
---   flow-walk      == so a walk by the central rule from a always finds a next vertex before b
+--   flow-walk      == where the equations hold with a positive total, a walk by the central rule from a always finds a
+--                     next vertex before b
 use Prim.Native.Nat.{ℕ, _+_, _*_, _≤_, _<_}
 use mathlib.Core.Path.{_≡_, refl, sym, ap, ap₂, _∙_, subst}
 use mathlib.Core.Logic.{⊎-elim}
@@ -27,7 +30,7 @@ use Rattle.paths.specs.Onward.{Onward}
 use Rattle.paths.specs.Local.{given, when-eq, inflow}
 use Rattle.paths.proofs.Neighbours.{given-at, given-pos, when-yes, when-no, when-pos}
 use Rattle.paths.proofs.Counts.{pathCount-self, flow-out, flow-in}
-use Rattle.paths.proofs.Way.{way-cases, way-start, way-end, way-back, way-forth, way-even}
+use Rattle.paths.proofs.Way.{way-cases, way-start, way-end, way-back, way-forth, way-adds-up}
 use Rattle.paths.proofs.Way.{countFrom-way, countTo-way}
 use Rattle.paths.proofs.Choice.{Candidate, candidate-cases, candidate-at, candidate-same}
 use Rattle.paths.proofs.Choice.{best-some, best-is, next-cases, next-inside}
@@ -114,7 +117,7 @@ module _ (g : Graph) (L : Lawful g) (a b : ℕ) (in-a : a < g .size) (in-b : b <
     towards m w c =
         let p = way-cases g a b v o in
         let q = way-cases g a b w (c .on-way) in
-        omega (arith, c .even)
+        omega (arith, c .adds-up)
 
     -- A move by which a cheapest walk leaves v.
     out-term : ℕ → ℕ
@@ -133,7 +136,7 @@ module _ (g : Graph) (L : Lawful g) (a b : ℕ) (in-a : a < g .size) (in-b : b <
         let e = when-pos (distance g (p .0) b + g .cost m) (distance g v b) _ (p .2) .0 in
         let q = way-forth g L a b v (p .0) m in-v l (p .1) o e in (
           p .0,
-          record { goes = p .1; on-way = q; even = way-even g L a b v (p .0) m in-v l (p .1) o q e },
+          record { goes = p .1; on-way = q; adds-up = way-adds-up g L a b v (p .0) m in-v l (p .1) o q e },
         )
 
     out-same : (m : ℕ) → m < g .moves → out-term m ≡ flowAlong g on D F B v m
@@ -147,7 +150,7 @@ module _ (g : Graph) (L : Lawful g) (a b : ℕ) (in-a : a < g .size) (in-b : b <
     unfolding flowOut inflow out-term
     out-true ne =
         counts-at v v o o
-        ∙ flow-out g L a b v ne (let p = way-cases g a b v o in omega (arith, p .even, p .reached))
+        ∙ flow-out g L a b v ne (let p = way-cases g a b v o in omega (arith, p .adds-up, p .reached))
         ∙ sum-cong (g .moves) _ _ out-same
 
     -- ---- what comes to v
@@ -155,7 +158,7 @@ module _ (g : Graph) (L : Lawful g) (a b : ℕ) (in-a : a < g .size) (in-b : b <
     -- A move of v back to u, from which a cheapest walk comes to v.
     record Back (u m : ℕ) : Type 0 where
       goes : g .step m v ≡ some u
-      even : D u + g .cost m ≡ D v
+      adds-up : D u + g .cost m ≡ D v
 
     back-term : ℕ → ℕ → ℕ
     back-term u m =
@@ -163,27 +166,27 @@ module _ (g : Graph) (L : Lawful g) (a b : ℕ) (in-a : a < g .size) (in-b : b <
 
     back-at : (u m : ℕ) → Back u m → back-term u m ≡ pathCount g a u * pathCount g v b
     unfolding back-term
-    back-at u m r = given-at (g .step m v) u _ (r .goes) ∙ when-yes u u _ refl ∙ when-yes _ _ _ (r .even)
+    back-at u m r = given-at (g .step m v) u _ (r .goes) ∙ when-yes u u _ refl ∙ when-yes _ _ _ (r .adds-up)
 
     back-pos : (u m : ℕ) → 0 < back-term u m → Back u m
     unfolding back-term
     back-pos u m h =
         let p = given-pos (g .step m v) _ h in
         let q = when-pos (p .0) u _ (p .2) in
-        record { goes = p .1 ∙ ap some (q .0); even = when-pos (D u + g .cost m) (D v) _ (q .1) .0 }
+        record { goes = p .1 ∙ ap some (q .0); adds-up = when-pos (D u + g .cost m) (D v) _ (q .1) .0 }
 
     -- The opposite of such a move is a candidate of u, and the other way round.
     forth : (u m : ℕ) → m < g .moves → Back u m → Candidate g on D u (L .opposite m) v
     forth u m l r = record {
       goes = L .opposite-back m v u l in-v (r .goes);
       on-way = o;
-      even = omega (arith, r .even, L .opposite-cost m l);
+      adds-up = omega (arith, r .adds-up, L .opposite-cost m l);
     }
 
     back : (u m : ℕ) → u < g .size → m < g .moves → Candidate g on D u m v → Back u (L .opposite m)
     back u m i l c = record {
       goes = L .opposite-back m u v l i (c .goes);
-      even = omega (arith, c .even, L .opposite-cost m l);
+      adds-up = omega (arith, c .adds-up, L .opposite-cost m l);
     }
 
     -- Since the moves are distinct, at most one of them goes back to u, and one of u comes from there.
@@ -213,7 +216,7 @@ module _ (g : Graph) (L : Lawful g) (a b : ℕ) (in-a : a < g .size) (in-b : b <
         (L .opposite (m .0), L .opposite-listed (m .0) (m .1), back u (m .0) i (m .1) c))
         (λ (r : (m : ℕ) × (m < g .moves) × Back u m).
         let m = r .0 in
-        let p = way-back g L a b v u m in-v (r .1) (r .2 .goes) o (r .2 .even) in
+        let p = way-back g L a b v u m in-v (r .1) (r .2 .goes) o (r .2 .adds-up) in
         back-sum u m (r .1) (r .2)
         ∙ sym (counts-at u v p o)
         ∙ sym (to-sum u (L .opposite m) i (L .opposite-listed m (r .1)) (forth u m (r .1) (r .2)))
@@ -239,7 +242,7 @@ module _ (g : Graph) (L : Lawful g) (a b : ℕ) (in-a : a < g .size) (in-b : b <
     unfolding flowIn flowTo inflow
     in-true ne =
         counts-at v v o o
-        ∙ flow-in g L a b v in-a in-v ne (let p = way-cases g a b v o in omega (arith, p .even, p .reached))
+        ∙ flow-in g L a b v in-a in-v ne (let p = way-cases g a b v o in omega (arith, p .adds-up, p .reached))
         ∙ sum-cong (g .moves) _ _ spread
         ∙ sum-swap (g .moves) (g .size) (λ m u. back-term u m)
         ∙ sum-cong (g .size) _ _ from-same

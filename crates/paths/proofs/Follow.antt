@@ -1,11 +1,11 @@
 -- Following a rule from vertex to vertex.
 --
---   follow-end, follow-on  == at b the list ends; before it, it goes on by the rule
---   follow-length          == it has at most n points
---   follow-inside          == all of them are vertices, where the rule leads from vertices to vertices
+--   follow-end, follow-on  == `follow`: at b the list ends; before b it goes on by the rule
+--   follow-length          == `follow next b n v` has at most n points
+--   follow-inside          == the points of `follow` are vertices, where the rule leads from vertices to vertices
 --   Arrives next b f v     == from v the rule comes to b within f points
---   arrives-begins         == then the list begins with v
---   follow-cong, arrives-cong == two rules that agree on the vertices do the same
+--   arrives-begins         == where the rule arrives at b from v, the list of `follow` begins with v
+--   follow-cong, arrives-cong == two rules that agree on the vertices have the same list, and both arrive or neither
 use Prim.Native.Nat.{ℕ, zero, suc, _≤_, _<_}
 use mathlib.Core.Path.{_≡_, refl, sym, ap, _∙_}
 use mathlib.Core.Logic.{⊎-elim}

@@ -1,8 +1,8 @@
 -- The listing holds the open walks of the given cost, and no others: nobody has to trust its recursion.
 --
 --   walks-sound      == what `walks g k u t` lists is an open walk from u to t that costs k
---   walks-whole      == each such walk is listed
---   walks-exact      == the two together
+--   walks-whole      == each open walk from u to t that costs k is listed in `walks g k u t`
+--   walks-exact      == `walks g k u t` lists exactly the open walks from u to t that cost k
 use Prim.Native.Nat.{ℕ, zero, suc, _+_, _-_, _≤_, _<_}
 use mathlib.Core.Path.{_≡_, refl, ap, subst}
 use mathlib.Core.Logic.{⊎-elim, _↔_}

@@ -1,7 +1,7 @@
 -- Sums and tests over the moves of a vertex: laws of `given`, `when-eq`, `inflow`, `if-there` and `is-there`.
 --
 --   inflow-cong    == the sum reads F only at tight neighbours
---   inflow-costs   == it reads the costs only at v and its neighbours
+--   inflow-costs   == the sum at v reads the costs only at v and its neighbours
 --   inflow-mul     == a factor goes into the sum
 use Prim.Native.Nat.{ℕ, _+_, _*_, _≤_, _<_}
 use mathlib.Core.Path.{_≡_, refl, sym, ap₂, _∙_}

@@ -1,9 +1,9 @@
 -- The next vertices of the sheet: they are vertices, and the central route is the walk through them from a.
 --
 --   number-next, -end, -off == the next vertex on the way before b, at b, and off the way
---   number-inside           == it is a vertex
---   numbers-arrive          == the walk through them comes to b
---   route-numbers           == and is the central route
+--   number-inside           == the next vertex of every vertex is a vertex
+--   numbers-arrive          == the walk through the next vertices from a comes to b
+--   route-numbers           == the walk through the next vertices from a is the central route
 use Prim.Native.Nat.{ℕ, _<_}
 use mathlib.Core.Path.{_≡_, sym, ap, _∙_}
 use mathlib.Core.Bool.{true, false}

@@ -3,8 +3,8 @@
 --
 --   count-last      == the number of walks by their last move, which is the opposite of a move from t
 --   count-sym       == the number of walks of each cost is the same both ways
---   distance-sym    == so is the distance
---   pathCount-sym   == and the number of cheapest walks
+--   distance-sym    == distance g u t ≡ distance g t u
+--   pathCount-sym   == pathCount g u t ≡ pathCount g t u
 use Prim.Native.Nat.{ℕ, zero, suc, _+_, _-_, _≤_, _<_}
 use mathlib.Core.Path.{_≡_, refl, sym, ap, ap₂, _∙_, fun-ext}
 use mathlib.Core.Logic.{⊎-elim}

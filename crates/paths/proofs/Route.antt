@@ -2,7 +2,8 @@
 --
 --   next-there        == on the way before b there is a next vertex, by the equations of flow
 --   next-arrives      == the rule comes to b within as many points as there are vertices, by whatever counts T it chooses
---   next-walk         == what it follows is a cheapest walk
+--   next-walk         == what the rule follows from a vertex on the way is a cheapest walk to b, by whatever counts T
+--                        it chooses
 --   route-arrives, route-walk, route-length, route-begins, route-inside == the central route
 use Prim.Native.Nat.{ℕ, zero, suc, _≤_, _<_}
 use mathlib.Core.Path.{_≡_, sym, subst}
@@ -63,7 +64,7 @@ module _ (g : Graph) (L : Lawful g) (a b : ℕ) (in-a : a < g .size) (in-b : b <
         let l = L .low (r .move) (r .below) in
         let s = distance-sym g L v b i in-b in
         let t = distance-sym g L w b j in-b in
-        nearer-falls g L b in-b w v j (omega (arith, c .even))
+        nearer-falls g L b in-b w v j (omega (arith, c .adds-up))
 
     pub next-arrives : (n v : ℕ) → nearer g L b in-b v < n → v < g .size → onWay g a b v ≡ true
         → Arrives (nextVertex g (onWay g a b) (distance g a) T) b n v
@@ -86,7 +87,7 @@ module _ (g : Graph) (L : Lawful g) (a b : ℕ) (in-a : a < g .size) (in-b : b <
         let p = way-cases g a b v o in
         let q = way-cases g a b w (c .by .on-way) in
         rw (follow-on next b f v w ne e)
-        (go-at (c .move) w (c .below) (c .by .goes) (next-walk (c .by .on-way) r) (omega (arith, c .by .even)))
+        (go-at (c .move) w (c .below) (c .by .goes) (next-walk (c .by .on-way) r) (omega (arith, c .by .adds-up)))
 
   -- ---- the central route
 

@@ -2,7 +2,7 @@
 --
 --   point-last, point-on, point-past    == what `rightPoint` says of place i: at b, before b, and past the points
 --   route-true            == a list that passes is the route from a, and zeros, and n is the route's length
---   true-route            == that passes, where the rule arrives
+--   true-route            == the route from a, zeros after it and its length pass, where the rule arrives
 use Prim.Native.Nat.{ℕ, zero, suc, _+_, _≤_, _<_}
 use mathlib.Core.Path.{_≡_, refl, sym, ap, _∙_}
 use mathlib.Core.Logic.{⊎-elim}

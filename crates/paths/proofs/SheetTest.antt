@@ -1,16 +1,20 @@
 -- The tests of a whole sheet, vertex by vertex, are exact: they pass on the true sheets and on nothing else.
 --
---   numbers-exact         == `localNumbers` says so
---   numbers-fit           == then f(v) * b(v) is at most f(B), at each vertex: a product of 64-bit numbers that fits
---   local-on, local-next  == on the way and the next vertex, by such a sheet's numbers, are the true ones
---   sheet-flow            == such numbers meet the equations of flow
---   sheet-leads           == so a move leads on from each vertex on the way before b
---   right-next            == so `rightNext` says that the next vertex of the sheet is the true one
+--   numbers-exact         == `localNumbers` passes exactly where the costs and counts of a sheet are those of a job
+--                            with a route (`TrueNumbers`)
+--   numbers-fit           == where `localNumbers` passes, f(v) * b(v) is at most f(B) at each vertex v: a product of
+--                            64-bit numbers that fits
+--   local-on, local-next  == where `localNumbers` passes, on the way and the next vertex, by the sheet's numbers, are
+--                            the true ones
+--   sheet-flow            == where `localNumbers` passes, the sheet's numbers meet the equations of flow
+--   sheet-leads           == where `localNumbers` passes, a move leads on from each vertex on the way before b
+--   right-next            == where `localNumbers` passes, `rightNext` says that the next vertex of the sheet is the
+--                            true one
 --   local-true, true-local       == `localRoute` passes on the true route sheet alone, among the sheets whose total fits
---   localRoute-exact             == the two together
+--   localRoute-exact      == of a sheet whose total fits, `localRoute` passes exactly where it is the true route sheet
 --   route-flow                   == the numbers of the true route sheet meet the equations of flow
 --   local-noRoute, noRoute-local == `localNoRoute` passes on the true no-route sheet alone
---   localNoRoute-exact           == the two together
+--   localNoRoute-exact    == `localNoRoute` passes exactly where a sheet is the true no-route sheet
 use Prim.Native.Nat.{ℕ, _*_, _^_, _≤_, _<_}
 use mathlib.Core.Path.{_≡_, sym, ap, ap₂, _∙_}
 use mathlib.Core.Logic.{_↔_, ⊎-elim}

@@ -5,13 +5,13 @@
 --                          since the total is above 2^64 - 1
 --   trueRoute-one, trueNoRoute-one == a job has at most one true sheet of each kind
 --   sheet-eq            == sheets are equal that have equal parts
---   sameSheet-exact     == so `sameSheet` says that two sheets are equal
+--   sameSheet-exact     == `sameSheet s t` holds exactly where s ≡ t
 --   TrueNumbers g a b s == the sheet s has the true costs and counts of a job with a route
---   routeSheet-of       == with the next vertices and the central route besides, it is the true route sheet
+--   routeSheet-of       == a sheet with `TrueNumbers`, the next vertices and the central route is the true route sheet
 --   Blank s v           == s has 0 for vertex v but for its cost
---   noRouteSheet-of     == with that at each vertex, and the true costs, it is the true no-route sheet
+--   noRouteSheet-of     == a sheet with the true costs, no points and `Blank` at each vertex is the true no-route sheet
 --   RouteEntries, route-entries == what a true route sheet holds, place by place, and its bounds
---   NoRouteEntries, noRoute-entries == the same of a true no-route sheet
+--   NoRouteEntries, noRoute-entries == what a true no-route sheet holds, place by place, and its bounds
 --   d-bound, e-bound    == a cost of a true sheet that is not `unreachable` is at most the dearest move times size - 1
 use Prim.Native.Nat.{ℕ, _-_, _*_, _^_, _≤_, _<_}
 use mathlib.Core.Path.{_≡_, refl, sym, _∙_, subst}

@@ -1,6 +1,6 @@
 -- The cheapest cost between two vertices, and the number of cheapest walks.
 --
---   unreachable       == document 01's M, the cost where no walk joins the two
+--   unreachable       == M of rule 4.2, the cost where no walk joins the two
 --   distance g u t    == the least cost of an open walk from u to t; d(v) is `distance g a v`, e(v) is `distance g v b`
 --   pathCount g u t   == the number of different open walks from u to t of that cost
 use Prim.Native.Nat.{ℕ}

@@ -1,4 +1,4 @@
--- Request 13 of document 02: the cheapest walks from a to b as a flow through the vertices on the way. The rules take
+-- docs/RULES.md, 15.1 to 15.4: the cheapest walks from a to b as a flow through the vertices on the way. The rules take
 -- the test `on` of what is on the way, the costs D and the counts F and B as functions of the vertex, as those of the
 -- route do.
 --

@@ -1,5 +1,5 @@
 -- A graph given by a table of moves. Everything about walks is said, and proved, over any such graph; a floor with a
--- neighbourhood of document 01 is one of them.
+-- neighbourhood of rule 3.1 is one of them.
 --
 --   Graph      == vertices 0 .. size - 1, moves 0 .. moves - 1 in the order of their table, the cost of each move, and
 --                 `step m u`, the far end of move m from vertex u where that move is open

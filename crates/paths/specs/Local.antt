@@ -14,9 +14,11 @@
 --   Shaped n s              == the slices of the sheet s have n places each
 --   localOn, localNext      == on the way, and the next vertex, by the numbers of a sheet
 --   localNumbers g a b s    == d, e, f and b of the sheet s are those of a job with a route
---   rightNext g b s v       == so is its next vertex at v: by these numbers on the way before b, b at b, 0 elsewhere
+--   rightNext g b s v       == the next vertex of v on the sheet s is right: by the sheet's costs and counts on the way
+--                              before b, b at b, 0 elsewhere
 --   byNext s v              == where the slice of next vertices leads from v
---   localRoute g a b s      == so are all of these, its route and n: s is the true route sheet, where its total fits
+--   localRoute g a b s      == costs, counts, next vertices, route and n of the sheet s are right: s is the true route
+--                              sheet, where its total fits
 --   blankAt s v             == s has 0 for vertex v but for its cost
 --   localNoRoute g a b s    == s is the true no-route sheet
 use Prim.Native.Nat.{ℕ, suc, _+_, _*_}

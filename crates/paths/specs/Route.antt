@@ -1,7 +1,7 @@
 -- The central route: from A, always to the vertex with the highest traversal count, first in move order among equals.
 -- The rules take the costs D, E and the counts T as functions of the vertex; `centralRoute` puts the true ones in.
 --
---   onShortest D E b v    == v is on the way (document 01's term): on a cheapest walk to b, by costs D from the start and E to b
+--   onShortest D E b v    == v is on the way (rule 4.5): on a cheapest walk to b, by costs D from the start and E to b
 --   countFrom g a b v     == f(v) as the sheet has it: the path count from a on the way, 0 elsewhere
 --   countTo g a b v       == b(v) likewise: the path count to b
 --   traversals g a b v    == the traversal count f(v) * b(v)

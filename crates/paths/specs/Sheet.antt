@@ -1,7 +1,6 @@
--- Document 01's sheet with the next vertices of request 7 of document 02, and the two true ones.
+-- docs/RULES.md, section 5: the sheet, and the two true ones.
 --
---   Sheet                 == the slices d, e, f, b and route (document 01's letters), the slice next, and the point
---                            count n
+--   Sheet                 == the slices d, e, f, b and route (rule 5.1), the slice next, and the point count n
 --   sheetOf d e f b r x n == the sheet with these slices and this point count
 --   joined g a b          == an open walk joins a to b
 --   fits g a b            == the total f(B) is at most 2^64 - 1

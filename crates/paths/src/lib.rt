@@ -2,7 +2,7 @@
 // is one constant, which crates above write where no walk joins two vertices, and a function that ties it to its
 // definition.
 //
-// Document 01's terms, and what they are called here:
+// The terms of docs/RULES.md, sections 4 and 5, and what they are called here:
 //
 //     a walk, an open walk     a list that `walks g k u t` lists; as a relation, `Walk g k u t l` (proofs/Listing)
 //     the cheapest cost        `distance g u t`; d(v) is `distance g a v`, e(v) is `distance g v b`
@@ -13,7 +13,7 @@
 //     the total                `pathCount g a b`; that it is at most 2^64 - 1 is `fits g a b`
 //     a walk joins A to B      `joined g a b`
 //     the central route        `centralRoute g a b`
-//     the next vertex          `nextNumber g a b v`, document 02's
+//     the next vertex          `nextNumber g a b v` (rule 5.3)
 //     the sheet                `Sheet`
 //     the true route sheet     `routeSheet g a b`, where `TrueRoute g a b s` says that s is it and that the job has one
 //     the true no-route sheet  `noRouteSheet g a`, and `TrueNoRoute g a b s`
@@ -25,7 +25,7 @@
 ghost use mathlib.Core.Path.{_≡_};
 ghost use Rattle.paths.specs.Distance.{unreachable};
 
-// The cost where no walk joins two vertices: document 01's M.
+// The cost where no walk joins two vertices: M of rule 4.2.
 pub const UNREACHABLE: u32 = 4294967295;
 
 // The constant is the definition's number. Nothing calls this: it stands for its contract.

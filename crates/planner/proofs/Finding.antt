@@ -1,13 +1,13 @@
 -- The parts put together: from the costs from a, those to b with their order, and the masks, to counts and route.
 --
 --   found-costing               == what the costs to b take, which are costs from b
---   found-few, found-sized, found-same, found-readied, found-known == what the counting passes take
+--   found-few, found-sized, found-same, found-input, found-known == what the counting passes take
 --   found-choosable, found-numbers == what the next vertices take, where the total fits, and what they are
 --   found-walkable              == what the walk of the route takes
---   found-many, found-route     == the two ways to end
---   finish-none                 == the whole, where no walk joins the ends
---   finish-findable             == where one does, a route can be looked for
---   finish-cleared              == and the working slice is cleared
+--   found-many, found-route     == how the search for a route ends: with a total that does not fit, and with a route
+--   finish-none                 == the second operation's slices where no walk joins the ends
+--   finish-findable             == where a walk joins the ends, a route can be looked for
+--   finish-cleared              == `Finished` with the working slice cleared
 use Prim.Native.Nat.{ℕ, _*_, _≤_, _<_}
 use mathlib.Core.Path.{_≡_, refl, sym, ap, _∙_, subst}
 use mathlib.Core.Bool.{Bool, true, false}
@@ -18,7 +18,7 @@ use Rattle.basics.specs.Lists.{tabulate, zeros}
 use Rattle.basics.proofs.Lists.{length-tabulate, getD-tabulate, tabulate-cong}
 use Rattle.floor.specs.Floor.{floorOf, vertices}
 use Rattle.floor.specs.declared.Refusal.the-variants.{NoRoute, TooMany}
-use Rattle.moves.specs.declared.Rows.{Rows}
+use Rattle.moves.specs.declared.Directions.{Directions}
 use Rattle.moves.proofs.Table.{listed-lawful}
 use Rattle.paths.specs.Graph.{Graph, Lawful}
 use Rattle.paths.specs.Distance.{unreachable, distance, pathCount}
@@ -35,7 +35,7 @@ use Rattle.offsets.specs.Offsets.{Shifts}
 use Rattle.workspace.specs.Regions.{Masked, MasksIn}
 use Rattle.workspace.proofs.Regions.{floor-masked}
 use Rattle.distances.specs.Costs.{Costing, OrderedCosts}
-use Rattle.counts.specs.Passes.{Readied, Known, Filled}
+use Rattle.counts.specs.Passes.{PassInput, Known, Filled}
 use Rattle.planner.specs.declared.Planned.{Planned}
 use Rattle.planner.specs.declared.Planned.the-variants.{Found, Refused}
 use Rattle.planner.specs.Plan.{slicesOf}
@@ -43,16 +43,16 @@ use Rattle.planner.specs.Parts.{numberAt, Choosable, Finishable, Findabl
 use Rattle.planner.proofs.Numbering.{TrueLists, true-choosable, true-numbers}
 use Rattle.planner.proofs.Finishing.{finished-none, finished-many, finished-route}
 
-module _ {w h : ℕ} {map : List ℕ} {rows : Rows} {a b : ℕ} {d e f back route next work : List ℕ}
-    (F : Findable w h map rows a b d e f back route next work) where
+module _ {w h : ℕ} {map : List ℕ} {dirs : Directions} {a b : ℕ} {d e f back route next work : List ℕ}
+    (F : Findable w h map dirs a b d e f back route next work) where
   abbrev g : Graph
-  g = floorGraph (floorOf w h map) rows
+  g = floorGraph (floorOf w h map) dirs
 
   few : g .size ≤ 16384
-  few = size-le (floorOf w h map) (F .finishable .job .sized .wide) (F .finishable .job .sized .high) rows
+  few = size-le (floorOf w h map) (F .finishable .job .sized .wide) (F .finishable .job .sized .high) dirs
 
   lawful : Lawful g
-  lawful = floor-lawful (floorOf w h map) rows (listed-lawful (F .finishable .job .listed))
+  lawful = floor-lawful (floorOf w h map) dirs (listed-lawful (F .finishable .job .listed))
 
   d-len : length d ≡ g .size
   d-len = F .finishable .lent .sheet .d
@@ -68,25 +68,25 @@ module _ {w h : ℕ} {map : List ℕ} {rows : Rows} {a b : ℕ} {d e f back rout
     F .back-blank ∙ ap zeros (sym d-len),
   )
 
-  pub found-costing : Costing w h map rows b e work
+  pub found-costing : Costing w h map dirs b e work
   found-costing = record {
     job = goal-alone (F .finishable .job);
     d-len = F .finishable .lent .sheet .e;
     work-len = F .finishable .lent .work-len;
   }
 
-  module _ {x n : ℕ} {shifts e′ work′ : List ℕ} (C : OrderedCosts (floorOf w h map) rows x n e′ work′)
-      (S : Shifts w rows shifts) where
-    masked : Masked g rows shifts work′
+  module _ {x n : ℕ} {shifts e′ work′ : List ℕ} (C : OrderedCosts (floorOf w h map) dirs x n e′ work′)
+      (S : Shifts w dirs shifts) where
+    masked : Masked g dirs shifts work′
     masked =
         let J = F .finishable .job in
-        floor-masked (floorOf w h map) rows (J .sized .wide) (J .sized .high) (listed-lawful (J .listed)) S (C .masks)
+        floor-masked (floorOf w h map) dirs (J .sized .wide) (J .sized .high) (listed-lawful (J .listed)) S (C .masks)
 
     pub found-same : length e′ ≡ length d
     found-same = ap length (C .costs) ∙ length-tabulate (g .size) _ ∙ sym d-len
 
-    pub found-readied : Readied rows shifts n d work′
-    found-readied = record {
+    pub found-input : PassInput dirs shifts n d work′
+    found-input = record {
       few = omega (arith, few, d-len);
       work-len = omega (arith, C .work-len, d-len);
       short = omega (arith, C .few, d-len);
@@ -101,7 +101,7 @@ module _ {w h : ℕ} {map : List ℕ} {rows : Rows} {a b : ℕ} {d e f back rout
           from-b
           ∙ tabulate-cong (g .size) (distance g b) _ (λ v i. distance-sym g lawful b v (F .finishable .job .goal-in) i)
 
-      pub found-known : Known g rows shifts a b n d e′ work′
+      pub found-known : Known g dirs shifts a b n d e′ work′
       found-known = record {
         lawful = lawful;
         start-in = F .finishable .job .start-in;
@@ -113,19 +113,19 @@ module _ {w h : ℕ} {map : List ℕ} {rows : Rows} {a b : ℕ} {d e f back rout
         ordered = C .ordered;
       }
 
-      module _ {r : Bool} {work″ f′ back′ : List ℕ} (filled : Filled g rows shifts a b r work″ f′ back′) where
+      module _ {r : Bool} {work″ f′ back′ : List ℕ} (filled : Filled g dirs shifts a b r work″ f′ back′) where
         pub found-many : r ≡ false
             → Finished g a b (Refused TooMany) (slicesOf e′ f′ back′ route next (zeros (4 * vertices w h)))
         found-many over =
-            let K = subst (λ z. Filled g rows shifts a b z work″ f′ back′) over filled in
+            let K = subst (λ z. Filled g dirs shifts a b z work″ f′ back′) over filled in
             finished-many refl (F .reached) e-true (sym (K .answer)) (K .f-left) (K .back-left)
             (F .route-blank) (F .next-blank)
 
         module _ (fit : r ≡ true) where
-          K : Filled g rows shifts a b true work″ f′ back′
-          K = subst (λ z. Filled g rows shifts a b z work″ f′ back′) fit filled
+          K : Filled g dirs shifts a b true work″ f′ back′
+          K = subst (λ z. Filled g dirs shifts a b z work″ f′ back′) fit filled
 
-          lists : TrueLists g rows shifts a b d e′ f′ back′ work″
+          lists : TrueLists g dirs shifts a b d e′ f′ back′ work″
           lists = record {
             few = few;
             lawful = lawful;
@@ -141,7 +141,7 @@ module _ {w h : ℕ} {map : List ℕ} {rows : Rows} {a b : ℕ} {d e f back rout
             work-len = K .work-len;
           }
 
-          pub found-choosable : Choosable rows shifts b d e′ f′ back′ work″ × (next ≡ zeros (length d))
+          pub found-choosable : Choosable dirs shifts b d e′ f′ back′ work″ × (next ≡ zeros (length d))
           found-choosable = (true-choosable lists, F .next-blank ∙ ap zeros (sym d-len))
 
           cost-at : entry d b ≡ distance g a b
@@ -157,7 +157,7 @@ module _ {w h : ℕ} {map : List ℕ} {rows : Rows} {a b : ℕ} {d e f back rout
               ∙ countFrom-way g a b b (way-end g lawful a b (F .reached))
 
           module _ {next′ : List ℕ}
-              (chosen : next′ ≡ tabulate (length d) (numberAt rows shifts b d e′ f′ back′ work″)) where
+              (chosen : next′ ≡ tabulate (length d) (numberAt dirs shifts b d e′ f′ back′ work″)) where
             found-numbers : next′ ≡ tabulate (g .size) (nextNumber g a b)
             found-numbers = true-numbers lists chosen
 
@@ -181,13 +181,14 @@ module _ {w h : ℕ} {map : List ℕ} {rows : Rows} {a b : ℕ} {d e f back rout
 
 -- ---- from a job of good shape and the costs from a
 
-module _ {w h : ℕ} {map : List ℕ} {rows : Rows} {a b : ℕ} {d e f back route next work f′ back′ route′ next′ : List ℕ}
-    (P : Finishable w h map rows a b d e f back route next work)
+module _ {w h : ℕ} {map : List ℕ} {dirs : Directions} {a b : ℕ}
+    {d e f back route next work f′ back′ route′ next′ : List ℕ}
+    (P : Finishable w h map dirs a b d e f back route next work)
     (f-blank : f′ ≡ zeros (length f))
     (back-blank : back′ ≡ zeros (length back)) (route-blank : route′ ≡ zeros (length route))
     (next-blank : next′ ≡ zeros (length next)) where
   abbrev graph : Graph
-  graph = floorGraph (floorOf w h map) rows
+  graph = floorGraph (floorOf w h map) dirs
 
   goal-cost : entry d b ≡ distance graph a b
   goal-cost = ap (λ l. entry l b) (P .costs) ∙ getD-tabulate (vertices w h) b (distance graph a) (P .job .goal-in)
@@ -200,8 +201,8 @@ module _ {w h : ℕ} {map : List ℕ} {rows : Rows} {a b : ℕ} {d e f back rout
       (back-blank ∙ ap zeros (P .lent .sheet .b)) (route-blank ∙ ap zeros (P .lent .sheet .route))
       (next-blank ∙ ap zeros (P .lent .sheet .next))
 
-  pub finish-findable : MasksIn (floorOf w h map) rows work → (entry d b ≡ unreachable → ⊥)
-      → Findable w h map rows a b d e f′ back′ route′ next′ work
+  pub finish-findable : MasksIn (floorOf w h map) dirs work → (entry d b ≡ unreachable → ⊥)
+      → Findable w h map dirs a b d e f′ back′ route′ next′ work
   finish-findable masks near = record {
     finishable = record {
       job = P .job;

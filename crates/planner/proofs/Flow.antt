@@ -1,10 +1,10 @@
--- Request 13 of document 02: whenever the second operation answers 0, the costs d and the slices that it leaves meet
+-- docs/RULES.md, 15.2 to 15.4: whenever the second operation answers 0, the costs d and the slices that it leaves meet
 -- the equations of flow, with the total that it answers.
 --
 --   FlowLeft g a b d s t == by the costs d and the slices s the equations of flow hold on graph g, with the total t
---   FinishFlow w h map nb a b d s t == the job is fit, and they hold on its graph
---   finish-flow    == so it is of d and the slices left, where the answer is 0 with the total t
---   finishes-flow  == the same of the second operation's promise
+--   FinishFlow w h map nb a b d s t == the job is fit, and `FlowLeft` holds on its graph
+--   finish-flow    == `FinishFlow` of d and `finishLeft`, where `finishAnswer` is 0 with the total t
+--   finishes-flow  == `FinishFlow` of d and the slices left, from the second operation's promise
 use Prim.Native.Nat.{ℕ, _<_}
 use mathlib.Core.Path.{_≡_, refl, sym}
 use mathlib.Core.Bool.{Bool, true, false}
@@ -15,7 +15,7 @@ use Rattle.basics.specs.Lists.{tabulate}
 use Rattle.floor.specs.Floor.{floorOf, vertices}
 use Rattle.floor.specs.declared.Refusal.{Refusal}
 use Rattle.floor.specs.declared.Refusal.the-variants.{SliceLength, NoRoute, TooMany, FalseSheet}
-use Rattle.moves.specs.declared.Rows.{Rows}
+use Rattle.moves.specs.declared.Directions.{Directions}
 use Rattle.paths.specs.Graph.{Graph, Lawful}
 use Rattle.paths.specs.Distance.{distance, pathCount}
 use Rattle.paths.specs.Route.{onShortest}
@@ -23,9 +23,9 @@ use Rattle.paths.specs.Sheet.{joined, fits, routeSheet}
 use Rattle.paths.specs.Local.{entry, localOn}
 use Rattle.paths.specs.Flow.{Flow}
 use Rattle.paths.proofs.SheetTest.{route-flow}
-use Rattle.grid.specs.Grid.{floorGraph, jobOf}
-use Rattle.grid.specs.declared.Job.{Job}
-use Rattle.grid.specs.declared.Job.the-variants.{Fit, Unfit}
+use Rattle.grid.specs.Grid.{floorGraph, jobShape}
+use Rattle.grid.specs.declared.JobShape.{JobShape}
+use Rattle.grid.specs.declared.JobShape.the-variants.{Fit, Refused as BadJob}
 use Rattle.grid.proofs.Jobs.{job-fit}
 use Rattle.grid.proofs.Lawful.{floor-lawful}
 use Rattle.given_costs.specs.Given.{costsTrue}
@@ -40,9 +40,9 @@ abbrev pub FlowLeft : Graph → ℕ → ℕ → List ℕ → Slices → ℕ → 
 FlowLeft g a b d s t = Flow g a b (onShortest (entry d) (entry (s .e)) b) (entry d) (entry (s .f)) (entry (s .b)) t
 
 pub record FinishFlow (w h : ℕ) (map : List ℕ) (nb a b : ℕ) (d : List ℕ) (s : Slices) (t : ℕ) : Type 0 where
-  pub rows : Rows
-  pub fit : jobOf w h map nb a b ≡ Fit rows
-  pub flow : FlowLeft (floorGraph (floorOf w h map) rows) a b d s t
+  pub dirs : Directions
+  pub fit : jobShape w h map nb a b ≡ Fit dirs
+  pub flow : FlowLeft (floorGraph (floorOf w h map) dirs) a b d s t
 
 -- ---- what an answer 0 says
 
@@ -65,25 +65,25 @@ module _ {c t n : ℕ} where
       (x .0, y .0, cc)
 
 record Passed (w h : ℕ) (map : List ℕ) (nb a b : ℕ) (d : List ℕ) (s : Slices) (p : Planned) : Type 0 where
-  rows : Rows
-  fit : jobOf w h map nb a b ≡ Fit rows
+  dirs : Directions
+  fit : jobShape w h map nb a b ≡ Fit dirs
   sized : slicesSized (vertices w h) d s ≡ true
-  costs : costsTrue (floorGraph (floorOf w h map) rows) a d ≡ true
-  answer : routeAnswer (floorGraph (floorOf w h map) rows) a b ≡ p
+  costs : costsTrue (floorGraph (floorOf w h map) dirs) a d ≡ true
+  answer : routeAnswer (floorGraph (floorOf w h map) dirs) a b ≡ p
 
 job-passed : (w h : ℕ) (map : List ℕ) (nb a b : ℕ) (d : List ℕ) (s : Slices) (c t n : ℕ)
     → finishAnswer w h map nb a b d s ≡ Found c t n → Passed w h map nb a b d s (Found c t n)
 unfolding finishAnswer
-job-passed w h map nb a b d s c t n e = cases (jobOf w h map nb a b) refl e
+job-passed w h map nb a b d s c t n e = cases (jobShape w h map nb a b) refl e
   where
-    cases : (j : Job) → jobOf w h map nb a b ≡ j → jobAnswer w h map a b d s j ≡ Found c t n
+    cases : (j : JobShape) → jobShape w h map nb a b ≡ j → jobAnswer w h map a b d s j ≡ Found c t n
         → Passed w h map nb a b d s (Found c t n)
-    cases (Fit rows) fit q =
-        let g = floorGraph (floorOf w h map) rows in
+    cases (Fit dirs) fit q =
+        let g = floorGraph (floorOf w h map) dirs in
         let x = passed (slicesSized (vertices w h) d s) _ SliceLength q in
         let y = passed (costsTrue g a d) (routeAnswer g a b) FalseSheet (x .1) in
-        record { rows = rows; fit = fit; sized = x .0; costs = y .0; answer = y .1 }
-    cases (Unfit r) fit q = refused-never q
+        record { dirs = dirs; fit = fit; sized = x .0; costs = y .0; answer = y .1 }
+    cases (BadJob r) fit q = refused-never q
 
 -- ---- the theorem
 
@@ -102,13 +102,13 @@ pub finish-flow : (w h : ℕ) (map : List ℕ) (nb a b : ℕ) (d : List ℕ) (s 
 finish-flow w h map nb a b d s c t n e =
     let p = job-passed w h map nb a b d s c t n e in
     let f = floorOf w h map in
-    let j = job-fit w h map nb a b (p .rows) (p .fit) in
+    let j = job-fit w h map nb a b (p .dirs) (p .fit) in
     record {
-      rows = p .rows;
+      dirs = p .dirs;
       fit = p .fit;
-      flow = route-left-flow (floorGraph f (p .rows)) (floor-lawful f (p .rows) (j .lawful)) a b (j .start) (j .end) d
-          (finishLeft w h map nb a b d s) c t n (true-list (floorGraph f (p .rows)) a d (p .costs))
-          (finish-true w h map nb a b (p .rows) (p .fit) d s (p .sized) (p .costs) .1) (p .answer);
+      flow = route-left-flow (floorGraph f (p .dirs)) (floor-lawful f (p .dirs) (j .lawful)) a b (j .start) (j .end) d
+          (finishLeft w h map nb a b d s) c t n (true-list (floorGraph f (p .dirs)) a d (p .costs))
+          (finish-true w h map nb a b (p .dirs) (p .fit) d s (p .sized) (p .costs) .1) (p .answer);
     }
 
 pub finishes-flow : {w h : ℕ} {map : List ℕ} {nb a b : ℕ} {d : List ℕ} {s s′ : Slices} {c t n : ℕ}

@@ -1,12 +1,12 @@
 -- The shape of a job as the planner's operations test it, and what each test says of the answer.
 --
 --   lent-of                       == slices whose lengths pass the test have the lengths that they need
---   full-sized                    == and are not refused with 6
+--   full-sized                    == slices that have the lengths that they need are not refused with 6
 --   lengths-bad                   == slices whose lengths do not pass the test lack the lengths that they need
---   fills-unfit, fills-fit        == the first operation's answer by the shape of the job
---   costs-long, -cramped, -filled == and by the lengths of its slices
---   finishes-unfit, finishes-fit  == the second operation's answer by the shape of the job
---   job-unsized, -false, -true    == and by the lengths of its slices and the test of d
+--   fills-refused, fills-fit      == the first operation's answer by the shape of the job
+--   costs-long, -cramped, -filled == the first operation's answer by the lengths of its slices
+--   finishes-refused, finishes-fit == the second operation's answer by the shape of the job
+--   job-unsized, -false, -true    == the second operation's answer by the lengths of its slices and the test of d
 --   job-finishable                == what a job takes to be finished, once d has passed
 --   finishable-on                 == a working slice of the same length serves as well
 use Prim.Native.Nat.{ℕ, _*_}
@@ -20,16 +20,16 @@ use Rattle.basics.proofs.Bools.{and-left, and-right, all-six}
 use Rattle.floor.specs.Floor.{floorOf, vertices}
 use Rattle.floor.specs.declared.Refusal.{Refusal}
 use Rattle.floor.specs.declared.Refusal.the-variants.{SliceLength, FalseSheet}
-use Rattle.moves.specs.declared.Rows.{Rows}
-use Rattle.grid.specs.Grid.{floorGraph, jobOf}
-use Rattle.grid.specs.declared.Job.{Job}
-use Rattle.grid.specs.declared.Job.the-variants.{Fit, Unfit}
+use Rattle.floor.specs.declared.Shape.{Shape}
+use Rattle.floor.specs.declared.Shape.the-variants.{Good, Refused as BadShape}
+use Rattle.moves.specs.declared.Directions.{Directions}
+use Rattle.grid.specs.Grid.{floorGraph, jobShape}
+use Rattle.grid.specs.declared.JobShape.{JobShape}
+use Rattle.grid.specs.declared.JobShape.the-variants.{Fit, Refused as BadJob}
 use Rattle.grid.specs.Known.{GoodJob}
 use Rattle.distances.specs.Costs.{FilledCosts}
 use Rattle.given_costs.specs.Given.{costsTrue}
 use Rattle.given_costs.proofs.Tested.{true-list}
-use Rattle.planner.specs.declared.Costed.{Costed}
-use Rattle.planner.specs.declared.Costed.the-variants.{Filled, Refused as NotFilled}
 use Rattle.planner.specs.declared.Planned.{Planned}
 use Rattle.planner.specs.declared.Planned.the-variants.{Refused}
 use Rattle.planner.specs.Plan.{CostSlices, costSlicesOf, costsSized, costsAnswer, costsLeft, FillsCosts}
@@ -87,26 +87,27 @@ module _ {w h : ℕ} {map : List ℕ} where
   -- ---- the first operation
 
   module _ {nb a : ℕ} {s : CostSlices} where
-    pub fills-unfit : {z : Refusal} {s′ : CostSlices} → jobOf w h map nb a a ≡ Unfit z → s′ ≡ s
-        → FillsCosts w h map nb a s (NotFilled z) s′
+    pub fills-refused : {z : Refusal} {s′ : CostSlices} → jobShape w h map nb a a ≡ BadJob z → s′ ≡ s
+        → FillsCosts w h map nb a s (BadShape z) s′
     unfolding costsAnswer costsLeft
-    fills-unfit t q = record { answer = rw t; left = rw t q }
+    fills-refused t q = record { answer = rw t; left = rw t q }
 
-    pub fills-fit : {rows : Rows} {j : Job} {r : Costed} {s′ : CostSlices} → j ≡ jobOf w h map nb a a → j ≡ Fit rows
-        → FillsJob w h map rows a s r s′ → FillsCosts w h map nb a s r s′
+    pub fills-fit : {dirs : Directions} {j : JobShape} {r : Shape} {s′ : CostSlices} → j ≡ jobShape w h map nb a a
+        → j ≡ Fit dirs
+        → FillsJob w h map dirs a s r s′ → FillsCosts w h map nb a s r s′
     unfolding costsAnswer costsLeft
     fills-fit q t P = let e = sym q ∙ t in record { answer = rw e (P .answer); left = rw e (P .left) }
 
-  module _ {rows : Rows} {a v : ℕ} {d work : List ℕ} (n : v ≡ vertices w h) where
+  module _ {dirs : Directions} {a v : ℕ} {d work : List ℕ} (n : v ≡ vertices w h) where
     pub costs-long : {s′ : CostSlices} → (length d ≡ v → ⊥) → s′ ≡ costSlicesOf d work
-        → FillsJob w h map rows a (costSlicesOf d work) (NotFilled SliceLength) s′
+        → FillsJob w h map dirs a (costSlicesOf d work) (BadShape SliceLength) s′
     unfolding costsSized
     costs-long t q =
         let z = ne-eqb (length d) (vertices w h) (rw n at t) in record { answer = rw z; left = rw z q }
 
     module _ (d-len : length d ≡ v) where
       pub costs-cramped : {s′ : CostSlices} → (length work ≡ 4 * v → ⊥) → s′ ≡ costSlicesOf d work
-          → FillsJob w h map rows a (costSlicesOf d work) (NotFilled SliceLength) s′
+          → FillsJob w h map dirs a (costSlicesOf d work) (BadShape SliceLength) s′
       unfolding costsSized
       costs-cramped t q =
           let y = eq-eqb (length d) (vertices w h) (d-len ∙ n) in
@@ -114,8 +115,8 @@ module _ {w h : ℕ} {map : List ℕ} where
           record { answer = rw (y, z); left = rw (y, z) q }
 
       pub costs-filled : {d′ work′ : List ℕ} → length work ≡ 4 * v
-          → FilledCosts (floorGraph (floorOf w h map) rows) a d′ work′
-          → FillsJob w h map rows a (costSlicesOf d work) Filled (costSlicesOf d′ work′)
+          → FilledCosts (floorGraph (floorOf w h map) dirs) a d′ work′
+          → FillsJob w h map dirs a (costSlicesOf d work) Good (costSlicesOf d′ work′)
       unfolding costsSized
       costs-filled t F =
           let y = eq-eqb (length d) (vertices w h) (d-len ∙ n) in
@@ -125,51 +126,52 @@ module _ {w h : ℕ} {map : List ℕ} where
   -- ---- the second operation
 
   module _ {nb a b : ℕ} {d : List ℕ} {s : Slices} where
-    pub finishes-unfit : {z : Refusal} {s′ : Slices} → jobOf w h map nb a b ≡ Unfit z → s′ ≡ s
+    pub finishes-refused : {z : Refusal} {s′ : Slices} → jobShape w h map nb a b ≡ BadJob z → s′ ≡ s
         → Finishes w h map nb a b d s (Refused z) s′
     unfolding finishAnswer finishLeft
-    finishes-unfit t q = record { answer = rw t; left = rw t q }
+    finishes-refused t q = record { answer = rw t; left = rw t q }
 
-    pub finishes-fit : {rows : Rows} {j : Job} {r : Planned} {s′ : Slices} → j ≡ jobOf w h map nb a b → j ≡ Fit rows
-        → FinishesJob w h map rows a b d s r s′ → Finishes w h map nb a b d s r s′
+    pub finishes-fit : {dirs : Directions} {j : JobShape} {r : Planned} {s′ : Slices} → j ≡ jobShape w h map nb a b
+        → j ≡ Fit dirs
+        → FinishesJob w h map dirs a b d s r s′ → Finishes w h map nb a b d s r s′
     unfolding finishAnswer finishLeft
     finishes-fit q t P = let e = sym q ∙ t in record { answer = rw e (P .answer); left = rw e (P .left) }
 
-  module _ {rows : Rows} {a b : ℕ} {d e f back route next work : List ℕ} where
+  module _ {dirs : Directions} {a b : ℕ} {d e f back route next work : List ℕ} where
     pub job-unsized : {s′ : Slices} → slicesSized (vertices w h) d (slicesOf e f back route next work) ≡ false
         → s′ ≡ slicesOf e f back route next work
-        → FinishesJob w h map rows a b d (slicesOf e f back route next work) (Refused SliceLength) s′
+        → FinishesJob w h map dirs a b d (slicesOf e f back route next work) (Refused SliceLength) s′
     job-unsized z q = record { answer = rw z; left = rw z q }
 
     module _ (L : FullSlices (vertices w h) d e f back route next work) where
-      pub job-false : {t : Bool} {s′ : Slices} → t ≡ costsTrue (floorGraph (floorOf w h map) rows) a d → not t ≡ true
+      pub job-false : {t : Bool} {s′ : Slices} → t ≡ costsTrue (floorGraph (floorOf w h map) dirs) a d → not t ≡ true
           → s′ ≡ slicesOf e f back route next work
-          → FinishesJob w h map rows a b d (slicesOf e f back route next work) (Refused FalseSheet) s′
+          → FinishesJob w h map dirs a b d (slicesOf e f back route next work) (Refused FalseSheet) s′
       job-false {t} p z q =
           let y = full-sized L in
           let n = sym p ∙ not-true t z in
           record { answer = rw (y, n); left = rw (y, n) q }
 
-      pub job-true : {t : Bool} {r : Planned} {s′ : Slices} → t ≡ costsTrue (floorGraph (floorOf w h map) rows) a d
+      pub job-true : {t : Bool} {r : Planned} {s′ : Slices} → t ≡ costsTrue (floorGraph (floorOf w h map) dirs) a d
           → not t ≡ false
-          → Finished (floorGraph (floorOf w h map) rows) a b r s′
-          → FinishesJob w h map rows a b d (slicesOf e f back route next work) r s′
+          → Finished (floorGraph (floorOf w h map) dirs) a b r s′
+          → FinishesJob w h map dirs a b d (slicesOf e f back route next work) r s′
       job-true {t} p z F =
           let y = full-sized L in
           let n = sym p ∙ not-false t z in
           record { answer = rw (y, n) (F .answer); left = rw (y, n) (F .left) }
 
-      pub job-finishable : GoodJob w h map rows a b → {t : Bool}
-          → t ≡ costsTrue (floorGraph (floorOf w h map) rows) a d → not t ≡ false
-          → Finishable w h map rows a b d e f back route next work
+      pub job-finishable : GoodJob w h map dirs a b → {t : Bool}
+          → t ≡ costsTrue (floorGraph (floorOf w h map) dirs) a d → not t ≡ false
+          → Finishable w h map dirs a b d e f back route next work
       job-finishable J {t} p z = record {
         job = J;
         lent = L;
-        costs = true-list (floorGraph (floorOf w h map) rows) a d (sym p ∙ not-false t z);
+        costs = true-list (floorGraph (floorOf w h map) dirs) a d (sym p ∙ not-false t z);
       }
 
-    pub finishable-on : {work′ : List ℕ} → Finishable w h map rows a b d e f back route next work
-        → length work′ ≡ length work → Finishable w h map rows a b d e f back route next work′
+    pub finishable-on : {work′ : List ℕ} → Finishable w h map dirs a b d e f back route next work
+        → length work′ ≡ length work → Finishable w h map dirs a b d e f back route next work′
     finishable-on F same = record {
       job = F .job;
       lent = record { sheet = F .lent .sheet; work-len = same ∙ F .lent .work-len };

@@ -1,9 +1,9 @@
--- The two operations together are document 01's planner.
+-- The two operations together are the planner of docs/RULES.md, section 7.
 --
 --   finish-true, -false == the second operation on true costs, and on others, where the job is fit and its slices have
 --                          the right lengths
 --   costs-then-finish   == from slices of the right lengths, whatever stands in them, the second operation on the first
---                          one's d gives the answer of the job; d and the others are left as document 01 says
+--                          one's d gives the answer of the job; d and the others are left as rule 6.4 says
 use Prim.Native.Nat.{ℕ, _*_}
 use mathlib.Core.Path.{_≡_, refl, sym, _∙_}
 use mathlib.Core.Bool.{true, false}
@@ -16,15 +16,15 @@ use Rattle.basics.proofs.Bools.{and-left}
 use Rattle.basics.proofs.Lists.{length-tabulate}
 use Rattle.floor.specs.Floor.{floorOf, vertices}
 use Rattle.floor.specs.declared.Refusal.the-variants.{FalseSheet}
-use Rattle.moves.specs.declared.Rows.{Rows}
+use Rattle.floor.specs.declared.Shape.the-variants.{Good}
+use Rattle.moves.specs.declared.Directions.{Directions}
 use Rattle.paths.specs.Graph.{Graph}
 use Rattle.paths.specs.Distance.{distance}
-use Rattle.grid.specs.Grid.{floorGraph, jobOf}
-use Rattle.grid.specs.declared.Job.the-variants.{Fit}
+use Rattle.grid.specs.Grid.{floorGraph, jobShape}
+use Rattle.grid.specs.declared.JobShape.the-variants.{Fit}
 use Rattle.grid.proofs.Jobs.{start-fit}
 use Rattle.given_costs.specs.Given.{costsTrue}
 use Rattle.given_costs.proofs.Tested.{list-true}
-use Rattle.planner.specs.declared.Costed.the-variants.{Filled}
 use Rattle.planner.specs.declared.Planned.the-variants.{Refused}
 use Rattle.planner.specs.Plan.{CostSlices, costSlicesOf, costsSized, costsAnswer, costsLeft}
 use Rattle.planner.specs.Plan.{Slices, slicesSized, routeAnswer, routeLeft, finishAnswer, finishLeft}
@@ -32,16 +32,16 @@ use Rattle.planner.specs.Plan.{Slices, slicesSized, routeAnswer, routeLe
 -- What the two leave: the first answers that d is filled, with d true and its working slice all 0; the second gives the
 -- answer of the job, and leaves the other slices so.
 pub record Together (w h : ℕ) (map : List ℕ) (nb a b : ℕ) (g : Graph) (s : CostSlices) (t : Slices) : Type 0 where
-  pub first : costsAnswer w h map nb a s ≡ Filled
+  pub first : costsAnswer w h map nb a s ≡ Good
   pub costs : costsLeft w h map nb a s ≡ costSlicesOf (tabulate (g .size) (distance g a)) (zeros (4 * g .size))
   pub answer : finishAnswer w h map nb a b (costsLeft w h map nb a s .d) t ≡ routeAnswer g a b
   pub left : finishLeft w h map nb a b (costsLeft w h map nb a s .d) t ≡ routeLeft g a b
 
-module _ (w h : ℕ) (map : List ℕ) (nb a b : ℕ) (rows : Rows) where
+module _ (w h : ℕ) (map : List ℕ) (nb a b : ℕ) (dirs : Directions) where
   abbrev g : Graph
-  g = floorGraph (floorOf w h map) rows
+  g = floorGraph (floorOf w h map) dirs
 
-  module _ (fit : jobOf w h map nb a b ≡ Fit rows) where
+  module _ (fit : jobShape w h map nb a b ≡ Fit dirs) where
     module _ (d : List ℕ) (t : Slices) (sized : slicesSized (vertices w h) d t ≡ true) where
       pub finish-true : costsTrue g a d ≡ true
           → (finishAnswer w h map nb a b d t ≡ routeAnswer g a b) × (finishLeft w h map nb a b d t ≡ routeLeft g a b)
@@ -70,7 +70,7 @@ module _ (w h : ℕ) (map : List ℕ) (nb a b : ℕ) (rows : Rows) where
         → (t : Slices) → slicesSized (vertices w h) (s .d) t ≡ true → Together w h map nb a b g s t
     unfolding costsAnswer costsLeft
     costs-then-finish s sized t others =
-        let alone = start-fit w h map nb a b rows fit in
+        let alone = start-fit w h map nb a b dirs fit in
         let d = tabulate (vertices w h) (distance g a) in
         let both = finish-true d t (refilled s t others sized) (list-true g a d refl) in
         record {

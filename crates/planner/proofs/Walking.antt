@@ -2,13 +2,13 @@
 --
 --   byNumber g a b v      == where the walk goes from v
 --   Walking g a b n v r   == the first n points are written in r, 0 after them, and the rest of the route begins with v
---   walking-start         == so it is at the start
---   walking-room          == there is a place for one point more
+--   walking-start         == `Walking` with no point written, at a
+--   walking-room          == where `Walking` holds after n points, there is a place for one point more
 --   next-number           == the number that the code reads is that of the next vertex
---   walking-more          == one point on
+--   walking-more          == `Walking` one point on
 --   walking-end           == at b one point more is the whole route
 --   Stepping ..           == what holds at each turn of the loop, on whatever graph the lists are of
---   step-start, step-more, step-end == so it is at the start and one turn on; what it says at the end
+--   step-start, step-more, step-end == `Stepping` at the start and one turn on; what it says at the end
 use Prim.Native.Nat.{ℕ, suc, _+_, _-_, _≤_, _<_}
 use mathlib.Core.Path.{_≡_, refl, sym, ap, _∙_, subst}
 use mathlib.Core.Logic.{⊎-elim}

@@ -3,7 +3,7 @@
 -- known costs are handed, and what they leave.
 --
 --   numberOf r s mask b d e f back v == `nextNumber`, by the slices and the mask of v
---   numberAt r s b d e f back work v == the same, by the mask of v in the working slice
+--   numberAt r s b d e f back work v == `numberOf` of vertex v, by its mask in the working slice
 --   Choosable r s b d e f back work  == the slices have what the next vertex of every vertex is chosen by, and from
 --                                each on the way before b a move leads on
 --   NumberedTo .. v next      == the list has the next vertices of the vertices before v, and 0 from there on
@@ -12,8 +12,8 @@
 --   Routed g a b route n      == the route slice holds the central route, and n is the number of its points
 --   lengthsGood v ..          == the slices of these lengths have the places that a floor of v vertices needs
 --   FullSlices v ..           == the slices have the lengths that they need
---   Finishable ..             == so they have, for a good job, and d holds the costs from a
---   Findable ..               == the same, the masks stand in the working slice, a walk joins the ends, and counts,
+--   Finishable ..             == a good job, slices of the lengths for it (`FullSlices`), and d holds the costs from a
+--   Findable ..               == `Finishable`, the masks stand in the working slice, a walk joins the ends, and counts,
 --                                route and next vertices are all 0
 --   Finished g a b r s        == the answer r and the slices s are those of the job from a to b on graph g
 --   FillsJob .., FinishesJob .. == the answer r and the slices s' are those of the first operation, and of the second,
@@ -27,7 +27,8 @@ use lib.ListN.{length}
 use Rattle.basics.specs.Bounded.{pick}
 use Rattle.basics.specs.Lists.{tabulate, padded, zeros}
 use Rattle.floor.specs.Floor.{floorOf, vertices}
-use Rattle.moves.specs.declared.Rows.{Rows}
+use Rattle.floor.specs.declared.Shape.{Shape}
+use Rattle.moves.specs.declared.Directions.{Directions}
 use Rattle.paths.specs.Graph.{Graph, Lawful}
 use Rattle.paths.specs.Distance.{unreachable, distance}
 use Rattle.paths.specs.Route.{onShortest, centralRoute, orZero, nextNumber}
@@ -35,32 +36,31 @@ use Rattle.paths.specs.Sheet.{sheetOf}
 use Rattle.paths.specs.Local.{entry, Shaped}
 use Rattle.grid.specs.Grid.{floorGraph}
 use Rattle.grid.specs.Known.{GoodJob}
-use Rattle.grid.specs.declared.Job.the-variants.{Fit}
+use Rattle.grid.specs.declared.JobShape.the-variants.{Fit}
 use Rattle.neighbours.specs.Choice.{Choosing, Counted, nextOf, LeadsBy}
 use Rattle.workspace.specs.Regions.{maskAt, MasksIn}
-use Rattle.planner.specs.declared.Costed.{Costed}
 use Rattle.planner.specs.declared.Planned.{Planned}
 use Rattle.planner.specs.Plan.{CostSlices, Slices, routeAnswer, routeLeft}
 use Rattle.planner.specs.Plan.{jobCosts, jobCostsLeft, jobAnswer, jobLeft}
 
-abbrev pub numberOf : Rows → List ℕ → ℕ → ℕ → List ℕ → List ℕ → List ℕ → List ℕ → ℕ → ℕ
+abbrev pub numberOf : Directions → List ℕ → ℕ → ℕ → List ℕ → List ℕ → List ℕ → List ℕ → ℕ → ℕ
 numberOf r s mask b d e f back v =
     pick (onShortest (entry d) (entry e) b v) (pick (eqb v b) b (orZero (nextOf r s mask d e f back b v))) 0
 
-abbrev pub numberAt : Rows → List ℕ → ℕ → List ℕ → List ℕ → List ℕ → List ℕ → List ℕ → ℕ → ℕ
+abbrev pub numberAt : Directions → List ℕ → ℕ → List ℕ → List ℕ → List ℕ → List ℕ → List ℕ → ℕ → ℕ
 numberAt r s b d e f back work v = numberOf r s (maskAt (length d) work v) b d e f back v
 
-pub record Choosable (rows : Rows) (shifts : List ℕ) (b : ℕ) (d e f back work : List ℕ) : Type 0 where
+pub record Choosable (dirs : Directions) (shifts : List ℕ) (b : ℕ) (d e f back work : List ℕ) : Type 0 where
   pub few : length d ≤ 16384
   pub work-len : length work ≡ 4 * length d
-  pub choosing : (v : ℕ) → v < length d → Choosing rows shifts (maskAt (length d) work v) d e b v
+  pub choosing : (v : ℕ) → v < length d → Choosing dirs shifts (maskAt (length d) work v) d e b v
   pub counted : Counted (length d) f back
-  pub leads : (v : ℕ) → v < length d → LeadsBy rows shifts (maskAt (length d) work v) d e f back b v
+  pub leads : (v : ℕ) → v < length d → LeadsBy dirs shifts (maskAt (length d) work v) d e f back b v
 
-pub record NumberedTo (rows : Rows) (shifts : List ℕ) (b : ℕ) (d e f back work : List ℕ) (v : ℕ) (next : List ℕ)
+pub record NumberedTo (dirs : Directions) (shifts : List ℕ) (b : ℕ) (d e f back work : List ℕ) (v : ℕ) (next : List ℕ)
     : Type 0 where
   pub len : length next ≡ length d
-  pub at : (u : ℕ) → u < v → entry next u ≡ numberAt rows shifts b d e f back work u
+  pub at : (u : ℕ) → u < v → entry next u ≡ numberAt dirs shifts b d e f back work u
   pub blank : (u : ℕ) → v ≤ u → entry next u ≡ 0
 
 pub record Walkable (g : Graph) (a b : ℕ) (next route : List ℕ) : Type 0 where
@@ -84,17 +84,17 @@ pub record FullSlices (v : ℕ) (d e f back route next work : List ℕ) : Type 0
   pub sheet : Shaped v (sheetOf d e f back route next 0)
   pub work-len : length work ≡ 4 * v
 
-pub record Finishable (w h : ℕ) (map : List ℕ) (rows : Rows) (a b : ℕ) (d e f back route next work : List ℕ)
+pub record Finishable (w h : ℕ) (map : List ℕ) (dirs : Directions) (a b : ℕ) (d e f back route next work : List ℕ)
     : Type 0 where
-  pub job : GoodJob w h map rows a b
+  pub job : GoodJob w h map dirs a b
   pub lent : FullSlices (vertices w h) d e f back route next work
-  pub costs : d ≡ tabulate (vertices w h) (distance (floorGraph (floorOf w h map) rows) a)
+  pub costs : d ≡ tabulate (vertices w h) (distance (floorGraph (floorOf w h map) dirs) a)
 
-pub record Findable (w h : ℕ) (map : List ℕ) (rows : Rows) (a b : ℕ) (d e f back route next work : List ℕ)
+pub record Findable (w h : ℕ) (map : List ℕ) (dirs : Directions) (a b : ℕ) (d e f back route next work : List ℕ)
     : Type 0 where
-  pub finishable : Finishable w h map rows a b d e f back route next work
-  pub masks : MasksIn (floorOf w h map) rows work
-  pub reached : distance (floorGraph (floorOf w h map) rows) a b < unreachable
+  pub finishable : Finishable w h map dirs a b d e f back route next work
+  pub masks : MasksIn (floorOf w h map) dirs work
+  pub reached : distance (floorGraph (floorOf w h map) dirs) a b < unreachable
   pub f-blank : f ≡ zeros (vertices w h)
   pub back-blank : back ≡ zeros (vertices w h)
   pub route-blank : route ≡ zeros (vertices w h)
@@ -104,13 +104,13 @@ pub record Finished (g : Graph) (a b : ℕ) (r : Planned) (s : Slices) : Type 0 
   pub answer : r ≡ routeAnswer g a b
   pub left : s ≡ routeLeft g a b
 
-pub record FillsJob (w h : ℕ) (map : List ℕ) (rows : Rows) (a : ℕ) (s : CostSlices) (r : Costed) (s' : CostSlices)
+pub record FillsJob (w h : ℕ) (map : List ℕ) (dirs : Directions) (a : ℕ) (s : CostSlices) (r : Shape) (s' : CostSlices)
     : Type 0 where
-  pub answer : r ≡ jobCosts w h s (Fit rows)
-  pub left : s' ≡ jobCostsLeft w h map a s (Fit rows)
+  pub answer : r ≡ jobCosts w h s (Fit dirs)
+  pub left : s' ≡ jobCostsLeft w h map a s (Fit dirs)
 
-pub record FinishesJob (w h : ℕ) (map : List ℕ) (rows : Rows) (a b : ℕ) (d : List ℕ) (s : Slices) (r : Planned)
+pub record FinishesJob (w h : ℕ) (map : List ℕ) (dirs : Directions) (a b : ℕ) (d : List ℕ) (s : Slices) (r : Planned)
     (s' : Slices)
     : Type 0 where
-  pub answer : r ≡ jobAnswer w h map a b d s (Fit rows)
-  pub left : s' ≡ jobLeft w h map a b d s (Fit rows)
+  pub answer : r ≡ jobAnswer w h map a b d s (Fit dirs)
+  pub left : s' ≡ jobLeft w h map a b d s (Fit dirs)

@@ -1,19 +1,20 @@
--- Document 01, "Answers by number", for the planner's two operations: what each answers, and what it leaves in every
--- lent slice. The first fills d with the costs from a start. The second is handed d, which it only reads, and finishes
--- e, f, b, the route and the next vertices.
+-- docs/RULES.md, section 7, 6.3 and 6.4, for the planner's two operations: what each answers, and what it leaves in
+-- every lent slice. The first fills d with the costs from a start. The second is handed d, which it only reads, and
+-- finishes e, f, b, the route and the next vertices.
 --
 --   CostSlices         == the slices lent to the first operation: d and its working slice
---   Slices             == those lent to the second: the sheet's others, and its working slice
+--   Slices             == the slices lent to the second operation: those of the sheet but d, and its working slice
 --   routeAnswer g a b  == the answer for the job from a to b on graph g, once its shape is good and d is true: 0, 7
 --                         or 8
---   routeLeft g a b    == the slices that this answer leaves
+--   routeLeft g a b    == the slices that `routeAnswer g a b` leaves
 --   costsAnswer ..     == the first operation's answer, for every input: 0, or a refusal of 1 to 5, 11 and 6
---   costsLeft ..       == its slices afterwards, for every input: untouched at a refusal
---   FillsCosts ..      == both, as the first operation promises them
+--   costsLeft ..       == the first operation's slices afterwards, for every input: untouched at a refusal
+--   FillsCosts ..      == the first operation's promise: `costsAnswer` and `costsLeft`
 --   finishAnswer ..    == the second operation's answer, for every input: 9 where d is not the costs from a
---   finishLeft ..      == its slices afterwards, for every input: untouched at answers 1 to 6, 9 and 11
---   Finishes ..        == both, as the second operation promises them
---   costedNumber, planNumber, planCost, planTotal, planPoints == document 01's number and values of an answer
+--   finishLeft ..      == the second operation's slices afterwards, for every input: untouched at answers 1 to 6, 9 and
+--                         11
+--   Finishes ..        == the second operation's promise: `finishAnswer` and `finishLeft`
+--   planNumber, planCost, planTotal, planPoints == the number (rule 6.1) and the values (rule 6.4) of an answer
 use Prim.Native.Nat.{ℕ, _*_}
 use mathlib.Core.Path.{_≡_}
 use mathlib.Core.Bool.{Bool, _&&_}
@@ -25,16 +26,16 @@ use Rattle.basics.specs.Lists.{tabulate, zeros}
 use Rattle.floor.specs.Floor.{floorOf, vertices}
 use Rattle.floor.specs.Refusals.{refusalNumber}
 use Rattle.floor.specs.declared.Refusal.the-variants.{SliceLength, NoRoute, TooMany, FalseSheet}
+use Rattle.floor.specs.declared.Shape.{Shape}
+use Rattle.floor.specs.declared.Shape.the-variants.{Good, Refused as BadShape}
 use Rattle.paths.specs.Graph.{Graph}
 use Rattle.paths.specs.Distance.{distance, pathCount}
 use Rattle.paths.specs.Route.{centralRoute}
 use Rattle.paths.specs.Sheet.{Sheet, joined, fits, routeSheet, noRouteSheet}
-use Rattle.grid.specs.Grid.{floorGraph, jobOf}
-use Rattle.grid.specs.declared.Job.{Job}
-use Rattle.grid.specs.declared.Job.the-variants.{Fit, Unfit}
+use Rattle.grid.specs.Grid.{floorGraph, jobShape}
+use Rattle.grid.specs.declared.JobShape.{JobShape}
+use Rattle.grid.specs.declared.JobShape.the-variants.{Fit, Refused as BadJob}
 use Rattle.given_costs.specs.Given.{costsTrue}
-use Rattle.planner.specs.declared.Costed.{Costed}
-use Rattle.planner.specs.declared.Costed.the-variants.{Filled, Refused as NotFilled}
 use Rattle.planner.specs.declared.Planned.{Planned}
 use Rattle.planner.specs.declared.Planned.the-variants.{Found, Refused}
 
@@ -85,25 +86,25 @@ routeLeft g a b =
 unfoldable pub costsSized : ℕ → CostSlices → Bool
 costsSized v s = eqb (length (s .d)) v && eqb (length (s .work)) (4 * v)
 
-abbrev pub jobCosts : ℕ → ℕ → CostSlices → Job → Costed
-jobCosts w h s (Fit rows) = pick (costsSized (vertices w h) s) Filled (NotFilled SliceLength)
-jobCosts w h s (Unfit r) = NotFilled r
+abbrev pub jobCosts : ℕ → ℕ → CostSlices → JobShape → Shape
+jobCosts w h s (Fit dirs) = pick (costsSized (vertices w h) s) Good (BadShape SliceLength)
+jobCosts w h s (BadJob r) = BadShape r
 
-abbrev pub jobCostsLeft : ℕ → ℕ → List ℕ → ℕ → CostSlices → Job → CostSlices
-jobCostsLeft w h map a s (Fit rows) =
+abbrev pub jobCostsLeft : ℕ → ℕ → List ℕ → ℕ → CostSlices → JobShape → CostSlices
+jobCostsLeft w h map a s (Fit dirs) =
     let v = vertices w h in
     pick (costsSized v s)
-    (costSlicesOf (tabulate v (distance (floorGraph (floorOf w h map) rows) a)) (zeros (4 * v))) s
-jobCostsLeft w h map a s (Unfit r) = s
+    (costSlicesOf (tabulate v (distance (floorGraph (floorOf w h map) dirs) a)) (zeros (4 * v))) s
+jobCostsLeft w h map a s (BadJob r) = s
 
-unfoldable pub costsAnswer : ℕ → ℕ → List ℕ → ℕ → ℕ → CostSlices → Costed
-costsAnswer w h map nb a s = jobCosts w h s (jobOf w h map nb a a)
+unfoldable pub costsAnswer : ℕ → ℕ → List ℕ → ℕ → ℕ → CostSlices → Shape
+costsAnswer w h map nb a s = jobCosts w h s (jobShape w h map nb a a)
 
 unfoldable pub costsLeft : ℕ → ℕ → List ℕ → ℕ → ℕ → CostSlices → CostSlices
-costsLeft w h map nb a s = jobCostsLeft w h map a s (jobOf w h map nb a a)
+costsLeft w h map nb a s = jobCostsLeft w h map a s (jobShape w h map nb a a)
 
 -- The first operation's promise: s before, s' after, and the answer r.
-pub record FillsCosts (w h : ℕ) (map : List ℕ) (nb a : ℕ) (s : CostSlices) (r : Costed) (s' : CostSlices)
+pub record FillsCosts (w h : ℕ) (map : List ℕ) (nb a : ℕ) (s : CostSlices) (r : Shape) (s' : CostSlices)
     : Type 0 where
   pub answer : r ≡ costsAnswer w h map nb a s
   pub left : s' ≡ costsLeft w h map nb a s
@@ -116,24 +117,24 @@ slicesSized v d s =
     eqb (length d) v && eqb (length (s .e)) v && eqb (length (s .f)) v && eqb (length (s .b)) v
     && eqb (length (s .route)) v && eqb (length (s .next)) v && eqb (length (s .work)) (4 * v)
 
-abbrev pub jobAnswer : ℕ → ℕ → List ℕ → ℕ → ℕ → List ℕ → Slices → Job → Planned
-jobAnswer w h map a b d s (Fit rows) =
-    let g = floorGraph (floorOf w h map) rows in
+abbrev pub jobAnswer : ℕ → ℕ → List ℕ → ℕ → ℕ → List ℕ → Slices → JobShape → Planned
+jobAnswer w h map a b d s (Fit dirs) =
+    let g = floorGraph (floorOf w h map) dirs in
     pick (slicesSized (vertices w h) d s) (pick (costsTrue g a d) (routeAnswer g a b) (Refused FalseSheet))
     (Refused SliceLength)
-jobAnswer w h map a b d s (Unfit r) = Refused r
+jobAnswer w h map a b d s (BadJob r) = Refused r
 
-abbrev pub jobLeft : ℕ → ℕ → List ℕ → ℕ → ℕ → List ℕ → Slices → Job → Slices
-jobLeft w h map a b d s (Fit rows) =
-    let g = floorGraph (floorOf w h map) rows in
+abbrev pub jobLeft : ℕ → ℕ → List ℕ → ℕ → ℕ → List ℕ → Slices → JobShape → Slices
+jobLeft w h map a b d s (Fit dirs) =
+    let g = floorGraph (floorOf w h map) dirs in
     pick (slicesSized (vertices w h) d s) (pick (costsTrue g a d) (routeLeft g a b) s) s
-jobLeft w h map a b d s (Unfit r) = s
+jobLeft w h map a b d s (BadJob r) = s
 
 unfoldable pub finishAnswer : ℕ → ℕ → List ℕ → ℕ → ℕ → ℕ → List ℕ → Slices → Planned
-finishAnswer w h map nb a b d s = jobAnswer w h map a b d s (jobOf w h map nb a b)
+finishAnswer w h map nb a b d s = jobAnswer w h map a b d s (jobShape w h map nb a b)
 
 unfoldable pub finishLeft : ℕ → ℕ → List ℕ → ℕ → ℕ → ℕ → List ℕ → Slices → Slices
-finishLeft w h map nb a b d s = jobLeft w h map a b d s (jobOf w h map nb a b)
+finishLeft w h map nb a b d s = jobLeft w h map a b d s (jobShape w h map nb a b)
 
 -- The second operation's promise: s before, s' after, and the answer r.
 pub record Finishes (w h : ℕ) (map : List ℕ) (nb a b : ℕ) (d : List ℕ) (s : Slices) (r : Planned) (s' : Slices)
@@ -142,10 +143,6 @@ pub record Finishes (w h : ℕ) (map : List ℕ) (nb a b : ℕ) (d : List ℕ) (
   pub left : s' ≡ finishLeft w h map nb a b d s
 
 -- ---- numbers and values of an answer
-
-abbrev pub costedNumber : Costed → ℕ
-costedNumber Filled = 0
-costedNumber (NotFilled r) = refusalNumber r
 
 abbrev pub planNumber : Planned → ℕ
 planNumber (Found c t n) = 0

@@ -17,18 +17,13 @@ ghost use Rattle.grid.specs.Grid.{floorGraph};
 ghost use Rattle.grid.specs.Known.{GoodJob};
 ghost use Rattle.workspace.specs.Regions.{MasksIn};
 ghost use Rattle.planner.specs.Plan.{costSlicesOf, slicesOf, FillsCosts, Finishes};
-ghost use Rattle.planner.specs.Plan.{costedNumber, planNumber, planCost, planTotal, planPoints};
+ghost use Rattle.planner.specs.Plan.{planNumber, planCost, planTotal, planPoints};
 ghost use Rattle.planner.specs.Parts.{lengthsGood, Finishable, Findable, Finished, FillsJob, FinishesJob};
 use floor::Refusal;
+use floor::Shape;
 use floor::Vertex;
-use grid::Job;
-use moves::Rows;
-
-// The first operation's answer: d is filled, or a refusal.
-pub enum Costed {
-    Filled,
-    Refused(Refusal),
-}
+use grid::JobShape;
+use moves::Directions;
 
 // The second operation's answer: a route's cost, the number of cheapest routes and the number of its points, or a
 // refusal.
@@ -41,17 +36,7 @@ pub enum Planned {
     Refused(Refusal),
 }
 
-// Document 01's number of the first operation's answer.
-pub fn costed_number(c: Costed) -> u8
-    ensures { λ r. ⌜ r ≡ costedNumber c ⌝ }
-{
-    match c {
-        Costed::Filled => 0,
-        Costed::Refused(r) => floor::refusal_number(r),
-    }
-}
-
-// Document 01's number of the second operation's answer.
+// The number of the second operation's answer (rule 6.1).
 pub fn plan_number(p: Planned) -> u8
     ensures { λ r. ⌜ r ≡ planNumber p ⌝ }
 {
@@ -143,13 +128,13 @@ fn lengths_good(
 }
 
 // The route of a job whose ends a walk joins, from the costs d from a and the masks: fills e, and then counts, next
-// vertices and route, which are all 0, or refuses and leaves them so. Nothing is said of what it leaves in the working
-// slice.
+// vertices and route, which are all 0, or refuses and leaves them so. What it leaves in the working slice is
+// unspecified.
 fn find_route(
     w: usize,
     h: usize,
     map: &[u8],
-    rows: Rows,
+    dirs: Directions,
     a: Vertex,
     b: Vertex,
     d: &[u32],
@@ -160,20 +145,20 @@ fn find_route(
     next: &mut [u16],
     work: &mut [u32],
 ) -> Planned
-    requires { ⌜ Findable w h (now map) rows (a .0) (b .0)
+    requires { ⌜ Findable w h (now map) dirs (a .0) (b .0)
         (now d) (now e) (now f) (now back) (now route) (now next) (now work) ⌝ }
-    ensures { λ r. ⌜ Finished (floorGraph (floorOf w h (now (map .entry))) rows) (a .0) (b .0) r
+    ensures { λ r. ⌜ Finished (floorGraph (floorOf w h (now (map .entry))) dirs) (a .0) (b .0) r
         (slicesOf (now (e .exit)) (now (f .exit)) (now (back .exit)) (now (route .exit)) (now (next .exit))
         (zeros (4 * vertices w h))) ⌝ }
 {
-    let n = distances::costs_over_masks(w, h, map, rows, b, e, work);
-    let shifts = offsets::shifts_of(w, rows);
+    let n = distances::costs_over_masks(w, h, map, dirs, b, e, work);
+    let shifts = offsets::shifts_of(w, dirs);
     let start = a.0;
     let goal = b.0;
-    if !counts::fill_counts(rows, &shifts, start, goal, n, d, e, work, f, back) {
+    if !counts::fill_counts(dirs, &shifts, start, goal, n, d, e, work, f, back) {
         return Planned::Refused(Refusal::TooMany);
     }
-    route::fill_next(rows, &shifts, goal, d, e, f, back, work, next);
+    route::fill_next(dirs, &shifts, goal, d, e, f, back, work, next);
     let points = route::write_route(start, goal, next, route);
     Planned::Found {
         cost: d[goal],
@@ -187,7 +172,7 @@ fn finish_over_masks(
     w: usize,
     h: usize,
     map: &[u8],
-    rows: Rows,
+    dirs: Directions,
     a: Vertex,
     b: Vertex,
     d: &[u32],
@@ -198,10 +183,10 @@ fn finish_over_masks(
     next: &mut [u16],
     work: &mut [u32],
 ) -> Planned
-    requires { ⌜ Finishable w h (now map) rows (a .0) (b .0)
+    requires { ⌜ Finishable w h (now map) dirs (a .0) (b .0)
         (now d) (now e) (now f) (now back) (now route) (now next) (now work) ⌝ }
-    requires { ⌜ MasksIn (floorOf w h (now map)) rows (now work) ⌝ }
-    ensures { λ r. ⌜ Finished (floorGraph (floorOf w h (now (map .entry))) rows) (a .0) (b .0) r
+    requires { ⌜ MasksIn (floorOf w h (now map)) dirs (now work) ⌝ }
+    ensures { λ r. ⌜ Finished (floorGraph (floorOf w h (now (map .entry))) dirs) (a .0) (b .0) r
         (slicesOf (now (e .exit)) (now (f .exit)) (now (back .exit)) (now (route .exit))
         (now (next .exit)) (now (work .exit))) ⌝ }
 {
@@ -215,18 +200,18 @@ fn finish_over_masks(
         basics::fill_u32(work, 0);
         return Planned::Refused(Refusal::NoRoute);
     }
-    let found = find_route(w, h, map, rows, a, b, d, e, f, back, route, next, work);
+    let found = find_route(w, h, map, dirs, a, b, d, e, f, back, route, next, work);
     basics::fill_u32(work, 0);
     found
 }
 
-// Finishes a job of good shape from the true costs d from a: answers 0, 7 or 8, and leaves the other slices as document
-// 01 says. It relies on nothing that stands in them.
+// Finishes a job of good shape from the true costs d from a: answers 0, 7 or 8, and leaves the other slices as rule 6.4
+// says. It relies on nothing that stands in them.
 pub fn finish_job(
     w: usize,
     h: usize,
     map: &[u8],
-    rows: Rows,
+    dirs: Directions,
     a: Vertex,
     b: Vertex,
     d: &[u32],
@@ -237,14 +222,14 @@ pub fn finish_job(
     next: &mut [u16],
     work: &mut [u32],
 ) -> Planned
-    requires { ⌜ Finishable w h (now map) rows (a .0) (b .0)
+    requires { ⌜ Finishable w h (now map) dirs (a .0) (b .0)
         (now d) (now e) (now f) (now back) (now route) (now next) (now work) ⌝ }
-    ensures { λ r. ⌜ Finished (floorGraph (floorOf w h (now (map .entry))) rows) (a .0) (b .0) r
+    ensures { λ r. ⌜ Finished (floorGraph (floorOf w h (now (map .entry))) dirs) (a .0) (b .0) r
         (slicesOf (now (e .exit)) (now (f .exit)) (now (back .exit)) (now (route .exit))
         (now (next .exit)) (now (work .exit))) ⌝ }
 {
-    workspace::store_masks(w, h, map, rows, work);
-    finish_over_masks(w, h, map, rows, a, b, d, e, f, back, route, next, work)
+    workspace::store_masks(w, h, map, dirs, work);
+    finish_over_masks(w, h, map, dirs, a, b, d, e, f, back, route, next, work)
 }
 
 // The costs from a start, where floor, neighbourhood and start have a good shape: refusal 6, or d filled and the
@@ -253,28 +238,28 @@ fn fill_job(
     w: usize,
     h: usize,
     map: &[u8],
-    rows: Rows,
+    dirs: Directions,
     a: Vertex,
     d: &mut [u32],
     work: &mut [u32],
-) -> Costed
-    requires { ⌜ GoodJob w h (now map) rows (a .0) (a .0) ⌝ }
-    ensures { λ r. ⌜ FillsJob w h (now (map .entry)) rows (a .0)
+) -> Shape
+    requires { ⌜ GoodJob w h (now map) dirs (a .0) (a .0) ⌝ }
+    ensures { λ r. ⌜ FillsJob w h (now (map .entry)) dirs (a .0)
         (costSlicesOf (now (d .entry)) (now (work .entry))) r (costSlicesOf (now (d .exit)) (now (work .exit))) ⌝ }
 {
     let v = floor::vertex_count(w, h);
     if d.len() != v {
-        return Costed::Refused(Refusal::SliceLength);
+        return Shape::Refused(Refusal::SliceLength);
     }
     if work.len() != 4 * v {
-        return Costed::Refused(Refusal::SliceLength);
+        return Shape::Refused(Refusal::SliceLength);
     }
-    distances::costs_from(w, h, map, rows, a, d, work);
-    Costed::Filled
+    distances::costs_from(w, h, map, dirs, a, d, work);
+    Shape::Good
 }
 
-// The first operation: fills d with the costs from a. For every input it gives document 01's answer for a start alone,
-// and leaves both lent slices as document 01 says: a refusal touches nothing.
+// The first operation: fills d with the costs from a. For every input it gives the answer of rule 7.2, and leaves both
+// lent slices as rule 6.4 says: a refusal touches nothing.
 //
 // Lent are d, of V places, and a working slice of 4 * V.
 pub fn fill_costs(
@@ -285,14 +270,14 @@ pub fn fill_costs(
     a: usize,
     d: &mut [u32],
     work: &mut [u32],
-) -> Costed
+) -> Shape
     ensures { λ r. ⌜ FillsCosts w h (now (map .entry)) nb a
         (costSlicesOf (now (d .entry)) (now (work .entry))) r (costSlicesOf (now (d .exit)) (now (work .exit))) ⌝ }
 {
-    let job = grid::job_of(w, h, map, nb, a, a);
-    match job {
-        Job::Unfit(r) => Costed::Refused(r),
-        Job::Fit(rows) => fill_job(w, h, map, rows, Vertex(a), d, work),
+    let shape = grid::job_shape(w, h, map, nb, a, a);
+    match shape {
+        JobShape::Refused(r) => Shape::Refused(r),
+        JobShape::Fit(dirs) => fill_job(w, h, map, dirs, Vertex(a), d, work),
     }
 }
 
@@ -302,7 +287,7 @@ fn finish_given(
     w: usize,
     h: usize,
     map: &[u8],
-    rows: Rows,
+    dirs: Directions,
     a: Vertex,
     b: Vertex,
     d: &[u32],
@@ -313,8 +298,8 @@ fn finish_given(
     next: &mut [u16],
     work: &mut [u32],
 ) -> Planned
-    requires { ⌜ GoodJob w h (now map) rows (a .0) (b .0) ⌝ }
-    ensures { λ r. ⌜ FinishesJob w h (now (map .entry)) rows (a .0) (b .0) (now (d .entry))
+    requires { ⌜ GoodJob w h (now map) dirs (a .0) (b .0) ⌝ }
+    ensures { λ r. ⌜ FinishesJob w h (now (map .entry)) dirs (a .0) (b .0) (now (d .entry))
         (slicesOf (now (e .entry)) (now (f .entry)) (now (back .entry)) (now (route .entry))
         (now (next .entry)) (now (work .entry))) r
         (slicesOf (now (e .exit)) (now (f .exit)) (now (back .exit)) (now (route .exit))
@@ -333,18 +318,18 @@ fn finish_given(
     ) {
         return Planned::Refused(Refusal::SliceLength);
     }
-    if !given_costs::costs_true(w, h, map, rows, a, d) {
+    if !given_costs::costs_true(w, h, map, dirs, a, d) {
         return Planned::Refused(Refusal::FalseSheet);
     }
-    finish_job(w, h, map, rows, a, b, d, e, f, back, route, next, work)
+    finish_job(w, h, map, dirs, a, b, d, e, f, back, route, next, work)
 }
 
-// The second operation: finishes the job from a to b from d, which it only reads. For every input it gives document
-// 01's answer, 9 where d is not the costs from a, and leaves every lent slice as document 01 says: answers 1 to 6, 9 and
-// 11 touch nothing.
+// The second operation: finishes the job from a to b from d, which it only reads. For every input it gives the answer
+// of rules 7.3 to 7.5, 9 where d is not the costs from a, and leaves every lent slice as rule 6.4 says: answers 1 to 6,
+// 9 and 11 touch nothing.
 //
-// Lent are the sheet's slices d, e, f, back (document 01's b), route and next, of V places each, and a working slice
-// of 4 * V.
+// Lent are the sheet's slices d, e, f, back (b of rule 5.1), route and next, of V places each, and a working slice of
+// 4 * V.
 pub fn finish(
     w: usize,
     h: usize,
@@ -366,14 +351,14 @@ pub fn finish(
         (slicesOf (now (e .exit)) (now (f .exit)) (now (back .exit)) (now (route .exit))
         (now (next .exit)) (now (work .exit))) ⌝ }
 {
-    let job = grid::job_of(w, h, map, nb, a, b);
-    match job {
-        Job::Unfit(r) => Planned::Refused(r),
-        Job::Fit(rows) => finish_given(
+    let shape = grid::job_shape(w, h, map, nb, a, b);
+    match shape {
+        JobShape::Refused(r) => Planned::Refused(r),
+        JobShape::Fit(dirs) => finish_given(
             w,
             h,
             map,
-            rows,
+            dirs,
             Vertex(a),
             Vertex(b),
             d,

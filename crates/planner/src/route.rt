@@ -6,7 +6,7 @@ ghost use Rattle.basics.specs.Lists.{tabulate, zeros};
 ghost use Rattle.paths.specs.Graph.{Graph};
 ghost use Rattle.neighbours.specs.Choice.{Choosing, Counted, LeadsBy};
 ghost use Rattle.planner.specs.Parts.{numberOf, numberAt, Choosable, NumberedTo, Walkable, Routed};
-use moves::Rows;
+use moves::Directions;
 
 // So many vertices are asked at a time whether any is on the way.
 const PART: usize = 64;
@@ -14,7 +14,7 @@ const PART: usize = 64;
 // The next vertex of v as the sheet has it, by the costs and counts and the mask of v: off the way 0, at b b itself, and
 // on the way before b, where a move leads on, that of the central rule.
 fn next_number(
-    rows: Rows,
+    dirs: Directions,
     shifts: &[usize],
     mask: u32,
     b: usize,
@@ -24,9 +24,9 @@ fn next_number(
     back: &[u64],
     v: usize,
 ) -> usize
-    requires { ⌜ Choosing rows (now shifts) mask (now d) (now e) b v × Counted (length (now d)) (now f) (now back)
-        × LeadsBy rows (now shifts) mask (now d) (now e) (now f) (now back) b v ⌝ }
-    ensures { λ r. ⌜ (r ≡ numberOf rows (now (shifts .entry)) mask b
+    requires { ⌜ Choosing dirs (now shifts) mask (now d) (now e) b v × Counted (length (now d)) (now f) (now back)
+        × LeadsBy dirs (now shifts) mask (now d) (now e) (now f) (now back) b v ⌝ }
+    ensures { λ r. ⌜ (r ≡ numberOf dirs (now (shifts .entry)) mask b
         (now (d .entry)) (now (e .entry)) (now (f .entry)) (now (back .entry)) v) × (r < length (now (d .entry))) ⌝ }
 {
     if !neighbours::on_way(d, e, b, v) {
@@ -35,12 +35,12 @@ fn next_number(
     if v == b {
         return b;
     }
-    neighbours::next_at(rows, shifts, mask, d, e, f, back, b, v).0
+    neighbours::next_at(dirs, shifts, mask, d, e, f, back, b, v).0
 }
 
 // The next vertices of the vertices from first to past.
 fn fill_part(
-    rows: Rows,
+    dirs: Directions,
     shifts: &[usize],
     b: usize,
     d: &[u32],
@@ -52,15 +52,15 @@ fn fill_part(
     first: usize,
     past: usize,
 )
-    requires { ⌜ Choosable rows (now shifts) b (now d) (now e) (now f) (now back) (now work)
-        × NumberedTo rows (now shifts) b (now d) (now e) (now f) (now back) (now work) first (now next)
+    requires { ⌜ Choosable dirs (now shifts) b (now d) (now e) (now f) (now back) (now work)
+        × NumberedTo dirs (now shifts) b (now d) (now e) (now f) (now back) (now work) first (now next)
         × (first ≤ past) × (past ≤ length (now d)) ⌝ }
-    ensures { λ _. ⌜ NumberedTo rows (now (shifts .entry)) b (now (d .entry)) (now (e .entry)) (now (f .entry))
+    ensures { λ _. ⌜ NumberedTo dirs (now (shifts .entry)) b (now (d .entry)) (now (e .entry)) (now (f .entry))
         (now (back .entry)) (now (work .entry)) past (now (next .exit)) ⌝ }
 {
     for v in first..past {
         let mask = workspace::mask_at(work, d.len(), v);
-        next[v] = next_number(rows, shifts, mask, b, d, e, f, back, v) as u16;
+        next[v] = next_number(dirs, shifts, mask, b, d, e, f, back, v) as u16;
     }
 }
 
@@ -78,7 +78,7 @@ fn part_end(first: usize, n: usize) -> usize
 // Fills the slice, which is all 0, with the next vertex of every vertex, part by part: where none is on the way, 0
 // stands there already.
 pub fn fill_next(
-    rows: Rows,
+    dirs: Directions,
     shifts: &[usize],
     b: usize,
     d: &[u32],
@@ -88,16 +88,16 @@ pub fn fill_next(
     work: &[u32],
     next: &mut [u16],
 )
-    requires { ⌜ Choosable rows (now shifts) b (now d) (now e) (now f) (now back) (now work)
+    requires { ⌜ Choosable dirs (now shifts) b (now d) (now e) (now f) (now back) (now work)
         × (now next ≡ zeros (length (now d))) ⌝ }
-    ensures { λ _. ⌜ now (next .exit) ≡ tabulate (length (now (d .entry))) (numberAt rows (now (shifts .entry)) b
+    ensures { λ _. ⌜ now (next .exit) ≡ tabulate (length (now (d .entry))) (numberAt dirs (now (shifts .entry)) b
         (now (d .entry)) (now (e .entry)) (now (f .entry)) (now (back .entry)) (now (work .entry))) ⌝ }
 {
     let mut first: usize = 0;
     while first < d.len() {
         let past = part_end(first, d.len());
         if neighbours::any_on_way(d, e, b, first, past) {
-            fill_part(rows, shifts, b, d, e, f, back, work, next, first, past);
+            fill_part(dirs, shifts, b, d, e, f, back, work, next, first, past);
         }
         first = past;
     }

@@ -3,8 +3,8 @@
 --   value l          == the number whose digits are l
 --   allDigits l      == each byte of l is a digit, 30 to 39 hex
 --   decimal-value    == the digits of n are those of a number that is n
---   decimal-digits   == and are all digits
---   decimal-leading  == and the first of them is 0 for 0 alone
+--   decimal-digits   == the bytes of `decimal n` are all digits
+--   decimal-leading  == the first digit of `decimal n` is 0 for 0 alone
 use Prim.Native.Nat.{ℕ, zero, suc, _+_, _-_, _*_, _/_, _%_, _^_, _≤_, _<_}
 use mathlib.Core.Path.{_≡_, refl, sym, ap, _∙_}
 use mathlib.Core.Logic.{⊎-elim}

@@ -1,7 +1,7 @@
 -- How much of an input can matter: the map, 1,000 jobs, and one byte more, which makes a job too many.
 --
 --   stream-limit   == the stream of an input is that of its first `longest` bytes
---   cells-limit    == and so are the cells of its map
+--   cells-limit    == the cells of the map of an input are those of its first 7,966 bytes
 --   limit-settled  == so many bytes settle what stands at any cursor that stepping can come to
 --   reached-first, reached-map, reached-job == the first cursor is such a one, and so is the cursor past a record
 use Prim.Native.Nat.{ℕ, zero, suc, _+_, _*_, _≤_, _<_}

@@ -2,10 +2,11 @@
 --
 --   decides-yes, decides-no, decides-not == what a test tells
 --   map-wrong      == a wrong byte of a map settles it
---   map-wrong-cells == and so does a cell above 1 among those that are there
+--   map-wrong-cells == a cell above 1 among those that are there settles a map
 --   map-whole      == a whole record settles a map
 --   map-open       == a map of which no byte is wrong, and some are not there, is not settled: it may still be good
---   job-wrong, job-whole, job-open == the same of a job
+--   job-wrong, job-whole, job-open == a wrong byte settles a job, a whole record settles it, and one of which no byte
+--                     is wrong and some are not there is not settled
 --   settled-map, settled-end, settled-full, settled-job == what is settled at a cursor, by what is due there
 use Prim.Native.Nat.{ℕ, zero, suc, _+_, _-_, _*_, _≤_, _<_}
 use mathlib.Core.Path.{_≡_, refl, sym, ap, ap₂, _∙_}

@@ -1,7 +1,7 @@
 -- The stream is what stepping finds: the bound on the steps in its definition is never met.
 --
 --   stream-step   == the stream from a cursor on is the record found there, then the stream from the cursor handed back
---   stream-map, stream-job, stream-end, stream-bad   == the same for each kind of record
+--   stream-map, stream-job, stream-end, stream-bad == `stream-step` for each kind of record
 use Prim.Native.Nat.{ℕ, suc, _+_, _-_}
 use mathlib.Core.Path.{_≡_, refl, ap, _∙_}
 use mathlib.Core.List.{List}

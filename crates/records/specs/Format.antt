@@ -1,4 +1,4 @@
--- Document 01, "The program": the byte stream of one map record and up to 1,000 job records.
+-- docs/RULES.md, 16.1 to 16.5: the byte stream of one map record and up to 1,000 job records.
 --
 --   wordAt s p         == the 16-bit little-endian number at place p of the bytes s
 --   markedAt s p a b   == the two bytes at p are a and b

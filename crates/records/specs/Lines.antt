@@ -1,4 +1,4 @@
--- Document 01, "The program": the lines of the output, as bytes.
+-- docs/RULES.md, 16.6 to 16.9: the lines of the output, as bytes.
 --
 --   ascii t        == the bytes of the text t
 --   decimal n      == the digits of n, the highest first: no leading zero, and 0 is "0"

@@ -1,7 +1,7 @@
 -- Reading a stream as it comes: whether what is read of it says what stands at a cursor.
 --
 --   MapSettled p a   == whatever follows the bytes p, the same stands at place a, where the map is due
---   JobSettled p a k == the same where job k is due
+--   JobSettled p a k == whatever follows the bytes p, the same stands at place a, where job k is due
 --   Settled p c      == whatever follows p, a step of the cursor c finds what it finds in p alone
 --   Decides b P      == b is true where P holds, and false where it does not
 --   longest          == the bytes of an input that can matter: 4 + 31 * 31 + 7 * 1000 + 1

@@ -2,7 +2,7 @@
 -- leads there.
 --
 --   open-goes             == an open move goes to v where its far end is v and the two ends see each other
---   unseen-shut           == where they do not, no open move goes there
+--   unseen-shut           == where two vertices do not see each other, no open move goes from the one to the other
 --   none-leads            == nor where no move leads there
 --   first-leads           == the first move that leads there is the one
 --   row-short, on-floor   == what a step takes
@@ -24,7 +24,7 @@ use Rattle.floor.specs.declared.Vertex.{Vertex}
 use Rattle.floor.proofs.Numbers.{number-of}
 use Rattle.sight.specs.Sight.{segment, sees}
 use Rattle.moves.specs.declared.Move.{Move}
-use Rattle.moves.specs.declared.Rows.{Rows}
+use Rattle.moves.specs.declared.Directions.{Directions}
 use Rattle.moves.specs.declared.Step.the-variants.{To, Off}
 use Rattle.moves.specs.Moves.{moveOf, moveAt}
 use Rattle.moves.specs.Steps.{thenAt, farEndAt, endIf, openEnd, stepOf}
@@ -54,7 +54,7 @@ pub far-same : (w h x y : ℕ) (m : Move) → farEndAt w h (moveOf (m .dx) (m .d
 unfolding farEndAt
 far-same w h x y m = refl
 
-pub row-short : {r : Rows} → Listed r → (m : ℕ) → m < r .count → (t : Move) → t ≡ moveAt r m → Short t
+pub row-short : {r : Directions} → Listed r → (m : ℕ) → m < r .count → (t : Move) → t ≡ moveAt r m → Short t
 row-short {r} L m l t e = rw e (lawful-move r m (listed-lawful L) l .is-short)
 
 pub on-floor : {w h x y : ℕ} {map : List ℕ} → Sized w h map → x ≤ w → y ≤ h → OnFloor w h x y
@@ -124,7 +124,7 @@ module _ (f : Floor) (u v : ℕ) where
       cases none = refl
       cases (some w) = held w (eqb w v) (sees f (segment (f .wide) u w)) refl refl
 
-  module _ (r : Rows) where
+  module _ (r : Directions) where
     abbrev graph : Graph
     graph = floorGraph f r
 

@@ -1,7 +1,7 @@
 -- The log read record by record: what holds at each turn, and what the reading is at its end.
 --
 --   Reached ..        == the loop's invariant: the progress s and the cursor c are those of the records read so far
---   starts            == it holds at the start of the log
+--   starts            == `Reached` at the start of the log
 --   takes, goes-on    == a stop may be taken, and after it the invariant holds again
 --   falls             == less of the log is left then
 --   ends, breaks      == at the end, and at a bad record, the reading is that of the whole log
@@ -13,7 +13,7 @@ use native.Mathlib.Omega.{arith}
 use lib.ListN.{length}
 use Rattle.floor.specs.Floor.{floorOf, vertices}
 use Rattle.floor.proofs.Numbers.{vertices-pos}
-use Rattle.moves.specs.declared.Rows.{Rows}
+use Rattle.moves.specs.declared.Directions.{Directions}
 use Rattle.moves.proofs.Table.{listed-lawful}
 use Rattle.paths.specs.Graph.{Graph}
 use Rattle.grid.specs.Grid.{floorGraph}
@@ -28,27 +28,28 @@ use Rattle.replay.specs.Known.{Drivable, afterStop, afterStops, startPro
 use Rattle.replay.specs.declared.Progress.{Progress}
 use Rattle.replay.proofs.Taken.{after-bounded}
 
-pub record Reached (w h : ℕ) (map : List ℕ) (rows : Rows) (log : List ℕ) (s : Progress) (c : LogCursor) : Type 0 where
+pub record Reached (w h : ℕ) (map : List ℕ) (dirs : Directions) (log : List ℕ) (s : Progress)
+    (c : LogCursor) : Type 0 where
   -- the stops that are left, taken from here, lead where all of them lead from the start
   pub rest : let f = floorOf w h map in
-      afterStops (floorGraph f rows) (pinchAt f) s (logFrom log (vertices w h) c .stops)
-      ≡ afterStops (floorGraph f rows) (pinchAt f) startProgress (logOf log (vertices w h) .stops)
+      afterStops (floorGraph f dirs) (pinchAt f) s (logFrom log (vertices w h) c .stops)
+      ≡ afterStops (floorGraph f dirs) (pinchAt f) startProgress (logOf log (vertices w h) .stops)
   pub broken : logFrom log (vertices w h) c .broken ≡ logOf log (vertices w h) .broken
   pub bounded : Bounded (vertices w h) s
   pub place : c .at ≡ 4 * s .read
   pub inside : c .at ≤ length log
 
-module _ (w h : ℕ) (map : List ℕ) (rows : Rows) (log : List ℕ) where
+module _ (w h : ℕ) (map : List ℕ) (dirs : Directions) (log : List ℕ) where
   abbrev size : ℕ
   size = vertices w h
 
   abbrev g : Graph
-  g = floorGraph (floorOf w h map) rows
+  g = floorGraph (floorOf w h map) dirs
 
   abbrev p : ℕ → Bool
   p = pinchAt (floorOf w h map)
 
-  pub starts : (c : LogCursor) → c ≡ cursorAt 0 → Reached w h map rows log startProgress c
+  pub starts : (c : LogCursor) → c ≡ cursorAt 0 → Reached w h map dirs log startProgress c
   starts c e = rw e (record {
     rest = refl;
     broken = refl;
@@ -57,7 +58,7 @@ module _ (w h : ℕ) (map : List ℕ) (rows : Rows) (log : List ℕ) where
     inside = omega arith;
   })
 
-  module _ {s : Progress} {c : LogCursor} (R : Reached w h map rows log s c) {n : ℕ} (count : n ≡ size) {r : LogStep}
+  module _ {s : Progress} {c : LogCursor} (R : Reached w h map dirs log s c) {n : ℕ} (count : n ≡ size) {r : LogStep}
       (told : r ≡ stopAt log n c) where
     found : (t : LogStep) → r ≡ t → stopAt log size c ≡ t
     found t e = ap (λ k. stopAt log k c) (sym count) ∙ sym told ∙ e
@@ -69,17 +70,17 @@ module _ (w h : ℕ) (map : List ℕ) (rows : Rows) (log : List ℕ) where
       stopped : Stopped log size c v d
       stopped = stop-found log size c v d (found (Stop v d) stop)
 
-      pub takes : Drivable w h map rows → length log ≤ 16384 → Taking w h map rows s v
+      pub takes : Drivable w h map dirs → length log ≤ 16384 → Taking w h map dirs s v
       takes D l =
           let t = stopped in
           record { good = D; inside = t .inside; bounded = R .bounded; few = omega (arith, R .place, t .whole) }
 
-      pub goes-on : Drivable w h map rows → (s′ : Progress) → s′ ≡ afterStop g p s v → Reached w h map rows log s′ d
+      pub goes-on : Drivable w h map dirs → (s′ : Progress) → s′ ≡ afterStop g p s v → Reached w h map dirs log s′ d
       unfolding afterStops afterStop
       goes-on D s′ e =
           let t = stopped in
           let q : logFrom log size c ≡ withStop v (logFrom log size d) = log-is (Stop v d) stop in
-          let lawful = floor-lawful (floorOf w h map) rows (listed-lawful (D .listed)) in
+          let lawful = floor-lawful (floorOf w h map) dirs (listed-lawful (D .listed)) in
           rw e (record {
             rest = sym (ap (λ l. afterStops g p s (l .stops)) q) ∙ R .rest;
             broken = sym (ap (λ l. l .broken) q) ∙ R .broken;
@@ -93,7 +94,7 @@ module _ (w h : ℕ) (map : List ℕ) (rows : Rows) (log : List ℕ) where
 
     module _ (short : length log ≤ 16384) (b : Bool) where
       closes : (t : LogStep) → r ≡ t → andRest t (logFrom log size) ≡ closed b
-          → LogRead w h map rows log (record { drive = s; broken = b })
+          → LogRead w h map dirs log (record { drive = s; broken = b })
       unfolding afterStops
       closes t e z =
           let q : logFrom log size c ≡ closed b = log-is t e ∙ z in
@@ -104,8 +105,8 @@ module _ (w h : ℕ) (map : List ℕ) (rows : Rows) (log : List ℕ) where
             few = omega (arith, R .place, R .inside);
           }
 
-    pub ends : length log ≤ 16384 → r ≡ End → LogRead w h map rows log (record { drive = s; broken = false })
+    pub ends : length log ≤ 16384 → r ≡ End → LogRead w h map dirs log (record { drive = s; broken = false })
     ends l e = closes l false End e refl
 
-    pub breaks : length log ≤ 16384 → r ≡ Bad → LogRead w h map rows log (record { drive = s; broken = true })
+    pub breaks : length log ≤ 16384 → r ≡ Bad → LogRead w h map dirs log (record { drive = s; broken = true })
     breaks l e = closes l true Bad e refl

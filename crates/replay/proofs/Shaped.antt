@@ -1,9 +1,9 @@
 -- The shape of a replay as the code tests it, and from the reading of a log to the answer.
 --
 --   log-long, -costs, -work, -fits       == refusals 16 and 6 by the lengths
---   unfit-floor, -neighbourhood, -log, fit-log == the shape by the tests in order
+--   refused-floor, -neighbourhood, -log, fit-log == the shape by the tests in order
 --   job-replayable                       == what a fit job has
---   replays-unfit, replays-fit           == the operation's answer by the shape
+--   replays-refused, replays-fit         == the operation's answer by the shape
 --   faultless-is                         == the code's test of the reading is that of the log
 --   faulty-judged, start-good, faultless-judged == the cost slice and whether the log is cheapest
 --   answered                             == the answer of the reading is that of the log
@@ -27,17 +27,17 @@ use Rattle.floor.specs.declared.Refusal.the-variants.{Neighbourhood as BadNeigh
 use Rattle.floor.specs.declared.Shape.{Shape}
 use Rattle.floor.specs.declared.Shape.the-variants.{Good, Refused as BadShape}
 use Rattle.floor.proofs.Shapes.{good-floor, good-first, good-second, good-pick}
-use Rattle.moves.specs.declared.Rows.{Rows}
+use Rattle.moves.specs.declared.Directions.{Directions}
 use Rattle.moves.specs.declared.Neighbourhood.{Neighbourhood}
-use Rattle.moves.specs.declared.Neighbourhood.the-variants.{Known, Unknown}
+use Rattle.moves.specs.declared.Neighbourhood.the-variants.{Known, Refused as NotKnown}
 use Rattle.moves.specs.Moves.{neighbourhoodOf}
 use Rattle.paths.specs.Graph.{Graph}
 use Rattle.paths.specs.Distance.{distance}
-use Rattle.grid.specs.Grid.{floorGraph, orUnfit, withRows}
+use Rattle.grid.specs.Grid.{floorGraph, orRefused, withDirs}
 use Rattle.grid.specs.Known.{GoodJob}
-use Rattle.grid.specs.declared.Job.{Job}
-use Rattle.grid.specs.declared.Job.the-variants.{Fit, Unfit}
-use Rattle.grid.proofs.Jobs.{unfit-fit}
+use Rattle.grid.specs.declared.JobShape.{JobShape}
+use Rattle.grid.specs.declared.JobShape.the-variants.{Fit, Refused as BadJob}
+use Rattle.grid.proofs.Jobs.{refused-fit}
 use Rattle.distances.specs.Costs.{FilledCosts}
 use Rattle.logs.specs.Log.{Log, logOf}
 use Rattle.replay.specs.Replay.{
@@ -58,7 +58,7 @@ use Rattle.replay.specs.Replay.{
   ReplaySlices,
   replaySlicesOf,
   logShape,
-  replayJob,
+  replayShape,
   pinchAt,
   replayAnswer,
   replayLeft,
@@ -122,29 +122,30 @@ module _ (v n c k : ℕ) where
 -- ---- the shape
 
 module _ (w h : ℕ) (map : List ℕ) (nb n c k : ℕ) where
-  pub unfit-floor : (s : Refusal) → floorShape w h map ≡ BadShape s → Unfit s ≡ replayJob w h map nb n c k
-  unfolding replayJob
-  unfit-floor s e = rw e
+  pub refused-floor : (s : Refusal) → floorShape w h map ≡ BadShape s → BadJob s ≡ replayShape w h map nb n c k
+  unfolding replayShape
+  refused-floor s e = rw e
 
   module _ (f : floorShape w h map ≡ Good) where
-    pub unfit-neighbourhood : neighbourhoodOf nb ≡ Unknown → Unfit BadNeighbourhood ≡ replayJob w h map nb n c k
-    unfolding replayJob
-    unfit-neighbourhood e = rw (f, e)
+    pub refused-neighbourhood : neighbourhoodOf nb ≡ NotKnown → BadJob BadNeighbourhood ≡ replayShape w h map nb n c k
+    unfolding replayShape
+    refused-neighbourhood e = rw (f, e)
 
-    module _ (rows : Rows) (known : neighbourhoodOf nb ≡ Known rows) where
-      pub unfit-log : (s : Refusal) → logShape (vertices w h) n c k ≡ BadShape s → Unfit s ≡ replayJob w h map nb n c k
-      unfolding replayJob
-      unfit-log s e = rw (f, known, e)
+    module _ (dirs : Directions) (known : neighbourhoodOf nb ≡ Known dirs) where
+      pub refused-log : (s : Refusal) → logShape (vertices w h) n c k ≡ BadShape s
+          → BadJob s ≡ replayShape w h map nb n c k
+      unfolding replayShape
+      refused-log s e = rw (f, known, e)
 
-      pub fit-log : logShape (vertices w h) n c k ≡ Good → Fit rows ≡ replayJob w h map nb n c k
-      unfolding replayJob
+      pub fit-log : logShape (vertices w h) n c k ≡ Good → Fit dirs ≡ replayShape w h map nb n c k
+      unfolding replayShape
       fit-log e = rw (f, known, e)
 
-pub job-replayable : (w h : ℕ) (map : List ℕ) (nb : ℕ) (log costs work : List ℕ) (rows : Rows)
-    → replayJob w h map nb (length log) (length costs) (length work) ≡ Fit rows
-    → Replayable w h map rows log costs work
-unfolding replayJob
-job-replayable w h map nb log costs work rows e =
+pub job-replayable : (w h : ℕ) (map : List ℕ) (nb : ℕ) (log costs work : List ℕ) (dirs : Directions)
+    → replayShape w h map nb (length log) (length costs) (length work) ≡ Fit dirs
+    → Replayable w h map dirs log costs work
+unfolding replayShape
+job-replayable w h map nb log costs work dirs e =
     cases (floorShape w h map) (neighbourhoodOf nb) lengths refl refl refl e
   where
     lengths : Shape
@@ -152,13 +153,13 @@ job-replayable w h map nb log costs work rows e =
 
     cases : (f : Shape) (n : Neighbourhood) (s : Shape) → floorShape w h map ≡ f → neighbourhoodOf nb ≡ n
         → logShape (vertices w h) (length log) (length costs) (length work) ≡ s
-        → orUnfit f (withRows n s) ≡ Fit rows → Replayable w h map rows log costs work
-    cases (BadShape z) n s p q i x = unfit-fit x
-    cases Good Unknown s p q i x = unfit-fit x
-    cases Good (Known k) (BadShape z) p q i x = unfit-fit x
+        → orRefused f (withDirs n s) ≡ Fit dirs → Replayable w h map dirs log costs work
+    cases (BadShape z) n s p q i x = refused-fit x
+    cases Good NotKnown s p q i x = refused-fit x
+    cases Good (Known k) (BadShape z) p q i x = refused-fit x
     cases Good (Known k) Good p q i x =
         let t = log-fitting (vertices w h) (length log) (length costs) (length work) i in
-        let same : neighbourhoodOf nb ≡ Known rows = cc in
+        let same : neighbourhoodOf nb ≡ Known dirs = cc in
         record {
           good = record { sized = good-floor w h map p .sized; listed = record { number = nb; known = same } };
           short = t .short;
@@ -166,15 +167,16 @@ job-replayable w h map nb log costs work rows e =
           work-len = t .work;
         }
 
-module _ {w h : ℕ} {map : List ℕ} {nb : ℕ} {log : List ℕ} {s : ReplaySlices} {j : Job}
-    (told : j ≡ replayJob w h map nb (length log) (length (s .costs)) (length (s .work))) where
-  pub replays-unfit : {z : Refusal} {s′ : ReplaySlices} → j ≡ Unfit z → s′ ≡ s → Replays w h map nb log s (Refused z) s′
+module _ {w h : ℕ} {map : List ℕ} {nb : ℕ} {log : List ℕ} {s : ReplaySlices} {j : JobShape}
+    (told : j ≡ replayShape w h map nb (length log) (length (s .costs)) (length (s .work))) where
+  pub replays-refused : {z : Refusal} {s′ : ReplaySlices} → j ≡ BadJob z → s′ ≡ s
+      → Replays w h map nb log s (Refused z) s′
   unfolding replayAnswer replayLeft
-  replays-unfit t q = let e = sym told ∙ t in record { answer = rw e; left = rw e q }
+  replays-refused t q = let e = sym told ∙ t in record { answer = rw e; left = rw e q }
 
-  pub replays-fit : {rows : Rows} {r : Replayed} {costs work : List ℕ} → j ≡ Fit rows
+  pub replays-fit : {dirs : Directions} {r : Replayed} {costs work : List ℕ} → j ≡ Fit dirs
       → let f = floorOf w h map in
-      ReplaysLog (floorGraph f rows) (pinchAt f) (logOf log (vertices w h)) r costs work
+      ReplaysLog (floorGraph f dirs) (pinchAt f) (logOf log (vertices w h)) r costs work
       → Replays w h map nb log s r (replaySlicesOf costs work)
   unfolding replayAnswer replayLeft
   replays-fit t P =
@@ -197,9 +199,10 @@ first-free g p (v ∷ l) n t = cases (p v) t
     cases true t = let z : _≡_ {A = ℕ} 0 1 = cc in absurd (omega arith)
     cases false t = refl
 
-module _ {w h : ℕ} {map : List ℕ} {rows : Rows} {log : List ℕ} {r : Reading} (R : LogRead w h map rows log r) where
+module _ {w h : ℕ} {map : List ℕ} {dirs : Directions} {log : List ℕ} {r : Reading}
+    (R : LogRead w h map dirs log r) where
   abbrev g : Graph
-  g = floorGraph (floorOf w h map) rows
+  g = floorGraph (floorOf w h map) dirs
 
   abbrev p : ℕ → Bool
   p = pinchAt (floorOf w h map)
@@ -227,7 +230,7 @@ module _ {w h : ℕ} {map : List ℕ} {rows : Rows} {log : List ℕ} {r : Readin
   faultless-is = rw (read-is, R .broken, followed-is)
 
   pub faulty-judged : (costs work : List ℕ) {b : Bool} {costs′ work′ : List ℕ} → b ≡ faultlessIn r → not b ≡ true
-      → Replayable w h map rows log costs work → costs′ ≡ zeros (length costs) → work′ ≡ zeros (length work)
+      → Replayable w h map dirs log costs work → costs′ ≡ zeros (length costs) → work′ ≡ zeros (length work)
       → Judged g p l false costs′ work′
   unfolding cheapest logCosts
   faulty-judged costs work {b} e t L c k =
@@ -248,7 +251,7 @@ module _ {w h : ℕ} {map : List ℕ} {rows : Rows} {log : List ℕ} {r : Readin
         ∙ first-free g p (l .stops) (leb-true 1 (length (l .stops)) (and-left some-read (sound && on) is-faultless))
         (and-right sound on (and-right some-read (sound && on) is-faultless))
 
-    pub start-good : Drivable w h map rows → GoodJob w h map rows (r .drive .first) (r .drive .first)
+    pub start-good : Drivable w h map dirs → GoodJob w h map dirs (r .drive .first) (r .drive .first)
     unfolding pinchAt
     start-good D = record {
       sized = D .sized;

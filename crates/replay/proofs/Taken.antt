@@ -4,8 +4,8 @@
 --   after-read, -first, -last == the number of records, and the vertices of the first and the last
 --   after-driven              == the cost, and the first record that cannot follow
 --   follow-high               == a record follows at a cost of at most 4,095
---   after-bounded             == so the cost is at most 4,095 for each record
---   driven-bounded            == the same of a log
+--   after-bounded             == `Bounded` after one record more: the cost is at most 4,095 for each record
+--   driven-bounded            == the cost driven by a log is at most 4,095 for each record
 use Prim.Native.Nat.{ℕ, suc, _+_, _*_, _≤_, _<_}
 use mathlib.Core.Path.{_≡_, refl, sym, ap, _∙_}
 use mathlib.Core.Logic.{⊎-elim}

@@ -3,8 +3,8 @@
 --
 --   drive-walk        == what is driven with no fault, past what was driven before, is the cost of a walk
 --   faultless-walk    == a faultless log is a walk of its cost from its first stop to its last
---   faultless-least   == so it costs at least the least between them, where it has at most 4,096 records
---   log-least         == so it is of every log that is not refused with 16
+--   faultless-least   == a faultless log of at most 4,096 records costs at least the least between its ends
+--   log-least         == a faultless log that is not refused with 16 costs at least the least between its ends
 --   cheapest-exact    == a faultless log is cheapest exactly when it costs just that
 --   cheapest-alone    == only a faultless log is cheapest
 --   empty-log         == an empty log costs 0 and is not cheapest

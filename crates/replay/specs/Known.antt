@@ -2,11 +2,11 @@
 -- What the code knows at its steps.
 --
 --   legOf o                  == the cost o at which a record follows, as the code answers it
---   Drivable w h map rows    == the floor and the rows of the neighbourhood are good
+--   Drivable w h map dirs    == the floor and the directions of the neighbourhood are good
 --   progressOf ..            == a progress by its fields
 --   before s                 == the vertex of the record before, none where none was read
 --   afterStop g p s v        == the progress s after a record of vertex v more
---   afterStops g p s l       == the same after all the stops l
+--   afterStops g p s l       == the progress s after records of the stops l in turn
 --   startProgress            == nothing read
 --   Bounded v s              == the numbers of s are small, on a floor of v vertices
 --   Taking ..                == what is asked of one more record
@@ -27,7 +27,7 @@ use Rattle.basics.specs.Bounded.{pick}
 use Rattle.basics.specs.Lists.{zeros}
 use Rattle.floor.specs.Floor.{floorOf, vertices}
 use Rattle.floor.specs.Known.{Sized}
-use Rattle.moves.specs.declared.Rows.{Rows}
+use Rattle.moves.specs.declared.Directions.{Directions}
 use Rattle.moves.specs.Table.{Listed}
 use Rattle.paths.specs.Graph.{Graph}
 use Rattle.grid.specs.Grid.{floorGraph}
@@ -47,9 +47,9 @@ unfoldable pub legOf : Option ℕ → Leg
 legOf none = Shut
 legOf (some x) = At x
 
-pub record Drivable (w h : ℕ) (map : List ℕ) (rows : Rows) : Type 0 where
+pub record Drivable (w h : ℕ) (map : List ℕ) (dirs : Directions) : Type 0 where
   pub sized : Sized w h map
-  pub listed : Listed rows
+  pub listed : Listed dirs
 
 -- ---- one record more
 
@@ -89,17 +89,17 @@ pub record Bounded (v : ℕ) (s : Progress) : Type 0 where
   pub last : s .last < v
   pub cost : s .cost ≤ 4095 * s .read
 
-pub record Taking (w h : ℕ) (map : List ℕ) (rows : Rows) (s : Progress) (v : ℕ) : Type 0 where
-  pub good : Drivable w h map rows
+pub record Taking (w h : ℕ) (map : List ℕ) (dirs : Directions) (s : Progress) (v : ℕ) : Type 0 where
+  pub good : Drivable w h map dirs
   pub inside : v < vertices w h
   pub bounded : Bounded (vertices w h) s
   pub few : s .read < 4096
 
 -- ---- the whole log
 
-pub record LogRead (w h : ℕ) (map : List ℕ) (rows : Rows) (log : List ℕ) (r : Reading) : Type 0 where
+pub record LogRead (w h : ℕ) (map : List ℕ) (dirs : Directions) (log : List ℕ) (r : Reading) : Type 0 where
   pub drive : r .drive
-      ≡ afterStops (floorGraph (floorOf w h map) rows) (pinchAt (floorOf w h map)) startProgress
+      ≡ afterStops (floorGraph (floorOf w h map) dirs) (pinchAt (floorOf w h map)) startProgress
       (logOf log (vertices w h) .stops)
   pub broken : r .broken ≡ logOf log (vertices w h) .broken
   pub bounded : Bounded (vertices w h) (r .drive)
@@ -114,8 +114,8 @@ driveIn r b = record { read = r .drive .read; cost = r .drive .cost; followed = 
 unfoldable pub answerIn : Reading → Bool → Replayed
 answerIn r b = pick (r .broken) (Broken (r .drive .read + 1) (driveIn r b)) (Whole (driveIn r b))
 
-pub record Replayable (w h : ℕ) (map : List ℕ) (rows : Rows) (log costs work : List ℕ) : Type 0 where
-  pub good : Drivable w h map rows
+pub record Replayable (w h : ℕ) (map : List ℕ) (dirs : Directions) (log costs work : List ℕ) : Type 0 where
+  pub good : Drivable w h map dirs
   pub short : length log ≤ 16384
   pub costs-len : length costs ≡ vertices w h
   pub work-len : length work ≡ 4 * vertices w h

@@ -1,5 +1,5 @@
--- Request 9, "Replay of a night log": what is driven by a log, what the operation answers, and what it leaves in the
--- two lent slices. A log is the list of its stops in turn and whether a bad record ended the reading (logs/specs/Log.antt).
+-- docs/RULES.md, 12.3 to 12.10: what is driven by a log, what the operation answers, and what it leaves in the two lent
+-- slices. A log is the list of its stops in turn and whether a bad record ended the reading (logs/specs/Log.antt).
 --
 --   goesTo o v            == the far end o is v
 --   moveCost g u v        == the cost of the open move from u to v; none where there is none
@@ -17,11 +17,11 @@
 --   ReplaySlices          == the two lent slices: the costs and the working slice
 --   logShape v n c k      == refusals 16 and then 6 on a floor of v vertices, for a log of n bytes and slices of c and
 --                            k places
---   replayJob, jobFor     == the rows of the neighbourhood, or the first refusal of 1, 2, 3, 4, 16 and 6
+--   replayShape, shapeFor == the directions of the neighbourhood, or the first refusal of 1, 2, 3, 4, 16 and 6
 --   pinchAt f v           == the vertex with number v is a pinch of the floor f
 --   replayAnswer ..       == the answer, for every input
 --   replayLeft ..         == the two slices afterwards, for every input: untouched at a refusal but 17
---   Replays ..            == both, as the operation promises them
+--   Replays ..            == the operation's promise: `replayAnswer` and `replayLeft`, for every input
 --   replayNumber, replayRead, replayCost, replayUnfollowed, replayBad, replayCheapest == the number and the values of
 --                            an answer; a record's number is 0 where there is no such record
 use Prim.Native.Nat.{ℕ, _+_, _*_}
@@ -42,9 +42,9 @@ use Rattle.sight.specs.Sight.{pinch}
 use Rattle.moves.specs.Moves.{neighbourhoodOf}
 use Rattle.paths.specs.Graph.{Graph}
 use Rattle.paths.specs.Distance.{distance}
-use Rattle.grid.specs.Grid.{floorGraph, orUnfit, withRows}
-use Rattle.grid.specs.declared.Job.{Job}
-use Rattle.grid.specs.declared.Job.the-variants.{Fit, Unfit}
+use Rattle.grid.specs.Grid.{floorGraph, orRefused, withDirs}
+use Rattle.grid.specs.declared.JobShape.{JobShape}
+use Rattle.grid.specs.declared.JobShape.the-variants.{Fit, Refused as BadJob}
 use Rattle.logs.specs.Log.{Log, logOf}
 use Rattle.replay.specs.declared.Followed.{Followed}
 use Rattle.replay.specs.declared.Followed.the-variants.{Throughout, Not}
@@ -144,32 +144,32 @@ logShape v log costs work =
     andThen (pick (leb log 16384) Good (BadShape LogLength))
     (pick (eqb costs v && eqb work (4 * v)) Good (BadShape SliceLength))
 
-unfoldable pub replayJob : ℕ → ℕ → List ℕ → ℕ → ℕ → ℕ → ℕ → Job
-replayJob w h map nb log costs work =
-    orUnfit (floorShape w h map) (withRows (neighbourhoodOf nb) (logShape (vertices w h) log costs work))
+unfoldable pub replayShape : ℕ → ℕ → List ℕ → ℕ → ℕ → ℕ → ℕ → JobShape
+replayShape w h map nb log costs work =
+    orRefused (floorShape w h map) (withDirs (neighbourhoodOf nb) (logShape (vertices w h) log costs work))
 
-abbrev pub jobFor : ℕ → ℕ → List ℕ → ℕ → List ℕ → ReplaySlices → Job
-jobFor w h map nb log s = replayJob w h map nb (length log) (length (s .costs)) (length (s .work))
+abbrev pub shapeFor : ℕ → ℕ → List ℕ → ℕ → List ℕ → ReplaySlices → JobShape
+shapeFor w h map nb log s = replayShape w h map nb (length log) (length (s .costs)) (length (s .work))
 
 unfoldable pub pinchAt : Floor → ℕ → Bool
 pinchAt f v = pinch f (column (f .wide) v) (row (f .wide) v)
 
-abbrev pub jobAnswer : ℕ → ℕ → List ℕ → List ℕ → Job → Replayed
-jobAnswer w h map log (Fit rows) =
-    let f = floorOf w h map in logAnswer (floorGraph f rows) (pinchAt f) (logOf log (vertices w h))
-jobAnswer w h map log (Unfit r) = Refused r
+abbrev pub jobAnswer : ℕ → ℕ → List ℕ → List ℕ → JobShape → Replayed
+jobAnswer w h map log (Fit dirs) =
+    let f = floorOf w h map in logAnswer (floorGraph f dirs) (pinchAt f) (logOf log (vertices w h))
+jobAnswer w h map log (BadJob r) = Refused r
 
-abbrev pub jobLeft : ℕ → ℕ → List ℕ → List ℕ → ReplaySlices → Job → ReplaySlices
-jobLeft w h map log s (Fit rows) =
+abbrev pub jobLeft : ℕ → ℕ → List ℕ → List ℕ → ReplaySlices → JobShape → ReplaySlices
+jobLeft w h map log s (Fit dirs) =
     let f = floorOf w h map in
-    replaySlicesOf (logCosts (floorGraph f rows) (pinchAt f) (logOf log (vertices w h))) (zeros (4 * vertices w h))
-jobLeft w h map log s (Unfit r) = s
+    replaySlicesOf (logCosts (floorGraph f dirs) (pinchAt f) (logOf log (vertices w h))) (zeros (4 * vertices w h))
+jobLeft w h map log s (BadJob r) = s
 
 unfoldable pub replayAnswer : ℕ → ℕ → List ℕ → ℕ → List ℕ → ReplaySlices → Replayed
-replayAnswer w h map nb log s = jobAnswer w h map log (jobFor w h map nb log s)
+replayAnswer w h map nb log s = jobAnswer w h map log (shapeFor w h map nb log s)
 
 unfoldable pub replayLeft : ℕ → ℕ → List ℕ → ℕ → List ℕ → ReplaySlices → ReplaySlices
-replayLeft w h map nb log s = jobLeft w h map log s (jobFor w h map nb log s)
+replayLeft w h map nb log s = jobLeft w h map log s (shapeFor w h map nb log s)
 
 -- The operation's promise: s before, s' after, and the answer r.
 pub record Replays (w h : ℕ) (map : List ℕ) (nb : ℕ) (log : List ℕ) (s : ReplaySlices) (r : Replayed)

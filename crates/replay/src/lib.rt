@@ -10,7 +10,15 @@ ghost use Rattle.moves.specs.Steps.{farEndAt};
 ghost use Rattle.moves.specs.Table.{Short, OnFloor};
 ghost use Rattle.grid.specs.Grid.{floorGraph};
 ghost use Rattle.logs.specs.Log.{logOf};
-ghost use Rattle.replay.specs.Replay.{goesTo, moveCost, followCost, pinchAt, replaySlicesOf, logShape, replayJob};
+ghost use Rattle.replay.specs.Replay.{
+  goesTo,
+  moveCost,
+  followCost,
+  pinchAt,
+  replaySlicesOf,
+  logShape,
+  replayShape,
+};
 ghost use Rattle.replay.specs.Replay.{Replays, replayNumber, replayRead, replayCost, unfollowedNumber};
 ghost use Rattle.replay.specs.Replay.{replayUnfollowed, replayBad, replayCheapest};
 ghost use Rattle.replay.specs.Known.{legOf, Drivable, before, afterStop, Taking, LogRead, faultlessIn};
@@ -18,12 +26,12 @@ ghost use Rattle.replay.specs.Known.{answerIn, Replayable, Judged, Repla
 use floor::Refusal;
 use floor::Shape;
 use floor::Vertex;
-use grid::Job;
+use grid::JobShape;
 use logs::LogCursor;
 use logs::LogStep;
+use moves::Directions;
 use moves::Move;
 use moves::Neighbourhood;
-use moves::Rows;
 use moves::Step;
 
 // Whether every record can follow the one before, or the number of the first that cannot.
@@ -69,7 +77,7 @@ struct Reading {
     broken: bool,
 }
 
-// The papers' number of an answer.
+// The number of an answer (rule 6.1).
 pub fn replay_number(r: Replayed) -> u8
     ensures { λ n. ⌜ n ≡ replayNumber r ⌝ }
 {
@@ -163,19 +171,19 @@ fn leads_to(w: usize, h: usize, x: usize, y: usize, m: Move, v: Vertex) -> bool
 }
 
 // The cost of the open move from u to v. Where the two see each other, that is the move which leads there.
-fn move_cost(w: usize, h: usize, map: &[u8], rows: Rows, u: Vertex, v: Vertex) -> Leg
-    requires { ⌜ Drivable w h (now map) rows × (u .0 < vertices w h) × (v .0 < vertices w h) ⌝ }
-    ensures { λ r. ⌜ r ≡ legOf (moveCost (floorGraph (floorOf w h (now (map .entry))) rows) (u .0) (v .0)) ⌝ }
+fn move_cost(w: usize, h: usize, map: &[u8], dirs: Directions, u: Vertex, v: Vertex) -> Leg
+    requires { ⌜ Drivable w h (now map) dirs × (u .0 < vertices w h) × (v .0 < vertices w h) ⌝ }
+    ensures { λ r. ⌜ r ≡ legOf (moveCost (floorGraph (floorOf w h (now (map .entry))) dirs) (u .0) (v .0)) ⌝ }
 {
     if !sight::in_sight(w, h, map, u, v) {
         return Leg::Shut;
     }
     let x = floor::column_of(w, u);
     let y = floor::row_of(w, h, u);
-    let count = rows.count;
+    let count = dirs.count;
     let mut m: usize = 0;
     while m < count {
-        let step = moves::move_at(rows, m);
+        let step = moves::move_at(dirs, m);
         if leads_to(w, h, x, y, step, v) {
             return Leg::At(step.cost);
         }
@@ -193,9 +201,9 @@ fn on_pinch(w: usize, h: usize, map: &[u8], v: Vertex) -> bool
 }
 
 // The cost at which a record of vertex v follows those read so far.
-fn follow_cost(w: usize, h: usize, map: &[u8], rows: Rows, s: Progress, v: Vertex) -> Leg
-    requires { ⌜ Taking w h (now map) rows s (v .0) ⌝ }
-    ensures { λ r. ⌜ r ≡ legOf (followCost (floorGraph (floorOf w h (now (map .entry))) rows)
+fn follow_cost(w: usize, h: usize, map: &[u8], dirs: Directions, s: Progress, v: Vertex) -> Leg
+    requires { ⌜ Taking w h (now map) dirs s (v .0) ⌝ }
+    ensures { λ r. ⌜ r ≡ legOf (followCost (floorGraph (floorOf w h (now (map .entry))) dirs)
         (pinchAt (floorOf w h (now (map .entry)))) (before s) (v .0)) ⌝ }
 {
     if on_pinch(w, h, map, v) {
@@ -207,7 +215,7 @@ fn follow_cost(w: usize, h: usize, map: &[u8], rows: Rows, s: Progress, v: Verte
     if s.last == v.0 {
         return Leg::At(0);
     }
-    move_cost(w, h, map, rows, Vertex(s.last), v)
+    move_cost(w, h, map, dirs, Vertex(s.last), v)
 }
 
 // The vertex of the first record, once one of vertex v is read.
@@ -221,9 +229,9 @@ fn first_with(s: Progress, v: Vertex) -> usize
 }
 
 // One record more, of vertex v. From the first that cannot follow on, the cost stops growing.
-fn take_stop(w: usize, h: usize, map: &[u8], rows: Rows, s: Progress, v: Vertex) -> Progress
-    requires { ⌜ Taking w h (now map) rows s (v .0) ⌝ }
-    ensures { λ r. ⌜ r ≡ afterStop (floorGraph (floorOf w h (now (map .entry))) rows)
+fn take_stop(w: usize, h: usize, map: &[u8], dirs: Directions, s: Progress, v: Vertex) -> Progress
+    requires { ⌜ Taking w h (now map) dirs s (v .0) ⌝ }
+    ensures { λ r. ⌜ r ≡ afterStop (floorGraph (floorOf w h (now (map .entry))) dirs)
         (pinchAt (floorOf w h (now (map .entry)))) s (v .0) ⌝ }
 {
     let read = s.read + 1;
@@ -240,7 +248,7 @@ fn take_stop(w: usize, h: usize, map: &[u8], rows: Rows, s: Progress, v: Vertex)
             last,
         };
     };
-    match follow_cost(w, h, map, rows, s, v) {
+    match follow_cost(w, h, map, dirs, s, v) {
         Leg::Shut => Progress {
             read,
             cost,
@@ -259,9 +267,9 @@ fn take_stop(w: usize, h: usize, map: &[u8], rows: Rows, s: Progress, v: Vertex)
 }
 
 // Reads the log from its start to its end or to a bad record.
-fn read_log(w: usize, h: usize, map: &[u8], rows: Rows, log: &[u8]) -> Reading
-    requires { ⌜ Drivable w h (now map) rows × (length (now log) ≤ 16384) ⌝ }
-    ensures { λ r. ⌜ LogRead w h (now (map .entry)) rows (now (log .entry)) r ⌝ }
+fn read_log(w: usize, h: usize, map: &[u8], dirs: Directions, log: &[u8]) -> Reading
+    requires { ⌜ Drivable w h (now map) dirs × (length (now log) ≤ 16384) ⌝ }
+    ensures { λ r. ⌜ LogRead w h (now (map .entry)) dirs (now (log .entry)) r ⌝ }
 {
     let count = floor::vertex_count(w, h);
     let mut drive = Progress {
@@ -287,7 +295,7 @@ fn read_log(w: usize, h: usize, map: &[u8], rows: Rows, log: &[u8]) -> Reading
                 };
             }
             LogStep::Stop(v, next) => {
-                drive = take_stop(w, h, map, rows, drive, Vertex(v));
+                drive = take_stop(w, h, map, dirs, drive, Vertex(v));
                 cursor = next;
             }
         }
@@ -318,15 +326,15 @@ fn judge(
     w: usize,
     h: usize,
     map: &[u8],
-    rows: Rows,
+    dirs: Directions,
     log: &[u8],
     r: Reading,
     costs: &mut [u32],
     work: &mut [u32],
 ) -> bool
-    requires { ⌜ Replayable w h (now map) rows (now log) (now costs) (now work) ⌝ }
-    requires { ⌜ LogRead w h (now map) rows (now log) r ⌝ }
-    ensures { λ b. ⌜ Judged (floorGraph (floorOf w h (now (map .entry))) rows)
+    requires { ⌜ Replayable w h (now map) dirs (now log) (now costs) (now work) ⌝ }
+    requires { ⌜ LogRead w h (now map) dirs (now log) r ⌝ }
+    ensures { λ b. ⌜ Judged (floorGraph (floorOf w h (now (map .entry))) dirs)
         (pinchAt (floorOf w h (now (map .entry)))) (logOf (now (log .entry)) (vertices w h)) b (now (costs .exit)) (now (work .exit)) ⌝ }
 {
     if !is_faultless(r) {
@@ -336,7 +344,7 @@ fn judge(
     }
     let d = r.drive;
     let last = d.last;
-    distances::costs_from(w, h, map, rows, Vertex(d.first), costs, work);
+    distances::costs_from(w, h, map, dirs, Vertex(d.first), costs, work);
     costs[last] == d.cost
 }
 
@@ -364,18 +372,18 @@ fn replay_log(
     w: usize,
     h: usize,
     map: &[u8],
-    rows: Rows,
+    dirs: Directions,
     log: &[u8],
     costs: &mut [u32],
     work: &mut [u32],
 ) -> Replayed
-    requires { ⌜ Replayable w h (now map) rows (now log) (now costs) (now work) ⌝ }
-    ensures { λ r. ⌜ ReplaysLog (floorGraph (floorOf w h (now (map .entry))) rows)
+    requires { ⌜ Replayable w h (now map) dirs (now log) (now costs) (now work) ⌝ }
+    ensures { λ r. ⌜ ReplaysLog (floorGraph (floorOf w h (now (map .entry))) dirs)
         (pinchAt (floorOf w h (now (map .entry)))) (logOf (now (log .entry)) (vertices w h)) r
         (now (costs .exit)) (now (work .exit)) ⌝ }
 {
-    let r = read_log(w, h, map, rows, log);
-    let cheapest = judge(w, h, map, rows, log, r, costs, work);
+    let r = read_log(w, h, map, dirs, log);
+    let cheapest = judge(w, h, map, dirs, log, r, costs, work);
     answer_with(r, cheapest)
 }
 
@@ -396,8 +404,9 @@ fn log_shape(v: usize, log: usize, costs: usize, work: usize) -> Shape
     Shape::Good
 }
 
-// The rows of the neighbourhood, or the first refusal of 1, 2, 3, 4, 16 and 6, for a log and slices of these lengths.
-fn replay_job(
+// The directions of the neighbourhood, or the first refusal of 1, 2, 3, 4, 16 and 6, for a log and slices of these
+// lengths.
+fn replay_shape(
     w: usize,
     h: usize,
     map: &[u8],
@@ -405,25 +414,25 @@ fn replay_job(
     log: usize,
     costs: usize,
     work: usize,
-) -> Job
-    ensures { λ r. ⌜ r ≡ replayJob w h (now (map .entry)) nb log costs work ⌝ }
+) -> JobShape
+    ensures { λ r. ⌜ r ≡ replayShape w h (now (map .entry)) nb log costs work ⌝ }
 {
     let map_shape = floor::floor_shape(w, h, map);
     if let Shape::Refused(r) = map_shape {
-        return Job::Unfit(r);
+        return JobShape::Refused(r);
     }
-    let Neighbourhood::Known(rows) = moves::rows_of(nb) else {
-        return Job::Unfit(Refusal::Neighbourhood);
+    let Neighbourhood::Known(dirs) = moves::directions_of(nb) else {
+        return JobShape::Refused(Refusal::Neighbourhood);
     };
     let lengths = log_shape(floor::vertex_count(w, h), log, costs, work);
     if let Shape::Refused(r) = lengths {
-        return Job::Unfit(r);
+        return JobShape::Refused(r);
     }
-    Job::Fit(rows)
+    JobShape::Fit(dirs)
 }
 
-// The replay of a log. For every input it gives the answer and leaves the two lent slices as the papers say: a refusal
-// of 1, 2, 3, 4, 16 and 6 touches nothing.
+// The replay of a log. For every input it gives the answer and leaves the two lent slices as rules 12.9 and 6.4 say: a
+// refusal of 1, 2, 3, 4, 16 and 6 touches nothing.
 //
 // Lent are a slice for the costs, of V places, and a working slice of 4 * V.
 pub fn replay(
@@ -439,9 +448,9 @@ pub fn replay(
         (replaySlicesOf (now (costs .entry)) (now (work .entry))) r
         (replaySlicesOf (now (costs .exit)) (now (work .exit))) ⌝ }
 {
-    let job = replay_job(w, h, map, nb, log.len(), costs.len(), work.len());
-    match job {
-        Job::Unfit(r) => Replayed::Refused(r),
-        Job::Fit(rows) => replay_log(w, h, map, rows, log, costs, work),
+    let shape = replay_shape(w, h, map, nb, log.len(), costs.len(), work.len());
+    match shape {
+        JobShape::Refused(r) => Replayed::Refused(r),
+        JobShape::Fit(dirs) => replay_log(w, h, map, dirs, log, costs, work),
     }
 }

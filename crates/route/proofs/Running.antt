@@ -1,14 +1,14 @@
 -- The loop over the jobs: what holds before it, and after each turn.
 --
 --   cells-lent   == the slice lent for the cells of the map fits them
---   few-bytes    == there are at most 31 * 31 of them, so a map of them has at most 121 bytes
---   map-sides    == its sides are within the bound of a floor
---   few-places   == and it has at most 32 * 32 vertices
+--   few-bytes    == the map of a record has at most 31 * 31 cells, so 121 bytes at most
+--   map-sides    == the sides of a record's map are within the bound of a floor
+--   few-places   == the floor of a record's map has at most 32 * 32 vertices
 --   jobs-small   == the cells that were stored are a small floor
 --   jobs-due     == past the map nothing is written, and the text from there on is due
 --   due-on       == while more is read, what is due stays so
 --   first-step   == what the first step found stands at the start of the input
---   first-sure   == and is sure
+--   first-sure   == what the first step found is sure
 --   first-reached == stepping comes to the first cursor
 --   sent-more, sent-last == what a turn leaves, by its answer
 use Prim.Native.Nat.{ℕ, _*_, _≤_, _<_}
@@ -28,10 +28,10 @@ use Rattle.records.specs.declared.stream.Record.{Record}
 use Rattle.records.specs.declared.stream.Record.the-variants.{Map}
 use Rattle.records.proofs.Moved.{map-step}
 use Rattle.records.proofs.Limit.{reached-first, reached-map}
-use Rattle.jobs.specs.Text.{programText}
-use Rattle.jobs.specs.Contract.{SmallFloor, CellsIn, textFrom}
-use Rattle.jobs.proofs.Cells.{map-small}
-use Rattle.jobs.proofs.Program.{program-map}
+use Rattle.program_text.specs.Text.{programText}
+use Rattle.program_text.specs.Contract.{SmallFloor, CellsIn, textFrom}
+use Rattle.program_text.proofs.Cells.{map-small}
+use Rattle.program_text.proofs.Program.{program-map}
 use Rattle.route.specs.Sent.{Input, Sure, Left, Due, AllSent, Follows, SentTurn}
 use Rattle.route.specs.Reads.{bytesRead, ReadFor}
 use Rattle.route.specs.declared.Reading.{Reading}

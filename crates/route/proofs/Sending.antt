@@ -26,12 +26,12 @@ use Rattle.records.specs.declared.stream.Record.{Record}
 use Rattle.records.specs.declared.stream.Record.the-variants.{Map, Job, End, Bad}
 use Rattle.records.proofs.Moved.{job-step}
 use Rattle.records.proofs.Found.{Finding, found-map, no-map, at-end, found-job, no-job, finding}
-use Rattle.jobs.specs.Text.{programText}
-use Rattle.jobs.specs.Contract.{textFrom, turnText, bytesOf, Moves, TurnTold}
-use Rattle.jobs.specs.declared.Turn.{Turn}
-use Rattle.jobs.specs.declared.Turn.the-variants.{More as MoreTurn, Last as LastTurn}
-use Rattle.jobs.proofs.Start.{written-take, written-size}
-use Rattle.jobs.proofs.Program.{program-bad}
+use Rattle.program_text.specs.Text.{programText}
+use Rattle.program_text.specs.Contract.{textFrom, turnText, bytesOf, Moves, TurnWritten}
+use Rattle.program_text.specs.declared.Turn.{Turn}
+use Rattle.program_text.specs.declared.Turn.the-variants.{More as MoreTurn, Last as LastTurn}
+use Rattle.program_text.proofs.Start.{written-take, written-size}
+use Rattle.program_text.proofs.Program.{program-bad}
 use Rattle.route.specs.Sent.{Input, Sure, Left, Next, turnRoom, Due, AllSent}
 
 -- ---- a text and its parts
@@ -91,7 +91,8 @@ turn-parts (MoreTurn n d) out rest = refl
 turn-parts (LastTurn n) out rest = append-none (take n out)
 
 module _ {p : List ℕ} {over : Bool} {w h : ℕ} {map : List ℕ} {c : Cursor} {k : ℕ} {r : Turn} {out : List ℕ} {n : ℕ}
-    (due : Due p over w h map c k) (sure : Sure p over c) (told : TurnTold p w h map c r out) (e : n ≡ bytesOf r) where
+    (due : Due p over w h map c k) (sure : Sure p over c) (told : TurnWritten p w h map c r out)
+    (e : n ≡ bytesOf r) where
   left-turn : (s : List ℕ) → Input p over s → Left (programText s) k (take n out ++ after r (textFrom s w h map))
   left-turn s i =
       let same : textFrom s w h map c ≡ take n out ++ after r (textFrom s w h map) =

@@ -5,9 +5,9 @@
 --   ReadOn ..      == reading on from q to r, as in ReadFor, while nothing is sure
 --   read-none      == before the first read
 --   read-then      == one read more
---   read-less      == it leaves less to read
+--   read-less      == one read more leaves less to read
 --   read-over, read-settled == where the input is over, or what is read settles it, what stands at the cursor is sure
---   sure-over, sure-settled == the same of the bytes read
+--   sure-over, sure-settled == where the input is over, or the bytes read settle it, what stands at the cursor is sure
 use Prim.Native.Nat.{ℕ, suc, _+_, _-_, _≤_, _<_}
 use mathlib.Core.Path.{_≡_, refl, sym, ap, _∙_, subst}
 use mathlib.Core.Bool.{Bool, true, false, true≢false}

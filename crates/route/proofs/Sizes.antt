@@ -1,7 +1,7 @@
 -- The arrays of the program are large enough for a floor of at most 31 by 31 cells, and the parts lent have the lengths
 -- that are asked.
 --
---   few-vertices  == such a floor has at most 1,024 vertices
+--   few-vertices  == a floor of at most 31 by 31 cells has at most 1,024 vertices
 --   taken         == a part has its length
 --   lent          == the parts are what a turn asks
 use Prim.Native.Nat.{ℕ, _*_, _≤_}
@@ -13,7 +13,7 @@ use lib.ListN.{length, take}
 use lib.Seq.{length-take-le}
 use Rattle.floor.specs.Floor.{vertices}
 use Rattle.planner.specs.Plan.{slicesOf}
-use Rattle.jobs.specs.Contract.{SmallFloor, Ready}
+use Rattle.program_text.specs.Contract.{SmallFloor, Ready}
 
 pub few-vertices : {w h : ℕ} {map : List ℕ} → SmallFloor w h map → vertices w h ≤ 1024
 few-vertices f = mul-le-mul {n₂ = 32} {m₂ = 32} (omega (arith, f .high)) (omega (arith, f .wide))

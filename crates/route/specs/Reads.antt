@@ -1,4 +1,5 @@
 -- Reading the input piece by piece into a buffer, whose first bytes are what is read.
+-- Used by contracts between functions; nobody has to believe it: laws tie it to the definitions.
 --
 --   bytesRead input r      == what the reading r has read, at the start of the buffer
 --   ReadMore i n i' r      == one read past the first n bytes of the buffer, which leaves these as they are: a byte

@@ -19,8 +19,8 @@ use lib.ListN.{length, take, drop}
 use Rattle.records.specs.Format.{recordAt}
 use Rattle.records.specs.Settled.{longest, Reached}
 use Rattle.records.specs.declared.stream.Cursor.{Cursor}
-use Rattle.jobs.specs.Text.{programText}
-use Rattle.jobs.specs.Contract.{textFrom}
+use Rattle.program_text.specs.Text.{programText}
+use Rattle.program_text.specs.Contract.{textFrom}
 use Rattle.route.specs.declared.Sent.{Sent}
 use Rattle.route.specs.declared.Sent.the-variants.{More, Last, Cut}
 

@@ -14,15 +14,15 @@ ghost use Prim.Native.Nat.{_*_, _≤_, _<_};
 ghost use lib.ListN.{length};
 ghost use Rattle.floor.specs.Floor.{mapLength, vertices};
 ghost use Rattle.planner.specs.Plan.{slicesOf};
-ghost use Rattle.jobs.specs.Contract.{SmallFloor, Ready, TurnTold};
+ghost use Rattle.program_text.specs.Contract.{SmallFloor, Ready, TurnWritten};
 ghost use Rattle.records.specs.Settled.{longest, Reached};
 ghost use Rattle.route.specs.Sent.{Sure, Next, Due, turnRoom, SentTurn};
 ghost use Rattle.route.specs.Reads.{ReadMore, ReadFor, MapRead, BadRead, Ended};
-use jobs::Turn;
 use libc::EAGAIN;
 use libc::EINTR;
 use libc::STDIN_FILENO;
 use libc::STDOUT_FILENO;
+use program_text::Turn;
 use records::lines;
 use records::stream::Cursor;
 use records::stream::MapRecord;
@@ -160,10 +160,10 @@ fn send_turn(
     out: &[u8],
 ) -> Sent
     requires { ⌜ Due (now s) over w h (now map) c written × Sure (now s) over c
-        × TurnTold (now s) w h (now map) c t (now out) × (length (now out) ≤ turnRoom) ⌝ }
+        × TurnWritten (now s) w h (now map) c t (now out) × (length (now out) ≤ turnRoom) ⌝ }
     ensures { λ r. ⌜ SentTurn (now (s .entry)) over w h (now (map .entry)) c r ⌝ }
 {
-    let n = jobs::bytes_of(t);
+    let n = program_text::bytes_of(t);
     if !write_next(s, over, written, &out[..n]) {
         return Sent::Cut;
     }
@@ -197,7 +197,7 @@ fn write_turn(
         × (length (now out) ≤ turnRoom) ⌝ }
     ensures { λ r. ⌜ SentTurn (now (s .entry)) over w h (now (map .entry)) c r ⌝ }
 {
-    let t = jobs::take_turn(s, c, w, h, map, d, e, f, back, route, next, work, kept, out);
+    let t = program_text::take_turn(s, c, w, h, map, d, e, f, back, route, next, work, kept, out);
     send_turn(s, over, written, c, w, h, map, t, out)
 }
 
@@ -262,7 +262,7 @@ fn run_jobs(
     ensures { λ r. ⌜ Ended (now (input .exit)) r ⌝ }
 {
     let n = first.count;
-    jobs::copy_cells(&input[..n], m, map);
+    program_text::copy_cells(&input[..n], m, map);
     let w = m.wide;
     let h = m.high;
     let mut r = first;
@@ -283,8 +283,8 @@ fn run_jobs(
     }
 }
 
-// Lends the arrays for the cells and for the costs. The first is the paper's, of 31 * 31 bytes; the packed map takes
-// its first 121 at most.
+// Lends the arrays for the cells and for the costs. The first is of 31 * 31 bytes; the packed map takes its first 121
+// at most.
 fn lend_map(input: &mut [u8], first: Reading, m: MapRecord, past: Cursor) -> Ending
     requires { ⌜ MapRead (now input) first m past ⌝ }
     ensures { λ r. ⌜ Ended (now (input .exit)) r ⌝ }

@@ -3,9 +3,10 @@
 --   divides-..     == sums and multiples of what a number divides
 --   Euclid a b n m == what holds in the loop that finds the greatest number that divides a and b: what divides n and m
 --                     divides both, and what divides r times both divides r times n and r times m
---   euclid-..      == that loop: at its start, one turn, and at its end
---   common-one, one-common == of a number and 1 it is 1
---   common-some, common-le == it is not 0 where one of the two is not, and at most their sum
+--   euclid-..      == `Euclid` at the start of the loop, after one turn, and at its end
+--   common-one, one-common == the greatest number that divides a number and 1 is 1
+--   common-some, common-le == the greatest number that divides two is not 0 where one of the two is not, and at most
+--                     their sum
 --   parts-le       == k of n equal parts of a number
 use Prim.Native.Nat.{ℕ, _+_, _-_, _*_, _/_, _%_, _≤_, _<_}
 use mathlib.Core.Path.{_≡_, refl, sym, ap, _∙_}

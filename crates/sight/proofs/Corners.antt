@@ -4,7 +4,8 @@
 --   axisBlocked n b p    == of one coordinate that goes n lines, with b the higher of its two ends, and p the blocked
 --                           cells: both cells beside b are blocked, where n is 0; the one before b is, where n is 1;
 --                           one of the two before b is, where n is 2
---   narrow-unblocked     == such a segment by its two coordinates
+--   narrow-unblocked     == whether cells and steps are in the way of a segment of one column or one row, and at most
+--                           two of the other, by its two coordinates
 use Prim.Native.Nat.{ℕ, zero, suc, _-_, _≤_, max}
 use mathlib.Core.Path.{_≡_, refl}
 use mathlib.Core.Bool.{Bool, _&&_, _||_, not}

@@ -1,9 +1,10 @@
 -- The cross product multiplied out: it is the difference of two sums of products of natural numbers.
 --
---   less, more   == those two sums: the products that are taken away, and those that are added
+--   less, more   == the two sums of the cross product multiplied out: of the products that are taken away, and of those
+--                   that are added
 --   Minus z a b  == the whole number z is a - b
 --   minus-..     == the difference of two numbers, a sum, a product, and the same difference of other numbers
---   cross-minus  == the law; positive-is, negative-is the two tests by it
+--   cross-minus  == `Minus (cross s p q)` of the two sums; positive-is, negative-is the tests of its sign by them
 use Prim.Native.Nat.{ℕ, zero, suc, _+_, _-_, _*_}
 use mathlib.Core.Path.{_≡_, refl, sym}
 use mathlib.Core.Bool.{Bool, true, false, cond}

@@ -3,11 +3,12 @@
 -- first end lies on one side where dy * p < dx * q and on the other where dx * q < dy * p; of a cell's four corners the
 -- extreme ones are (c, r + 1) and (c + 1, r).
 --
---   low, high           == those two sides of a corner
+--   low, high           == a corner p columns and q rows from the first end lies on the one side, dy * p < dx * q, or
+--                          on the other, dx * q < dy * p
 --   Sides s P Q a b     == of the corner (P, Q), a says whether it is positive and b whether it is negative
 --   Up a b d k z        == b is d above a, and z is k above a; Down the same below
 --   crossed s i j       == the corners of cell (i, j) lie on both sides of s
---   enters-on           == the law
+--   enters-on           == `enters` of cell (c, r), counted from the first end, is `touches dx dy c r`
 --   entered-..          == a cell that is entered lies between the ends
 use Prim.Native.Nat.{ℕ, suc, _+_, _*_, _≤_, _<_}
 use mathlib.Core.Path.{_≡_, refl, sym, ap, ap₂, _∙_}

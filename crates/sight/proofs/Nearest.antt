@@ -1,5 +1,5 @@
--- Of the pinches passed the nearest (request 5): it is Clear exactly when none is passed, and the vertices passed lie
--- at equal distances, so that it is found by a look at these alone.
+-- Of the pinches passed the nearest (rule 2.8): it is Clear exactly when none is passed, and the vertices passed lie at
+-- equal distances, so that it is found by a look at these alone.
 --
 --   nearest-clear  == no pinch is named exactly when none is passed
 --   common-nearest == the nearest pinch, as the code looks for it: of n + 1 vertices, the ends among them, where n is

@@ -1,4 +1,4 @@
--- Sight with the pinches counted (request 5).
+-- Sight with the pinches counted (rules 2.4 to 2.7).
 --
 --   edge-no-pinch   == no vertex of the floor's edge is a pinch; edge-left, -above, -right, -below for each side
 --   first-differ, last-differ, pairs-differ == the test of the four cells, as the code compares them

@@ -1,9 +1,9 @@
 -- The sight question: the refusals in their order, what a good question has, and the answer in each case.
 --
 --   Asked w h l a b         == what a question that is not refused has
---   question w h l a b      == its refusals
+--   question w h l a b      == the refusals of the sight question
 --   answer-..               == `sightAnswer` in each case
---   number-..               == its number in each case: the ends see each other, or not
+--   number-..               == `sightNumber` in each case: the ends see each other, or not
 use Prim.Native.Nat.{ℕ, _<_}
 use mathlib.Core.Path.{_≡_, sym, ap, _∙_}
 use mathlib.Core.List.{List}
@@ -13,13 +13,13 @@ use Rattle.floor.specs.Known.{Sized}
 use Rattle.floor.specs.Refusals.{refusalNumber, floorShape, endShape, andThen}
 use Rattle.floor.specs.declared.Refusal.{Refusal}
 use Rattle.floor.specs.declared.Shape.{Shape}
-use Rattle.floor.specs.declared.Shape.the-variants.{Good, Refused}
+use Rattle.floor.specs.declared.Shape.the-variants.{Good, Refused as BadShape}
 use Rattle.floor.proofs.Shapes.{good-first, good-second, good-floor, good-end}
 use Rattle.sight.specs.Sight.{segment, sees}
 use Rattle.sight.specs.Obstacle.{obstacle}
 use Rattle.sight.specs.Question.{orRefused, sightAnswer, sightNumber}
 use Rattle.sight.specs.declared.Sight.{Sight}
-use Rattle.sight.specs.declared.Sight.the-variants.{Answered, Unasked}
+use Rattle.sight.specs.declared.Sight.the-variants.{Answered, Refused}
 use Rattle.sight.proofs.Passed.{obstacle-sees-segment}
 
 pub record Asked (w h : ℕ) (l : List ℕ) (a b : ℕ) : Type 0 where
@@ -44,7 +44,7 @@ module _ (w h : ℕ) (l : List ℕ) (a b : ℕ) where
         last = good-end w h b (good-second (endShape w h a) (endShape w h b) ends);
       }
 
-  pub answer-refused : {r : Refusal} → question ≡ Refused r → Unasked r ≡ sightAnswer w h l a b
+  pub answer-refused : {r : Refusal} → question ≡ BadShape r → Refused r ≡ sightAnswer w h l a b
   unfolding sightAnswer
   answer-refused e = sym (ap (λ s. orRefused s answer) e)
 
@@ -53,7 +53,7 @@ module _ (w h : ℕ) (l : List ℕ) (a b : ℕ) where
   answer-good e = sym (ap (λ s. orRefused s answer) e)
 
   -- The firmware's yes or no: the refusal's number, or 0 exactly where the ends see each other, else 100.
-  pub number-refused : {r : Refusal} → question ≡ Refused r → sightNumber (sightAnswer w h l a b) ≡ refusalNumber r
+  pub number-refused : {r : Refusal} → question ≡ BadShape r → sightNumber (sightAnswer w h l a b) ≡ refusalNumber r
   number-refused e = ap sightNumber (sym (answer-refused e))
 
   pub number-sees : question ≡ Good

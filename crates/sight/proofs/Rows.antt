@@ -1,8 +1,8 @@
--- Request 3: in each row of a slanted segment a first and a last column bound exactly the cells entered there, and the
+-- Rule 2.11: in each row of a slanted segment a first and a last column bound exactly the cells entered there, and the
 -- columns between which the scan looks, which it counts from the segment's first end, are these.
 --
---   run-bounds == the law for the columns of the scan
---   row-bounds == the law for a row of a segment
+--   run-bounds == the columns between which the scan looks bound exactly the cells entered in a row
+--   row-bounds == in each row of a slanted segment a first and a last column bound exactly the cells entered
 use Prim.Native.Nat.{ℕ, _+_, _-_, _*_, _/_, _%_, _≤_, _<_, min, max}
 use mathlib.Core.Path.{_≡_, sym, _∙_}
 use mathlib.Core.Bool.{true, _&&_}

@@ -1,14 +1,14 @@
 -- The cells that a segment enters in one row: from the column where it crosses the row's first line to before the first
 -- column that it has not reached on the row's second line.
 --
---   Bounds dx dy r first past == those two columns, by products: of a segment dx columns wide and dy rows high, in the
---                                row r rows from its first end
---   touches-run   == a cell is entered exactly when it lies between them
+--   Bounds dx dy r first past == a segment dx columns wide and dy rows high enters, in the row r rows from its first
+--                    end, the columns from first to before past, by products
+--   touches-run   == a cell is entered exactly when it lies between the columns of `Bounds`
 --   crosses-..    == the crossing of the first row line and of the one after another; it lies inside the segment's box
 --   run-corner, run-across == the cells entered between two crossings: where the second is a vertex, and where not
 --   steep-..      == of a segment with more rows than columns, the crossing of the next row line, and the run of a row
 --   Along f s r first c == what holds in a loop that looks along a run
---   along-..    == that loop: at its start, past an open cell, at a blocked one, and at its end
+--   along-..      == `Along` at the start of the loop, past an open cell, at a blocked one, and at its end
 use Prim.Native.Nat.{ℕ, suc, _+_, _-_, _*_, _/_, _%_, _≤_, _<_}
 use mathlib.Core.Path.{_≡_, refl, sym, ap, _∙_}
 use mathlib.Core.Bool.{true, false, _&&_, and-false}

@@ -1,10 +1,11 @@
 -- Sight is the same both ways, a vertex sees itself, a pinch too, and two floors with the same cells see the same.
 --
 --   back s     == the segment from the last end to the first
---   sees-back  == the law for a segment; sees-segment-back for two vertices by their numbers
---   sees-self  == the law for a point; sees-segment-self for a vertex by its number
---   sees-same  == the law for two floors
---   unblocked-back, -self, -same == the same of cells and steps alone; passes-back of the vertices passed
+--   sees-back  == sees f (back s) ≡ sees f s; sees-segment-back for two vertices by their numbers
+--   sees-self  == a vertex sees itself, a pinch too; sees-segment-self for a vertex by its number
+--   sees-same  == two floors with the same cells see the same
+--   unblocked-back, -self, -same == of cells and steps alone: unblocked f (back s) ≡ unblocked f s, none is in the way
+--                 from a vertex to itself, and floors with the same cells agree; passes-back of the vertices passed
 use Prim.Native.Nat.{ℕ, suc, _<_, min, max}
 use mathlib.Core.Path.{_≡_, refl, sym, ap₂, _∙_}
 use mathlib.Core.Bool.{Bool, true, _&&_, _||_, not}

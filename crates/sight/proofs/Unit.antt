@@ -3,8 +3,9 @@
 --
 --   unit-still, -upright, -level, -slanted == whether no cell and no step is in the way, of two ends at most one column
 --                                             and one row apart
---   two-columns, two-rows                  == the same of two ends two columns and one row apart, and one and two
---   two-cells                              == both at once, as the code reads the cells
+--   two-columns, two-rows                  == whether a cell is in the way of a segment two columns and one row wide,
+--                                             and of one column and two rows
+--   two-cells                              == `two-columns` and `two-rows` at once, as the code reads the cells
 --   unit-clear                             == none is named where none is
 --   upright-step, level-step, slanted-cell == the one that is named
 use Prim.Native.Nat.{ℕ, suc, _+_, _-_, _≤_, max}

@@ -3,7 +3,7 @@
 --
 --   spans-..         == the lines between a and b, both counted
 --   point-.., away-.. == the line k lines from a towards b lies there, and each line there is one of these
---   passes-on        == the law
+--   passes-on        == the vertex c columns and r rows from the first end is passed exactly where dy * c ≡ dx * r
 --   passed-column, passed-row == a vertex that is passed lies between the ends
 use Prim.Native.Nat.{ℕ, suc, _-_, _*_, _≤_, _<_, min, max}
 use mathlib.Core.Path.{_≡_, sym, _∙_}

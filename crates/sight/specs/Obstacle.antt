@@ -1,14 +1,14 @@
--- Request 2, "Sight must say what was in the way", and request 5, "the sight answer names the pinch nearest the first
--- end when no cell or step is in the way": what a segment meets first, going from its first end.
+-- docs/RULES.md, 2.8 to 2.10: what a segment meets first, going from its first end.
 --
 --   span a b              == how many cells lie between the grid lines a and b
---   cellOn a b k          == the k-th of them from a towards b, from 0
---   startOn a b k         == the grid line where the step past that cell begins, going from a towards b
+--   cellOn a b k          == the k-th cell between the grid lines a and b, from a towards b, counted from 0
+--   startOn a b k         == the grid line where the step past `cellOn a b k` begins, going from a towards b
 --   first n F             == of F 0, F 1, .., F (n - 1) the first that is not Clear; Clear where each is
 --   blockedCell f s c r   == the cell c columns and r rows from the first end, where it is blocked and entered
 --   uprightStep f x a b k == the vertex where the k-th step along column line x begins, from row a towards row b, where
 --                            the step is shut
---   levelStep f y a b k   == the same along row line y, from column a towards column b
+--   levelStep f y a b k   == the vertex where the k-th step along row line y begins, from column a towards column b,
+--                            where the step is shut
 --   blockage f s          == the first shut step of a segment along a grid line; of the blocked cells that a slanted
 --                            segment enters, the one least far in columns from the first end, of equals least far in
 --                            rows; Clear where there is none

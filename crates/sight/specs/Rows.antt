@@ -1,6 +1,6 @@
--- Request 3 of document 02: "for each row it finds a first and a last column, proved to bound exactly the cells entered
--- there". The theorems are `row-bounds`, that each row of a slanted segment has them, and `run-bounds`, that the scan's
--- columns are these, both in proofs/Rows.antt.
+-- Rule 2.11: "for each row it finds a first and a last column, proved to bound exactly the cells entered there". The
+-- theorems are `row-bounds`, that each row of a slanted segment has them, and `run-bounds`, that the scan's columns are
+-- these, both in proofs/Rows.antt.
 --
 --   RowBounds s j first last == the cells that s enters in row j are those from column `first` to column `last`
 use Prim.Native.Nat.{ℕ, _≤_}

@@ -1,9 +1,9 @@
--- Document 01, "Sight": the two faults of a segment between vertices, in whole numbers; and request 5, "Carts have
--- corners": no segment longer than zero may start, end at or pass through a pinch.
+-- docs/RULES.md, 2.1 to 2.7: the three faults of a segment between vertices, in whole numbers: it enters a blocked
+-- cell, it has a shut step, or it is longer than zero and starts at, ends at or passes through a pinch.
 --
 --   Segment           == from the vertex (x0, y0) to the vertex (x1, y1)
 --   cross s p q       == the cross product (x1-x0)(q-y0) - (y1-y0)(p-x0); `pos n` is the number n of ℕ in ℤ
---   positive, negative == it is above 0, it is below 0
+--   positive, negative == the cross product is above 0, and below 0
 --   enters s i j      == the segment enters cell (i, j)
 --   noCellEntered f s == no blocked cell is entered
 --   noStepShut f s    == along a grid line, no unit step has a blocked cell on both sides, outside counted

@@ -3,15 +3,18 @@
 -- them.
 --
 --   Ends w h x0 y0 x1 y1  == both ends of a segment lie on the floor
---   Apart x0 y0 x1 y1 c r == they are c columns and r rows apart
+--   Apart x0 y0 x1 y1 c r == the ends (x0, y0) and (x1, y1) are c columns and r rows apart
 --   Narrow c r            == c columns and r rows are what a move leads: two of each at most, and one of either
 --   uprightTo, levelTo    == the step that ends in a vertex is not shut
 --   uprightFree, levelFree == the k-th step of a segment along a grid line is not shut
 --   touches dx dy c r     == a segment dx wide and dy high enters the cell c columns and r rows from its first end
---   cellFree, rowFree     == that cell is open or not entered, and each cell of that row
---   rowCell, rowObstacle  == that cell, where it is in the way, and the first such cell of that row
---   cellThere f s r c     == that cell, where it is blocked
---   RowRun s r first past == the cells that s enters in that row are those from column first to before column past
+--   cellFree, rowFree     == the cell c columns and r rows from the first end is open or not entered; so is each cell
+--                            of the row r rows from it
+--   rowCell, rowObstacle  == the cell c columns and r rows from the first end, where it is blocked and entered; the
+--                            first such cell of the row r rows from it
+--   cellThere f s r c     == the cell c columns and r rows from the first end, where it is blocked, entered or not
+--   RowRun s r first past == the cells that s enters in the row r rows from its first end are those from column first
+--                            to before column past
 --   Crosses dx dy r c rest == where a segment crosses the row line r rows from its first end
 --   Carried ..            == the crossing one row on
 --   RunBetween ..         == the cells entered between two crossings one row apart

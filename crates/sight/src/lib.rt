@@ -28,7 +28,7 @@ pub enum Obstacle {
 // The answer to the sight question.
 pub enum Sight {
     Answered(Obstacle),
-    Unasked(Refusal),
+    Refused(Refusal),
 }
 
 // Nothing is in the way.
@@ -48,7 +48,7 @@ pub fn sight_number(s: Sight) -> u8
     ensures { λ r. ⌜ r ≡ sightNumber s ⌝ }
 {
     match s {
-        Sight::Unasked(r) => floor::refusal_number(r),
+        Sight::Refused(r) => floor::refusal_number(r),
         Sight::Answered(o) => {
             if is_clear(o) {
                 return 0;
@@ -58,8 +58,8 @@ pub fn sight_number(s: Sight) -> u8
     }
 }
 
-// The greater of two numbers.
-fn higher(a: usize, b: usize) -> usize
+// The maximum of two numbers.
+fn max(a: usize, b: usize) -> usize
     ensures { λ r. ⌜ r ≡ max a b ⌝ }
 {
     if a < b {
@@ -85,8 +85,8 @@ fn unit_unblocked(
         × (columns ≤ 1) × (rows ≤ 1) ⌝ }
     ensures { λ r. ⌜ r ≡ unblocked (floorOf w h (now (map .entry))) (segmentOf x0 y0 x1 y1) ⌝ }
 {
-    let x = higher(x0, x1);
-    let y = higher(y0, y1);
+    let x = max(x0, x1);
+    let y = max(y0, y1);
     if columns == 0 {
         if rows == 0 {
             return true;
@@ -124,7 +124,7 @@ fn unit_blockage(
     if rows == 0 {
         return Obstacle::Step(floor::vertex_at(w, h, x0, y0));
     }
-    Obstacle::Cell(floor::cell_before(w, h, map, higher(x0, x1), higher(y0, y1)))
+    Obstacle::Cell(floor::cell_before(w, h, map, max(x0, x1), max(y0, y1)))
 }
 
 // The blocked cell or the shut step in the way from the vertex (x0, y0) to the vertex (x1, y1), `columns` and `rows`
@@ -186,7 +186,7 @@ fn look_along(
 // Whether no blocked cell is in the way between two vertices two columns and one row apart, or one column and two rows.
 // The segment enters two cells and goes along no grid line. The last of them, by column and by row, is the one before
 // the higher lines; the other stands before it in its row or in its column. Both are read in any case, so that no
-// branch hangs on a cell.
+// branch depends on a cell.
 fn two_cells_unblocked(
     w: usize,
     h: usize,
@@ -202,8 +202,8 @@ fn two_cells_unblocked(
         × (columns ≤ 2) × (rows ≤ 2) × (columns + rows ≡ 3) ⌝ }
     ensures { λ r. ⌜ r ≡ unblocked (floorOf w h (now (map .entry))) (segmentOf x0 y0 x1 y1) ⌝ }
 {
-    let x = higher(x0, x1);
-    let y = higher(y0, y1);
+    let x = max(x0, x1);
+    let y = max(y0, y1);
     let other = floor::blocked_at(w, h, map, x + 1 - columns, y + 1 - rows);
     let last = floor::blocked_at(w, h, map, x, y);
     if other {
@@ -288,7 +288,7 @@ pub fn ask(w: usize, h: usize, map: &[u8], a: usize, b: usize) -> Sight
     ensures { λ r. ⌜ r ≡ sightAnswer w h (now (map .entry)) a b ⌝ }
 {
     match question_shape(w, h, map, a, b) {
-        Shape::Refused(r) => Sight::Unasked(r),
+        Shape::Refused(r) => Sight::Refused(r),
         Shape::Good => Sight::Answered(look(w, h, map, Vertex(a), Vertex(b))),
     }
 }

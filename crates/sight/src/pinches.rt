@@ -9,7 +9,7 @@ ghost use Rattle.sight.specs.Travel.{Ends, Apart, Common, pinchHere, pin
 use crate::Obstacle;
 
 // Whether the vertex (x, y) is a pinch. No vertex of the floor's edge is: two cells outside lie side by side there.
-// Elsewhere all four cells are read in any case, so that no branch hangs on a cell.
+// Elsewhere all four cells are read in any case, so that no branch depends on a cell.
 pub fn pinch_at(w: usize, h: usize, map: &[u8], x: usize, y: usize) -> bool
     requires { ⌜ Sized w h (now map) × (x ≤ w) × (y ≤ h) ⌝ }
     ensures { λ r. ⌜ r ≡ pinch (floorOf w h (now (map .entry))) x y ⌝ }

@@ -43,7 +43,7 @@ fn start_at(a: usize, b: usize, k: usize) -> usize
 }
 
 // The step along column line x that ends on row line y is not shut: one of the cells beside it is open. Both are read
-// in any case, so that no branch hangs on a cell.
+// in any case, so that no branch depends on a cell.
 pub fn upright_open(w: usize, h: usize, map: &[u8], x: usize, y: usize) -> bool
     requires { ⌜ Sized w h (now map) × (x ≤ w) ⌝ }
     ensures { λ r. ⌜ r ≡ uprightTo (floorOf w h (now (map .entry))) x y ⌝ }

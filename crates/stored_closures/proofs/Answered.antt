@@ -10,27 +10,14 @@ use native.Mathlib.Omega.{arith}
 use lib.ListN.{length}
 use Rattle.floor.specs.declared.Refusal.{Refusal}
 use Rattle.floor.specs.declared.Shape.{Shape}
-use Rattle.floor.specs.declared.Shape.the-variants.{Good, Refused}
+use Rattle.floor.specs.declared.Shape.the-variants.{Good, Refused as BadShape}
 use Rattle.floor.specs.Refusals.{leftBy}
-use Rattle.closures.specs.Plain.{
-  lowestFree,
-  postShape,
-  postingOf,
-  postAnswer,
-  strikeShape,
-  strikingOf,
-  strikeAnswer,
-  workAnswer,
-  workLeft,
-}
+use Rattle.closures.specs.Plain.{lowestFree, postShape, postingOf, postAnswer, strikeShape, workShape, workLeft}
 use Rattle.closures.specs.Table.{Posts, Strikes, Writes}
 use Rattle.closures.specs.declared.Rectangle.{Rectangle}
 use Rattle.closures.specs.declared.Closures.{Closures}
 use Rattle.closures.specs.declared.Posting.{Posting}
-use Rattle.closures.specs.declared.Posting.the-variants.{In, Unposted}
-use Rattle.closures.specs.declared.Striking.{Striking}
-use Rattle.closures.specs.declared.Striking.the-variants.{Struck, Unstruck}
-use Rattle.closures.specs.declared.Writing.{Writing}
+use Rattle.closures.specs.declared.Posting.the-variants.{In, Refused}
 use Rattle.closures.proofs.Shapes.{good-post, good-strike}
 use Rattle.stored_closures.specs.Stored.{storedIn, withNumbers, noNumbers, PostsIn, StrikesIn, WritesFrom}
 use Rattle.stored_closures.specs.Known.{Stands}
@@ -40,33 +27,29 @@ module _ {w h : ℕ} {l : List ℕ} {t : Closures} (s : Stands w h l t) where
       → answer ≡ postAnswer w h (storedIn l) r
   posting p e = p .answers ∙ (λ i. postAnswer (s .wide i) (s .high i) (s .same i) (e i))
 
-  pub striking : {k : ℕ} {answer : Striking} {left : Closures} → Strikes t k answer left
-      → answer ≡ strikeAnswer w h (storedIn l) k
-  striking {k} p = p .answers ∙ (λ i. strikeAnswer (s .wide i) (s .high i) (s .same i) k)
+  pub striking : {k : ℕ} {answer : Shape} {left : Closures} → Strikes t k answer left
+      → answer ≡ strikeShape w h (storedIn l) k
+  striking {k} p = p .answers ∙ (λ i. strikeShape (s .wide i) (s .high i) (s .same i) k)
 
-  pub writing : {base work left : List ℕ} {answer : Writing} → Writes t base work answer left
+  pub writing : {base work left : List ℕ} {answer : Shape} → Writes t base work answer left
       → WritesFrom w h l base work answer left
   writing {base} {work} p = record {
-    answers = p .answers ∙ (λ i. workAnswer (s .wide i) (s .high i) base (length work));
+    answers = p .answers ∙ (λ i. workShape (s .wide i) (s .high i) base (length work));
     leaves = p .leaves ∙ (λ i. workLeft (s .wide i) (s .high i) base (s .same i) work);
   }
 
 -- The shape of an answer.
 in-good : (s : Shape) (n : ℕ) {k : ℕ} → In k ≡ postingOf s n → (s ≡ Good) × (k ≡ n)
 in-good Good n e = (refl, cc)
-in-good (Refused x) n e = let z : _≡_ {A = ℕ} 0 1 = cc in absurd (omega arith)
+in-good (BadShape x) n e = let z : _≡_ {A = ℕ} 0 1 = cc in absurd (omega arith)
 
-unposted-left : {A : Type 0} (s : Shape) (n : ℕ) {x : Refusal} (a b : A) → Unposted x ≡ postingOf s n → b ≡ leftBy s a b
-unposted-left Good n a b e = let z : _≡_ {A = ℕ} 0 1 = cc in absurd (omega arith)
-unposted-left (Refused x) n a b e = refl
+refused-left : {A : Type 0} (s : Shape) (n : ℕ) {x : Refusal} (a b : A) → Refused x ≡ postingOf s n → b ≡ leftBy s a b
+refused-left Good n a b e = let z : _≡_ {A = ℕ} 0 1 = cc in absurd (omega arith)
+refused-left (BadShape x) n a b e = refl
 
-struck-good : (s : Shape) → Struck ≡ strikingOf s → s ≡ Good
-struck-good Good e = refl
-struck-good (Refused x) e = let z : _≡_ {A = ℕ} 0 1 = cc in absurd (omega arith)
-
-unstruck-left : {A : Type 0} (s : Shape) {x : Refusal} (a b : A) → Unstruck x ≡ strikingOf s → b ≡ leftBy s a b
-unstruck-left Good a b e = let z : _≡_ {A = ℕ} 0 1 = cc in absurd (omega arith)
-unstruck-left (Refused x) a b e = refl
+shape-left : {A : Type 0} (s : Shape) {x : Refusal} (a b : A) → BadShape x ≡ s → b ≡ leftBy s a b
+shape-left Good a b e = let z : _≡_ {A = ℕ} 0 1 = cc in absurd (omega arith)
+shape-left (BadShape x) a b e = refl
 
 module _ (w h : ℕ) (l : List ℕ) (r : Rectangle) where
   abbrev shape : Shape
@@ -75,10 +58,10 @@ module _ (w h : ℕ) (l : List ℕ) (r : Rectangle) where
   abbrev free : ℕ
   free = lowestFree (storedIn l)
 
-  pub posts-refused : {answer : Posting} {x : Refusal} → answer ≡ postAnswer w h (storedIn l) r → answer ≡ Unposted x
+  pub posts-refused : {answer : Posting} {x : Refusal} → answer ≡ postAnswer w h (storedIn l) r → answer ≡ Refused x
       → PostsIn w h l r answer l
   posts-refused a e =
-      record { answers = a; leaves = unposted-left shape free (withNumbers l free r) l (sym e ∙ a) }
+      record { answers = a; leaves = refused-left shape free (withNumbers l free r) l (sym e ∙ a) }
 
   module _ {k : ℕ} (a : In k ≡ postAnswer w h (storedIn l) r) where
     pub post-slot : k < 16
@@ -99,14 +82,14 @@ module _ (w h : ℕ) (l : List ℕ) (k : ℕ) where
   abbrev strikable : Shape
   strikable = strikeShape w h (storedIn l) k
 
-  pub strikes-refused : {answer : Striking} {x : Refusal} → answer ≡ strikeAnswer w h (storedIn l) k
-      → answer ≡ Unstruck x → StrikesIn w h l k answer l
+  pub strikes-refused : {answer : Shape} {x : Refusal} → answer ≡ strikeShape w h (storedIn l) k
+      → answer ≡ BadShape x → StrikesIn w h l k answer l
   strikes-refused a e =
-      record { answers = a; leaves = unstruck-left strikable (withNumbers l k noNumbers) l (sym e ∙ a) }
+      record { answers = a; leaves = shape-left strikable (withNumbers l k noNumbers) l (sym e ∙ a) }
 
-  module _ {answer : Striking} (a : answer ≡ strikeAnswer w h (storedIn l) k) (e : answer ≡ Struck) where
+  module _ {answer : Shape} (a : answer ≡ strikeShape w h (storedIn l) k) (e : answer ≡ Good) where
     good : strikable ≡ Good
-    good = struck-good strikable (sym e ∙ a)
+    good = sym a ∙ e
 
     pub strike-slot : k < 16
     strike-slot = good-strike w h (storedIn l) k good

@@ -3,7 +3,7 @@
 --
 --   stored-none        == 64 zeros stand for the empty map
 --   stored-left        == one call: the map that the numbers left stand for is the map left by the plain call
---   after-any-calls    == any calls from 64 zeros: the same of the numbers and maps left
+--   after-any-calls    == any calls from 64 zeros: the numbers left stand for the plain map left
 --   answers-any-calls  == any calls from 64 zeros: the answers are those of the plain map
 --   writes-any-calls   == any calls from 64 zeros, then the writing: it answers and leaves what it would by the plain
 --                         map
@@ -35,12 +35,11 @@ use Rattle.closures.specs.Plain.{
   within,
   postShape,
   strikeShape,
-  workAnswer,
+  workShape,
   workLeft,
 }
 use Rattle.closures.specs.Calls.{Call, post, strike, plainLeft, plainAfter, plainAnswer, plainAnswers}
 use Rattle.closures.specs.declared.Rectangle.{Rectangle}
-use Rattle.closures.specs.declared.Writing.{Writing}
 use Rattle.closures.proofs.Shapes.{good-post, good-strike}
 use Rattle.stored_closures.specs.Stored.{holdOf, storedIn, withNumbers, noNumbers, WritesFrom}
 use Rattle.stored_closures.specs.Calls.{noneStored, storedLeft, storedAfter, storedAnswers}
@@ -129,9 +128,9 @@ module _ (w h : ℕ) where
   pub answers-any-calls : (cs : List Call) → storedAnswers w h noneStored cs ≡ plainAnswers w h nothingHeld cs
   answers-any-calls cs = answers noneStored nothingHeld cs (length-replicate {A = ℕ} 64 0) stored-none
 
-  pub writes-any-calls : (cs : List Call) {base work left : List ℕ} {answer : Writing}
+  pub writes-any-calls : (cs : List Call) {base work left : List ℕ} {answer : Shape}
       → WritesFrom w h (storedAfter w h noneStored cs) base work answer left
-      → (answer ≡ workAnswer w h base (length work))
+      → (answer ≡ workShape w h base (length work))
       × (left ≡ workLeft w h base (plainAfter w h nothingHeld cs) work)
   writes-any-calls cs {base} {work} x =
       (x .answers, x .leaves ∙ ap (λ m. workLeft w h base m work) (after-any-calls cs))

@@ -20,20 +20,10 @@ use lib.Dec.{ltb, eqb}
 use lib.ListN.{length, getD, set}
 use Rattle.basics.specs.Bounded.{pick}
 use Rattle.floor.specs.Refusals.{leftBy}
-use Rattle.closures.specs.Plain.{
-  Plain,
-  lowestFree,
-  postShape,
-  postAnswer,
-  strikeShape,
-  strikeAnswer,
-  workAnswer,
-  workLeft,
-}
+use Rattle.floor.specs.declared.Shape.{Shape}
+use Rattle.closures.specs.Plain.{Plain, lowestFree, postShape, postAnswer, strikeShape, workShape, workLeft}
 use Rattle.closures.specs.declared.Rectangle.{Rectangle}
 use Rattle.closures.specs.declared.Posting.{Posting}
-use Rattle.closures.specs.declared.Striking.{Striking}
-use Rattle.closures.specs.declared.Writing.{Writing}
 
 abbrev pub rectangleOf : ℕ → ℕ → ℕ → ℕ → Rectangle
 rectangleOf c r m n = record { column = c; row = r; columns = m; rows = n }
@@ -66,10 +56,10 @@ pub record PostsIn (w h : ℕ) (l : List ℕ) (r : Rectangle) (answer : Posting)
   pub answers : answer ≡ postAnswer w h (storedIn l) r
   pub leaves : left ≡ postStored w h l r
 
-pub record StrikesIn (w h : ℕ) (l : List ℕ) (k : ℕ) (answer : Striking) (left : List ℕ) : Type 0 where
-  pub answers : answer ≡ strikeAnswer w h (storedIn l) k
+pub record StrikesIn (w h : ℕ) (l : List ℕ) (k : ℕ) (answer : Shape) (left : List ℕ) : Type 0 where
+  pub answers : answer ≡ strikeShape w h (storedIn l) k
   pub leaves : left ≡ strikeStored w h l k
 
-pub record WritesFrom (w h : ℕ) (l base work : List ℕ) (answer : Writing) (left : List ℕ) : Type 0 where
-  pub answers : answer ≡ workAnswer w h base (length work)
+pub record WritesFrom (w h : ℕ) (l base work : List ℕ) (answer : Shape) (left : List ℕ) : Type 0 where
+  pub answers : answer ≡ workShape w h base (length work)
   pub leaves : left ≡ workLeft w h base (storedIn l) work

@@ -11,8 +11,7 @@ use closures::Hold;
 use closures::Posting;
 use closures::Rectangle;
 use closures::Slot;
-use closures::Striking;
-use closures::Writing;
+use floor::Shape;
 
 // The rectangle with these numbers, widened as `closures` takes them.
 fn rectangle(column: u32, row: u32, columns: u32, rows: u32) -> Rectangle
@@ -89,12 +88,12 @@ pub fn post(
 }
 
 // Strikes slot k: its four numbers are 0. A refusal, 1 or 14, changes nothing.
-pub fn strike(w: usize, h: usize, slots: &mut [u32; 64], k: usize) -> Striking
+pub fn strike(w: usize, h: usize, slots: &mut [u32; 64], k: usize) -> Shape
     ensures { λ a. ⌜ StrikesIn w h (now (slots .entry)) k a (now (slots .exit)) ⌝ }
 {
     let done = closures::struck(table_of(w, h, slots), k);
     let answer = done.answer;
-    let Striking::Struck = answer else {
+    let Shape::Good = answer else {
         return answer;
     };
     store(slots, k, 0, 0, 0, 0);
@@ -103,7 +102,7 @@ pub fn strike(w: usize, h: usize, slots: &mut [u32; 64], k: usize) -> Striking
 
 // Writes the working map: blocked where the base map is or where any closure that the numbers hold covers. A refusal,
 // 1, 2, 3 or 6, writes nothing.
-pub fn working_map(w: usize, h: usize, slots: &[u32; 64], base: &[u8], work: &mut [u8]) -> Writing
+pub fn working_map(w: usize, h: usize, slots: &[u32; 64], base: &[u8], work: &mut [u8]) -> Shape
     ensures { λ r.
         ⌜ WritesFrom w h (now (slots .entry)) (now (base .entry)) (now (work .entry)) r (now (work .exit)) ⌝ }
 {

@@ -10,12 +10,12 @@ use lib.Seq.{take-at, drop-at}
 use Rattle.basics.specs.Lists.{padded, zeros}
 use Rattle.floor.specs.Floor.{floorOf}
 use Rattle.floor.specs.declared.Shape.{Shape}
-use Rattle.floor.specs.declared.Shape.the-variants.{Good, Refused}
+use Rattle.floor.specs.declared.Shape.the-variants.{Good, Refused as BadShape}
 use Rattle.thinning.specs.Thinning.{seen, keptPositions}
 use Rattle.floor.specs.Refusals.{leftBy}
 use Rattle.thinning.specs.Answer.{listShape, shapeAnswer, thinAnswer, thinOutput}
 use Rattle.thinning.specs.declared.Thinned.{Thinned}
-use Rattle.thinning.specs.declared.Thinned.the-variants.{Kept, Unthinned}
+use Rattle.thinning.specs.declared.Thinned.the-variants.{Kept, Refused}
 use Rattle.thinning.proofs.Shapes.{GoodList, good-list, joined-list}
 use Rattle.thinning.proofs.Kept.{KeptLaws, kept-laws}
 
@@ -55,4 +55,4 @@ module _ (w h : ℕ) (map list out : List ℕ) (n k : ℕ) where
           → shapeAnswer s (length (keptPositions (floorOf w h map) list n)) ≡ Kept k
           → Answered w h map list out n k (leftBy s (padded (length out) (keptPositions (floorOf w h map) list n)) out)
       cases Good q x = answered-good q cc
-      cases (Refused r) q x = let z : _≡_ {A = ℕ} 0 1 = cc in absurd (omega arith)
+      cases (BadShape r) q x = let z : _≡_ {A = ℕ} 0 1 = cc in absurd (omega arith)

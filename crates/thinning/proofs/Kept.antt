@@ -4,9 +4,9 @@
 --   KeptLaws s n ps  == of n positions ps are kept: at least one (`some`) and at most n (`few`), from 0 (`starts`) to
 --                       n - 1 (`ends`), rising (`rises`), each sees the next one kept (`sees`) and is followed by it as
 --                       the rule says (`next`)
---   kept-laws        == the kept positions of a joined list are such
---   kept-only        == and no others are
---   kept-chain       == they are the positions that the rule names one after the other, from 0
+--   kept-laws        == the kept positions of a joined list meet `KeptLaws`
+--   kept-only        == two lists that meet `KeptLaws` are the same
+--   kept-chain       == the kept positions are those that the rule names one after the other, from 0
 use Prim.Native.Nat.{ℕ, zero, suc, _+_, _-_, _≤_, _<_, pred}
 use mathlib.Core.Path.{_≡_, refl, sym, ap, _∙_}
 use mathlib.Core.Bool.{Bool, true, false, not}

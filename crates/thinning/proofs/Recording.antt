@@ -2,8 +2,8 @@
 -- recorded and m how many are.
 --
 --   chain next n c i          == i, the position that `next` names after it, and so on up to n - 1, at most c of them
---   laterChain next n c i     == those past i
---   chain-more, chain-end     == the first of them, and the rest
+--   laterChain next n c i     == the positions of `chain next n c i` past i
+--   chain-more, chain-end     == the first position of a chain, and the rest
 --   Recording next n k m i l  == of the k places of l the first m hold the first m positions of the chain from 0, and
 --                                the others 0; i is the last one recorded, those past it are still to come
 --   recording-first, recording-more == before the loop, and with one position more

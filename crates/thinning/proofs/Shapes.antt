@@ -19,12 +19,12 @@ use Rattle.floor.specs.Refusals.{floorShape, andThen}
 use Rattle.floor.specs.declared.Refusal.{Refusal}
 use Rattle.floor.specs.declared.Refusal.the-variants.{SliceLength, NotJoined}
 use Rattle.floor.specs.declared.Shape.{Shape}
-use Rattle.floor.specs.declared.Shape.the-variants.{Good, Refused}
+use Rattle.floor.specs.declared.Shape.the-variants.{Good, Refused as BadShape}
 use Rattle.floor.proofs.Shapes.{then-refused, good-first, good-second, good-pick, GoodFloor, good-floor}
 use Rattle.thinning.specs.Thinning.{seen, isVertex, seesNext, joinedList}
 use Rattle.thinning.specs.Answer.{listShape, thinAnswer, thinOutput, Thins}
 use Rattle.thinning.specs.Known.{VertexList, Recorded}
-use Rattle.thinning.specs.declared.Thinned.the-variants.{Kept, Unthinned}
+use Rattle.thinning.specs.declared.Thinned.the-variants.{Kept, Refused}
 
 pub vertex-yes : (w h : ℕ) (l : List ℕ) (k : ℕ) → getD l k 0 < vertices w h → isVertex w h l k ≡ true
 unfolding isVertex
@@ -83,28 +83,28 @@ module _ (f : Floor) (l : List ℕ) (n : ℕ) where
 
 module _ (w h : ℕ) (map list : List ℕ) (k n : ℕ) where
   abbrev slices : Shape
-  slices = pick (leb (length list) 16384 && eqb k (length list)) Good (Refused SliceLength)
+  slices = pick (leb (length list) 16384 && eqb k (length list)) Good (BadShape SliceLength)
 
   abbrev points : Shape
-  points = pick (joinedList (floorOf w h map) list n) Good (Refused NotJoined)
+  points = pick (joinedList (floorOf w h map) list n) Good (BadShape NotJoined)
 
-  pub shape-floor : {r : Refusal} → floorShape w h map ≡ Refused r → floorShape w h map ≡ listShape w h map list k n
+  pub shape-floor : {r : Refusal} → floorShape w h map ≡ BadShape r → floorShape w h map ≡ listShape w h map list k n
   unfolding listShape
   shape-floor e = then-refused (floorShape w h map) (andThen slices points) e
 
   module _ (e : floorShape w h map ≡ Good) where
-    pub shape-long : 16384 < length list → Refused SliceLength ≡ listShape w h map list k n
+    pub shape-long : 16384 < length list → BadShape SliceLength ≡ listShape w h map list k n
     unfolding listShape
     shape-long a = rw (e, lt-leb (length list) 16384 a)
 
     module _ (a : length list ≤ 16384) where
-      pub shape-other : (k ≡ length list → ⊥) → Refused SliceLength ≡ listShape w h map list k n
+      pub shape-other : (k ≡ length list → ⊥) → BadShape SliceLength ≡ listShape w h map list k n
       unfolding listShape
       shape-other b = rw (e, le-leb (length list) 16384 a, ne-eqb k (length list) b)
 
       module _ (b : k ≡ length list) where
         pub shape-unjoined : joinedList (floorOf w h map) list n ≡ false
-            → Refused NotJoined ≡ listShape w h map list k n
+            → BadShape NotJoined ≡ listShape w h map list k n
         unfolding listShape
         shape-unjoined j = rw (e, le-leb (length list) 16384 a, eq-eqb k (length list) b, j)
 
@@ -132,8 +132,8 @@ module _ (w h : ℕ) (map list : List ℕ) (k n : ℕ) where
       }
 
 module _ (w h : ℕ) (map list out : List ℕ) (n : ℕ) where
-  pub thins-refused : {r : Refusal} → listShape w h map list (length out) n ≡ Refused r
-      → Thins w h map list out n (Unthinned r) out
+  pub thins-refused : {r : Refusal} → listShape w h map list (length out) n ≡ BadShape r
+      → Thins w h map list out n (Refused r) out
   unfolding thinAnswer thinOutput
   thins-refused e = record { answer = rw e; output = rw e }
 

@@ -1,4 +1,4 @@
--- Document 01, "Thinning": the kept positions of a list of vertices.
+-- docs/RULES.md, 9.4 to 9.6: the kept positions of a list of vertices.
 --
 --   seen f l i k          == the vertices at positions i and k of the list l see each other
 --   nextKept s n i        == the position kept after i: one less than the first k past i that is not seen from i, or

@@ -15,16 +15,16 @@ use floor::Vertex;
 // The answer: how many positions are kept, or a refusal.
 pub enum Thinned {
     Kept(usize),
-    Unthinned(Refusal),
+    Refused(Refusal),
 }
 
-// Document 01's number of an answer.
+// The number of an answer (rule 6.1).
 pub fn thin_number(t: Thinned) -> u8
     ensures { λ r. ⌜ r ≡ thinNumber t ⌝ }
 {
     match t {
         Thinned::Kept(_) => 0,
-        Thinned::Unthinned(r) => floor::refusal_number(r),
+        Thinned::Refused(r) => floor::refusal_number(r),
     }
 }
 
@@ -34,7 +34,7 @@ pub fn kept_count(t: Thinned) -> usize
 {
     match t {
         Thinned::Kept(k) => k,
-        Thinned::Unthinned(_) => 0,
+        Thinned::Refused(_) => 0,
     }
 }
 
@@ -125,7 +125,7 @@ pub fn list_shape(w: usize, h: usize, map: &[u8], list: &[u16], places: usize, n
 }
 
 // The position kept after position i, which sees the next one: one less than the first past i that is not seen from i,
-// or the last. The search ends at `end`: n, or the first position that is not seen once it is found.
+// or the last. The search ends at `end`, which is n until a position is found that is not seen, and then that position.
 fn next_kept(w: usize, h: usize, map: &[u8], list: &[u16], n: usize, i: usize) -> usize
     requires { ⌜ Sized w h (now map) × Leg (floorOf w h (now map)) (now list) n i ⌝ }
     ensures { λ r. ⌜ r ≡ nextKept (seen (floorOf w h (now (map .entry))) (now (list .entry))) n i ⌝ }
@@ -167,7 +167,7 @@ pub fn thin(w: usize, h: usize, map: &[u8], list: &[u16], out: &mut [u16], n: us
     ensures { λ r. ⌜ Thins w h (now (map .entry)) (now (list .entry)) (now (out .entry)) n r (now (out .exit)) ⌝ }
 {
     match list_shape(w, h, map, list, out.len(), n) {
-        Shape::Refused(r) => Thinned::Unthinned(r),
+        Shape::Refused(r) => Thinned::Refused(r),
         Shape::Good => Thinned::Kept(record_kept(w, h, map, list, out, n)),
     }
 }

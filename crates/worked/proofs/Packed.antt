@@ -14,7 +14,7 @@ use Rattle.floor.specs.Refusals.{sidesShape, unusedClear, floorShape}
 use Rattle.floor.proofs.Stored.{packed-floor}
 use Rattle.sight.specs.Sight.{Segment}
 use Rattle.sight.specs.Obstacle.{obstacle}
-use Rattle.moves.specs.declared.Rows.{Rows}
+use Rattle.moves.specs.declared.Directions.{Directions}
 use Rattle.paths.specs.Sheet.{Sheet, TrueRoute, TrueNoRoute}
 use Rattle.grid.specs.Grid.{floorGraph}
 use Rattle.thinning.specs.Thinning.{keptPositions}
@@ -37,7 +37,7 @@ module _ (w h : ℕ) (l : List ℕ) where
   pub packed-sight : (s : Segment) → obstacle (floorOf w h (storedCells l)) s ≡ obstacle (byteFloor w h l) s
   packed-sight s = ap (λ f. obstacle f s) (packed-floor l w h)
 
-  module _ (r : Rows) (a b : ℕ) (s : Sheet) where
+  module _ (r : Directions) (a b : ℕ) (s : Sheet) where
     pub packed-route : TrueRoute (floorGraph (floorOf w h (storedCells l)) r) a b s
         ≡ TrueRoute (floorGraph (byteFloor w h l) r) a b s
     packed-route = ap (λ f. TrueRoute (floorGraph f r) a b s) (packed-floor l w h)

@@ -17,7 +17,7 @@ use Rattle.floor.specs.Refusals.{sidesShape, unusedClear, floorShape, endShape}
 use Rattle.sight.specs.Sight.{segmentOf, enters, pinch, sight-opened}
 use Rattle.moves.specs.Moves.{neighbourhoodOf}
 use Rattle.moves.specs.Steps.{steps-opened}
-use Rattle.moves.specs.Table.{lawfulRows}
+use Rattle.moves.specs.Table.{lawfulDirs}
 use Rattle.paths.specs.Graph.{Graph, Lawful}
 use Rattle.paths.specs.Distance.{distance, pathCount}
 use Rattle.paths.specs.Route.{route-opened, traversals}
@@ -25,8 +25,8 @@ use Rattle.paths.specs.Sheet.{Sheet, routeSheet, noRouteSheet, TrueRoute, TrueN
 use Rattle.paths.specs.Local.{Shaped, entry, localRoute, localNoRoute, local-opened}
 use Rattle.paths.proofs.SheetTest.{numbers-true, numbers-total, local-true, local-noRoute}
 use Rattle.paths.proofs.Sheets.{route-entries}
-use Rattle.grid.specs.Grid.{pinchShape, endsShape, jobOf}
-use Rattle.grid.specs.declared.Job.the-variants.{Fit}
+use Rattle.grid.specs.Grid.{pinchShape, endsShape, jobShape}
+use Rattle.grid.specs.declared.JobShape.the-variants.{Fit}
 use Rattle.grid.proofs.Lawful.{floor-lawful}
 use Rattle.grid.proofs.Jobs.{FitJob, job-fit}
 use Rattle.given_costs.specs.Given.{costsTrue}
@@ -103,17 +103,17 @@ shaped-true c t =
 
 -- The shape of the case's job is good.
 abbrev Fits : Case → Type 0
-Fits c = jobOf (c .wide) (c .high) (c .map) (c .neighbourhood) (c .start) (c .end) ≡ Fit (c .rows)
+Fits c = jobShape (c .wide) (c .high) (c .map) (c .neighbourhood) (c .start) (c .end) ≡ Fit (c .dirs)
 
 module _ (c : Case) (fit : Fits c) where
   abbrev g : Graph
   g = graphOf c
 
-  known : FitJob (c .wide) (c .high) (c .map) (c .neighbourhood) (c .start) (c .end) (c .rows)
-  known = job-fit (c .wide) (c .high) (c .map) (c .neighbourhood) (c .start) (c .end) (c .rows) fit
+  known : FitJob (c .wide) (c .high) (c .map) (c .neighbourhood) (c .start) (c .end) (c .dirs)
+  known = job-fit (c .wide) (c .high) (c .map) (c .neighbourhood) (c .start) (c .end) (c .dirs) fit
 
   lawful : Lawful g
-  lawful = floor-lawful (planOf c) (c .rows) (known .lawful)
+  lawful = floor-lawful (planOf c) (c .dirs) (known .lawful)
 
   route-holds : routeTest c ≡ true → RouteHolds c
   unfolding routeTest localRoute
@@ -151,7 +151,7 @@ module _ (c : Case) (fit : Fits c) where
 -- ---- the floors
 
 routes-true : Each RouteHolds routes
-unfolding jobOf sidesShape unusedClear floorShape endShape pinchShape endsShape neighbourhoodOf shaped routeTest
+unfolding jobShape sidesShape unusedClear floorShape endShape pinchShape endsShape neighbourhoodOf shaped routeTest
     bounded-opened lists-opened floor-opened sight-opened steps-opened route-opened local-opened thinning-opened
 routes-true = (
   route-holds floorA refl refl,
@@ -168,7 +168,7 @@ routes-true = (
 )
 
 noRoutes-true : Each NoRouteHolds noRoutes
-unfolding jobOf sidesShape unusedClear floorShape endShape pinchShape endsShape neighbourhoodOf shaped noRouteTest
+unfolding jobShape sidesShape unusedClear floorShape endShape pinchShape endsShape neighbourhoodOf shaped noRouteTest
     bounded-opened lists-opened floor-opened sight-opened steps-opened route-opened local-opened
 noRoutes-true = (
   noRoute-holds floorC refl refl,
@@ -191,7 +191,7 @@ handed-none c k R = ap (same (k .sheet .d)) (sym (ap (λ (s : Sheet). s .d) (R .
 
 handed-a-true : (i j : ℕ) → i < 3 → j < 3 → handedIn (getD plansA i floorA) (getD plansA j floorA) ≡ eqb i j
 unfolding lists-opened
-handed-a-true i j a b = rows i a j b
+handed-a-true i j a b = dirs i a j b
   where
     column : (c : Case) → RouteHolds c → (t : ℕ → Bool)
         → same (floorA .sheet .d) (c .sheet .d) ≡ t 0 → same (floorB .sheet .d) (c .sheet .d) ≡ t 1
@@ -202,15 +202,15 @@ handed-a-true i j a b = rows i a j b
     column c R t p q r (suc (suc zero)) b = handed-route c floorA16 R ∙ r
     column c R t p q r (suc (suc (suc j))) b = absurd (omega arith)
 
-    rows : (i : ℕ) → i < 3 → (j : ℕ) → j < 3 → handedIn (getD plansA i floorA) (getD plansA j floorA) ≡ eqb i j
-    rows zero a = column floorA (routes-true .0) (eqb 0) refl refl refl
-    rows (suc zero) a = column floorB (routes-true .1 .0) (eqb 1) refl refl refl
-    rows (suc (suc zero)) a = column floorA16 (routes-true .1 .1 .1 .1 .1 .0) (eqb 2) refl refl refl
-    rows (suc (suc (suc i))) a = absurd (omega arith)
+    dirs : (i : ℕ) → i < 3 → (j : ℕ) → j < 3 → handedIn (getD plansA i floorA) (getD plansA j floorA) ≡ eqb i j
+    dirs zero a = column floorA (routes-true .0) (eqb 0) refl refl refl
+    dirs (suc zero) a = column floorB (routes-true .1 .0) (eqb 1) refl refl refl
+    dirs (suc (suc zero)) a = column floorA16 (routes-true .1 .1 .1 .1 .1 .0) (eqb 2) refl refl refl
+    dirs (suc (suc (suc i))) a = absurd (omega arith)
 
 handed-c-true : (i j : ℕ) → i < 3 → j < 3 → handedIn (getD plansC i floorC) (getD plansC j floorC) ≡ true
 unfolding lists-opened
-handed-c-true i j a b = rows i a j b
+handed-c-true i j a b = dirs i a j b
   where
     column : (c : Case) → NoRouteHolds c → c .sheet ≡ floorC .sheet
         → (j : ℕ) → j < 3 → handedIn c (getD plansC j floorC) ≡ true
@@ -219,11 +219,11 @@ handed-c-true i j a b = rows i a j b
     column c R e (suc (suc zero)) b = handed-none c floorC16 R ∙ ap (λ (s : Sheet). same (floorC .sheet .d) (s .d)) e
     column c R e (suc (suc (suc j))) b = absurd (omega arith)
 
-    rows : (i : ℕ) → i < 3 → (j : ℕ) → j < 3 → handedIn (getD plansC i floorC) (getD plansC j floorC) ≡ true
-    rows zero a = column floorC (noRoutes-true .0) refl
-    rows (suc zero) a = column floorC4 (noRoutes-true .1 .1 .1 .0) refl
-    rows (suc (suc zero)) a = column floorC16 (noRoutes-true .1 .1 .1 .1 .0) refl
-    rows (suc (suc (suc i))) a = absurd (omega arith)
+    dirs : (i : ℕ) → i < 3 → (j : ℕ) → j < 3 → handedIn (getD plansC i floorC) (getD plansC j floorC) ≡ true
+    dirs zero a = column floorC (noRoutes-true .0) refl
+    dirs (suc zero) a = column floorC4 (noRoutes-true .1 .1 .1 .0) refl
+    dirs (suc (suc zero)) a = column floorC16 (noRoutes-true .1 .1 .1 .1 .0) refl
+    dirs (suc (suc (suc i))) a = absurd (omega arith)
 
 -- Two tests with the same answer, as a test.
 unfoldable alike : Bool → Bool → Bool

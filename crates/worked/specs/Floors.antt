@@ -1,16 +1,15 @@
--- Document 01, "Floors worked by hand": the starred floors a to i, with the numbers that it gives; those of floor g by
--- request 5 of document 02, and the next vertices by its request 7.
+-- docs/RULES.md, section 18: the floors a to i, with the numbers that are worked there by hand.
 --
 --   Case             == a job, and a sheet for it
---   routes           == floors a, b, d, e and h, and a and e with neighbourhood 16 (request 8): the job, its true route
---                       sheet, the kept positions
+--   routes           == floors a, b, d, e and h, and a and e with neighbourhood 16: the job, its true route sheet, the
+--                       kept positions
 --   noRoutes         == floors c, f and g, and c with 4 and 16: the job and its true no-route sheet
 --   entered          == floor i: the cells of a 3 by 2 floor, row by row, that the segment from (0, 0) to (3, 2) enters
 --   RouteHolds c     == the job has a good shape, the sheet is its true route sheet, its cost and total are those of the
 --                       case, and thinning keeps the positions of the case
 --   NoRouteHolds c   == the job has a good shape and the sheet is its true no-route sheet
 --   plansA, plansC   == the floors a and c, each with 8, 4 and 16
---   handedIn c k     == the costs of case k, handed in for case c, are true (request 4)
+--   handedIn c k     == the costs of case k, handed in for case c, are true (rule 7.4)
 --   Worked           == the statement: all of this holds; of the nine vertices of floor g the only pinch is 4; on floor a
 --                       the costs with one neighbourhood, handed in for another, are false, and on floor c they are not
 use Prim.Native.Nat.{ℕ, _+_, _*_, _<_}
@@ -21,14 +20,14 @@ use lib.Dec.{eqb}
 use lib.ListN.{length, getD}
 use Rattle.floor.specs.Floor.{Floor, storedCells, floorOf, column, row}
 use Rattle.sight.specs.Sight.{segmentOf, enters, pinch}
-use Rattle.moves.specs.declared.Rows.{Rows}
-use Rattle.moves.specs.Moves.{rowsOf}
+use Rattle.moves.specs.declared.Directions.{Directions}
+use Rattle.moves.specs.Moves.{directionsOf}
 use Rattle.paths.specs.Graph.{Graph}
 use Rattle.paths.specs.Distance.{unreachable, distance, pathCount}
 use Rattle.paths.specs.Route.{traversals}
 use Rattle.paths.specs.Sheet.{Sheet, sheetOf, TrueRoute, TrueNoRoute}
-use Rattle.grid.specs.Grid.{floorGraph, jobOf}
-use Rattle.grid.specs.declared.Job.the-variants.{Fit}
+use Rattle.grid.specs.Grid.{floorGraph, jobShape}
+use Rattle.grid.specs.declared.JobShape.the-variants.{Fit}
 use Rattle.given_costs.specs.Given.{costsTrue}
 use Rattle.thinning.specs.Thinning.{keptPositions}
 
@@ -37,7 +36,7 @@ pub record Case : Type 0 where
   pub high : ℕ
   pub map : List ℕ
   pub neighbourhood : ℕ
-  pub rows : Rows
+  pub dirs : Directions
   pub start : ℕ
   pub end : ℕ
   pub sheet : Sheet
@@ -49,16 +48,16 @@ abbrev pub planOf : Case → Floor
 planOf c = floorOf (c .wide) (c .high) (c .map)
 
 abbrev pub graphOf : Case → Graph
-graphOf c = floorGraph (planOf c) (c .rows)
+graphOf c = floorGraph (planOf c) (c .dirs)
 
 -- A case from its floor, with a byte to a cell, neighbourhood and ends, its sheet, and cost, total and kept positions.
-abbrev pub job : ℕ → ℕ → List ℕ → ℕ → Rows → ℕ → ℕ → Sheet → ℕ → ℕ → List ℕ → Case
+abbrev pub job : ℕ → ℕ → List ℕ → ℕ → Directions → ℕ → ℕ → Sheet → ℕ → ℕ → List ℕ → Case
 job w h l nb r a b s c t k = record {
   wide = w;
   high = h;
   map = storedCells l;
   neighbourhood = nb;
-  rows = r;
+  dirs = r;
   start = a;
   end = b;
   sheet = s;
@@ -67,14 +66,14 @@ job w h l nb r a b s c t k = record {
   kept = k;
 }
 
-abbrev pub eight : Rows
-eight = rowsOf 0 2 8
+abbrev pub eight : Directions
+eight = directionsOf 0 2 8
 
-abbrev pub four : Rows
-four = rowsOf 0 4 4
+abbrev pub four : Directions
+four = directionsOf 0 4 4
 
-abbrev pub sixteen : Rows
-sixteen = rowsOf 16 1 16
+abbrev pub sixteen : Directions
+sixteen = directionsOf 16 1 16
 
 abbrev pub M : ℕ
 M = unreachable
@@ -139,7 +138,7 @@ floorH =
     (1 ∷ 4 ∷ 5 ∷ 4 ∷ 5 ∷ 8 ∷ 7 ∷ 8 ∷ 8 ∷ []) 5)
     1632 6 (0 ∷ 4 ∷ [])
 
--- Request 8: "Case e with 16 costs 2236 and has total 1".
+-- Floor e with 16: it costs 2236 and has total 1.
 abbrev pub floorE16 : Case
 floorE16 =
     job 2 1 (0 ∷ 0 ∷ []) 16 sixteen 0 5
@@ -181,14 +180,14 @@ abbrev pub entered : List Bool
 entered = true ∷ true ∷ false ∷ false ∷ true ∷ true ∷ []
 
 pub record RouteHolds (c : Case) : Type 0 where
-  pub shape : jobOf (c .wide) (c .high) (c .map) (c .neighbourhood) (c .start) (c .end) ≡ Fit (c .rows)
+  pub shape : jobShape (c .wide) (c .high) (c .map) (c .neighbourhood) (c .start) (c .end) ≡ Fit (c .dirs)
   pub sheet : TrueRoute (graphOf c) (c .start) (c .end) (c .sheet)
   pub cost : distance (graphOf c) (c .start) (c .end) ≡ c .cost
   pub total : pathCount (graphOf c) (c .start) (c .end) ≡ c .total
   pub kept : keptPositions (planOf c) (c .sheet .route) (c .sheet .n) ≡ c .kept
 
 pub record NoRouteHolds (c : Case) : Type 0 where
-  pub shape : jobOf (c .wide) (c .high) (c .map) (c .neighbourhood) (c .start) (c .end) ≡ Fit (c .rows)
+  pub shape : jobShape (c .wide) (c .high) (c .map) (c .neighbourhood) (c .start) (c .end) ≡ Fit (c .dirs)
   pub sheet : TrueNoRoute (graphOf c) (c .start) (c .end) (c .sheet)
 
 -- Each of a list.

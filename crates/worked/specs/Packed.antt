@@ -1,4 +1,4 @@
--- Request 6, worked by hand: packed maps as numbers, and what refusals 2 and 3 say of them.
+-- docs/RULES.md, 1.6 and 1.7, worked by hand: packed maps as numbers, and what refusals 2 and 3 say of them.
 --
 --   PackedHold   == the statement. Of floor g cells 0 and 3 are blocked, so its map is 1 + 8. Of a 3 by 3 floor cells
 --                   2, 3 and 7 are blocked in the first byte, 4 + 8 + 128, and cell 8 in the second, of which the

@@ -1,9 +1,9 @@
--- Requests 2 and 5, worked by hand: what the sight question answers on a few small floors, asked both ways.
+-- docs/RULES.md, 2.8 and 2.9, worked by hand: what the sight question answers on a few small floors, asked both ways.
 --
 --   Question     == a floor's width, height and map, two vertices, and the answer
---   questions    == the floors: i of document 01 with two of the cells entered blocked, with both that it enters in one
---                   column, and with a cell beside the segment; f along its upper border; g along its diagonals, on
---                   one of which is its pinch, and along its left border; a floor with a blocked cell behind a pinch
+--   questions    == the floors: i with two of the cells entered blocked, with both that it enters in one column, and
+--                   with a cell beside the segment; f along its upper border; g along its diagonals, on one of which is
+--                   its pinch, and along its left border; a floor with a blocked cell behind a pinch
 --   SightsHold   == the statement: each answer is the one given
 use Prim.Native.Nat.{ℕ}
 use mathlib.Core.Path.{_≡_}
@@ -13,7 +13,7 @@ use Rattle.floor.specs.declared.Refusal.the-variants.{End}
 use Rattle.sight.specs.Question.{sightAnswer}
 use Rattle.sight.specs.declared.Obstacle.the-variants.{Clear, Cell, Step, Pinch}
 use Rattle.sight.specs.declared.Sight.{Sight}
-use Rattle.sight.specs.declared.Sight.the-variants.{Answered, Unasked}
+use Rattle.sight.specs.declared.Sight.the-variants.{Answered, Refused}
 
 pub record Question : Type 0 where
   pub wide : ℕ
@@ -52,7 +52,7 @@ questions =
     ∷ asked 3 2 (0 ∷ 0 ∷ 1 ∷ 0 ∷ 0 ∷ 0 ∷ []) 11 0 clear
     ∷ asked 2 1 (0 ∷ 1 ∷ []) 0 2 (step 1)
     ∷ asked 2 1 (0 ∷ 1 ∷ []) 2 0 (step 2)
-    ∷ asked 2 1 (0 ∷ 1 ∷ []) 0 6 (Unasked End)
+    ∷ asked 2 1 (0 ∷ 1 ∷ []) 0 6 (Refused End)
     ∷ asked 2 2 (1 ∷ 0 ∷ 0 ∷ 1 ∷ []) 0 8 (cell 0)
     ∷ asked 2 2 (1 ∷ 0 ∷ 0 ∷ 1 ∷ []) 8 0 (cell 3)
     ∷ asked 2 2 (1 ∷ 0 ∷ 0 ∷ 1 ∷ []) 2 6 (pinched 4)

@@ -9,7 +9,7 @@ ghost use Rattle.floor.specs.Known.{Sized};
 ghost use Rattle.moves.specs.Table.{Listed};
 ghost use Rattle.paths.specs.Local.{entry};
 ghost use Rattle.workspace.specs.Regions.{maskAt, MasksFilled};
-use moves::Rows;
+use moves::Directions;
 
 // The vertex at place i of the order.
 pub fn settled_at(work: &[u32], i: usize) -> usize
@@ -45,12 +45,12 @@ pub fn mask_at(work: &[u32], count: usize, u: usize) -> u32
 }
 
 // Stores the mask of each vertex: worked out once for a floor, and read by every pass.
-pub fn store_masks(w: usize, h: usize, map: &[u8], rows: Rows, work: &mut [u32])
-    requires { ⌜ Sized w h (now map) × Listed rows × (length (now work) ≡ 4 * vertices w h) ⌝ }
-    ensures { λ _. ⌜ MasksFilled (floorOf w h (now (map .entry))) rows (now (work .entry)) (now (work .exit)) ⌝ }
+pub fn store_masks(w: usize, h: usize, map: &[u8], dirs: Directions, work: &mut [u32])
+    requires { ⌜ Sized w h (now map) × Listed dirs × (length (now work) ≡ 4 * vertices w h) ⌝ }
+    ensures { λ _. ⌜ MasksFilled (floorOf w h (now (map .entry))) dirs (now (work .entry)) (now (work .exit)) ⌝ }
 {
     let count = floor::vertex_count(w, h);
     let first = 2 * count;
     let past = 3 * count;
-    masks::fill_masks(w, h, map, rows, &mut work[first..past]);
+    masks::fill_masks(w, h, map, dirs, &mut work[first..past]);
 }

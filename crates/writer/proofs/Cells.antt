@@ -1,7 +1,7 @@
 -- The cells of a map, written a byte to a cell.
 --
 --   cells-are            == the bytes of the cells of a map, by their bits, are those of its floor
---   cells-small          == each of them is 0 or 1
+--   cells-small          == each byte of `cellBytes` is 0 or 1
 --   stored-bytes         == the map that stores cells has bytes alone
 --   cells-none, cells-more == the loop that writes the values of F below n, with k of them written
 use Prim.Native.Nat.{ℕ, zero, suc, _+_, _*_, _^_, _≤_, _<_}

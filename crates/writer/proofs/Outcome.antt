@@ -12,12 +12,11 @@ use Rattle.records.specs.Known.{Written}
 use Rattle.writer.specs.Writing.{Call, callBytes, callShape, Writes}
 use Rattle.writer.specs.Known.{pastRecord}
 use Rattle.writer.specs.declared.Writer.{Writer}
-use Rattle.writer.specs.declared.Writing.the-variants.{Unwritten}
 use Rattle.writer.specs.declared.AfterWrite.{AfterWrite}
 
 module _ (c : Writer) (x : Call) (buf : List ℕ) where
   pub refused-writes : {r : Refusal} → callShape c x (length buf) ≡ Refused r
-      → Writes c x buf (record { writer = c; answer = Unwritten r }) buf
+      → Writes c x buf (record { writer = c; answer = Refused r }) buf
   refused-writes e = record { answer = rw e; writer = rw e; left = rw e }
 
   pub record-writes : {buf' : List ℕ} {next : ℕ} {r : AfterWrite} → callShape c x (length buf) ≡ Good

@@ -2,7 +2,7 @@
 --
 --   read-jobs      == the bytes of job records, after any others, are read as these jobs
 --   read-records   == the bytes of a map record and of job records are read as this map and these jobs
---   cells-read     == and the cells of that map are those of the record
+--   cells-read     == the cells of the map that is read are those of the record
 use Prim.Native.Nat.{ℕ, suc, _+_, _*_, _/_, _%_, _≤_, _<_}
 use mathlib.Core.Path.{_≡_, refl, sym, ap, _∙_}
 use mathlib.Core.Bool.{true}

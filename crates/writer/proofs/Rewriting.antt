@@ -3,7 +3,7 @@
 --   Rest k p t     == what holds of the bytes from place p on where t is read of them and job k is due there
 --   ReadCalls T e  == the calls T are in order, their numbers have the widths that the operations take, and their
 --                     records have the bytes of the stream up to place e
---   read-calls     == that is so of what is read of a stream of bytes
+--   read-calls     == `ReadCalls` of what is read of a stream of bytes
 use Prim.Native.Nat.{ℕ, zero, suc, _+_, _*_, _/_, _%_, _≤_, _<_}
 use mathlib.Core.Path.{_≡_, refl, sym, ap, ap₂, _∙_}
 use mathlib.Core.Logic.{⊎-elim}

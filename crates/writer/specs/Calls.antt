@@ -1,5 +1,5 @@
--- Request 11, "Write the input too": any calls on one buffer that nobody else writes, each taking the writer as the
--- last one left it; what was written; and what is read of a stream, as calls. That both round trips hold is proved in
+-- docs/RULES.md, 17.6 and 17.7: any calls on one buffer that nobody else writes, each taking the writer as the last one
+-- left it; what was written; and what is read of a stream, as calls. That both round trips hold is proved in
 -- proofs/RoundTrips.antt.
 --
 --   State             == a writer with the buffer that it writes

@@ -14,7 +14,6 @@ use Rattle.floor.specs.Floor.{bitAt}
 use Rattle.floor.specs.declared.Shape.the-variants.{Good}
 use Rattle.writer.specs.Writing.{mapShape}
 use Rattle.writer.specs.declared.Writer.{Writer}
-use Rattle.writer.specs.declared.Writing.the-variants.{Written}
 use Rattle.writer.specs.declared.AfterWrite.{AfterWrite}
 
 pub record MapFits (w h : ℕ) (l : List ℕ) (at : ℕ) (buf : List ℕ) : Type 0 where
@@ -25,4 +24,4 @@ abbrev pub cellByte : List ℕ → ℕ → ℕ
 cellByte l c = pick (bitAt l c) 1 0
 
 abbrev pub pastRecord : Writer → ℕ → AfterWrite
-pastRecord c next = record { writer = record { at = next; due = c .due + 1 }; answer = Written }
+pastRecord c next = record { writer = record { at = next; due = c .due + 1 }; answer = Good }

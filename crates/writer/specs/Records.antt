@@ -1,5 +1,5 @@
--- Request 11, "Write the input too": the bytes of records. The program's stream has one map record and then job records
--- (document 01, "The program"; what is read of it is records/specs/Format.antt).
+-- docs/RULES.md, 16.3 and 16.4: the bytes of records. The program's stream has one map record and then job records
+-- (what is read of it is records/specs/Format.antt).
 --
 --   Job                == the numbers of a job record: the neighbourhood, the start and the end
 --   jobOf nb a b       == a job by its numbers

@@ -1,4 +1,4 @@
--- Request 11, "Write the input too": what one call of the writer answers, and the writer and the buffer afterwards.
+-- docs/RULES.md, 17.2 to 17.5: what one call of the writer answers, and the writer and the buffer afterwards.
 --
 --   Call                == a call: a packed floor to be written by its sides and its map, or a job by its numbers
 --   callBytes x         == the bytes of the record that the call x writes; a map's are a byte to a cell
@@ -15,9 +15,7 @@
 --                          refusal as it was
 --   bufferLeft c x buf  == the buffer after the call: the record stands at the writer's place and all else is as it
 --                          was; at a refusal all of it is
---   writingOf s         == the answer for a shape
 --   Writes c x buf r b' == the promise of both operations: the answer r and the buffer b' afterwards, for every input
---   writingNumber a     == the papers' number of an answer: 0, or that of the refusal
 use Prim.Native.Nat.{ℕ, _+_}
 use mathlib.Core.Path.{_≡_}
 use mathlib.Core.Bool.{Bool, _&&_}
@@ -33,8 +31,6 @@ use Rattle.floor.specs.declared.Shape.the-variants.{Good, Refused}
 use Rattle.records.specs.Format.{mapSide}
 use Rattle.writer.specs.Records.{Job, mapBytes, jobBytes}
 use Rattle.writer.specs.declared.Writer.{Writer}
-use Rattle.writer.specs.declared.Writing.{Writing}
-use Rattle.writer.specs.declared.Writing.the-variants.{Written, Unwritten}
 use Rattle.writer.specs.declared.AfterWrite.{AfterWrite}
 
 pub data Call : Type 0 where
@@ -85,15 +81,7 @@ bufferLeft c x buf =
     leftBy (callShape c x (length buf))
     (take (c .at) buf ++ callBytes x ++ drop (c .at + length (callBytes x)) buf) buf
 
-abbrev pub writingOf : Shape → Writing
-writingOf Good = Written
-writingOf (Refused r) = Unwritten r
-
 pub record Writes (c : Writer) (x : Call) (buf : List ℕ) (r : AfterWrite) (buf' : List ℕ) : Type 0 where
-  pub answer : r .answer ≡ writingOf (callShape c x (length buf))
+  pub answer : r .answer ≡ callShape c x (length buf)
   pub writer : r .writer ≡ writerLeft c x (length buf)
   pub left : buf' ≡ bufferLeft c x buf
-
-abbrev pub writingNumber : Writing → ℕ
-writingNumber Written = 0
-writingNumber (Unwritten r) = refusalNumber r

@@ -8,7 +8,7 @@ ghost use Rattle.floor.specs.Floor.{floorOf, cellBytes};
 ghost use Rattle.records.specs.Known.{Written};
 ghost use Rattle.writer.specs.Records.{Job, jobOf, mapBytes, jobBytes};
 ghost use Rattle.writer.specs.Writing.{putMap, putJob, mapShape, roomShape, callShape, freshWriter};
-ghost use Rattle.writer.specs.Writing.{Writes, writingNumber};
+ghost use Rattle.writer.specs.Writing.{Writes};
 ghost use Rattle.writer.specs.Known.{MapFits, cellByte, pastRecord};
 use floor::Cell;
 use floor::Refusal;
@@ -23,26 +23,10 @@ pub struct Writer {
     pub due: usize,
 }
 
-// What a call answers.
-pub enum Writing {
-    Written,
-    Unwritten(Refusal),
-}
-
 // The writer after a call, with the answer.
 pub struct AfterWrite {
     pub writer: Writer,
-    pub answer: Writing,
-}
-
-// The papers' number of an answer.
-pub fn writing_number(w: Writing) -> u8
-    ensures { λ r. ⌜ r ≡ writingNumber w ⌝ }
-{
-    match w {
-        Writing::Written => 0,
-        Writing::Unwritten(r) => floor::refusal_number(r),
-    }
+    pub answer: Shape,
 }
 
 // Refusals 1 to 3 of a map, in order: a side that is not 1 to 31, the map's length, its unused bits.
@@ -173,7 +157,7 @@ fn past_record(writer: Writer, next: usize) -> AfterWrite
             at: next,
             due: writer.due + 1,
         },
-        answer: Writing::Written,
+        answer: Shape::Good,
     }
 }
 
@@ -193,7 +177,7 @@ impl Writer {
         match map_call_shape(self, w, h, map, buf.len()) {
             Shape::Refused(why) => AfterWrite {
                 writer: self,
-                answer: Writing::Unwritten(why),
+                answer: Shape::Refused(why),
             },
             Shape::Good => {
                 let next = put_map_record(buf, self.at, w, h, map);
@@ -209,7 +193,7 @@ impl Writer {
         match job_call_shape(self, buf.len()) {
             Shape::Refused(why) => AfterWrite {
                 writer: self,
-                answer: Writing::Unwritten(why),
+                answer: Shape::Refused(why),
             },
             Shape::Good => {
                 let next = put_job_record(buf, self.at, nb, a, b);

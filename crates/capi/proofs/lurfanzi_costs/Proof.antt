@@ -8,8 +8,8 @@ use Rattle.capi.proofs.lurfanzi_costs.Tie as tie
 fill-costs-requires : tie.Need-fill-costs-requires
 fill-costs-requires c κs = search needs
 
-costed-number-requires : tie.Need-costed-number-requires
-costed-number-requires c κs = search needs
+shape-number-requires : tie.Need-shape-number-requires
+shape-number-requires c κs = search needs
 
 same-length : tie.Need-same-length
 same-length c = search needs
@@ -19,8 +19,8 @@ same-length-2 c = search needs
 
 returns : tie.Need-returns
 returns c =
-    fills-to (c .before .before .before .before .before .fill-costs .ensures) (c .costed-number .ensures)
+    fills-to (c .before .before .before .before .before .fill-costs .ensures) (c .shape-number .ensures)
 
 pub lurfanzi-costs-spec : {M : Type 1} → statement M
 lurfanzi-costs-spec =
-    tie.close (tie.spec fill-costs-requires costed-number-requires same-length same-length-2 returns)
+    tie.close (tie.spec fill-costs-requires shape-number-requires same-length same-length-2 returns)

@@ -7,11 +7,11 @@ use Rattle.capi.proofs.lurfanzi_strike.Tie as tie
 strike-requires : tie.Need-strike-requires
 strike-requires c κs = search needs
 
-strike-number-requires : tie.Need-strike-number-requires
-strike-number-requires c κs = search needs
+shape-number-requires : tie.Need-shape-number-requires
+shape-number-requires c κs = search needs
 
 returns : tie.Need-returns
-returns c = strikes-to (c .before .strike .ensures) (c .strike-number .ensures)
+returns c = strikes-to (c .before .strike .ensures) (c .shape-number .ensures)
 
 pub lurfanzi-strike-spec : {M : Type 1} → statement M
-lurfanzi-strike-spec = tie.close (tie.spec strike-requires strike-number-requires returns)
+lurfanzi-strike-spec = tie.close (tie.spec strike-requires shape-number-requires returns)

@@ -8,15 +8,15 @@ use Rattle.capi.proofs.lurfanzi_working_map.Tie as tie
 working-map-requires : tie.Need-working-map-requires
 working-map-requires c κs = search needs
 
-work-number-requires : tie.Need-work-number-requires
-work-number-requires c κs = search needs
+shape-number-requires : tie.Need-shape-number-requires
+shape-number-requires c κs = search needs
 
 same-length : tie.Need-same-length
 same-length c = search needs
 
 returns : tie.Need-returns
-returns c = writes-to (c .before .before .before .working-map .ensures) (c .work-number .ensures)
+returns c = writes-to (c .before .before .before .working-map .ensures) (c .shape-number .ensures)
 
 pub lurfanzi-working-map-spec : {M : Type 1} → statement M
 lurfanzi-working-map-spec =
-    tie.close (tie.spec working-map-requires work-number-requires same-length returns)
+    tie.close (tie.spec working-map-requires shape-number-requires same-length returns)

@@ -7,7 +7,7 @@ use Rattle.paths.specs.Sheet.{Sheet, sheetOf}
 use Rattle.grid.specs.Grid.{floorGraph}
 use Rattle.checker.proofs.Exact.{noRoute-reached, noRoute-counted, noRoute-start, noRoute-vertices}
 use Rattle.checker.proofs.Exact.{vertices-uncounted}
-use Rattle.checker.proofs.Posed.{posed-uncounted}
+use Rattle.checker.proofs.CheckInput.{input-uncounted}
 use borrow.Author.Needs.{needs}
 use Rattle.checker.proofs.is_no_route.Statement.{statement}
 use Rattle.checker.proofs.is_no_route.Tie as tie
@@ -17,7 +17,7 @@ sheet s = sheetOf (s .args .d .now) (s .args .e .now) (s .args .f .now) (s .args
     (s .args .next .now) (s .args .n)
 
 abbrev graph : tie.Start → Graph
-graph s = floorGraph (floorOf (s .args .w) (s .args .h) (s .args .map .now)) (s .args .rows)
+graph s = floorGraph (floorOf (s .args .w) (s .args .h) (s .args .map .now)) (s .args .dirs)
 
 abbrev start : tie.Else1 → tie.Start
 start c = c .before .before .before .before .before .before .before .before .before
@@ -53,7 +53,7 @@ returns-3 c =
     (c .if3 .taken)
 
 vertices-right-requires : tie.Need-vertices-right-requires
-vertices-right-requires c κs = posed-uncounted (start (c .before .before .before) .pre)
+vertices-right-requires c κs = input-uncounted (start (c .before .before .before) .pre)
 
 returns-4 : tie.Need-returns-4
 returns-4 c =

@@ -20,7 +20,7 @@ use Rattle.checker.proofs.Exact.{route-unreached, route-start, route-en
 use Rattle.checker.proofs.Exact.{route-vertices, route-nexts, route-points, counts-fit, counts-lead}
 use Rattle.checker.proofs.Exact.{vertices-uncounted, nexts-alone, points-alone}
 use Rattle.checker.proofs.Leaving.{pinches-far}
-use Rattle.checker.proofs.Posed.{posed-uncounted, posed-chosen}
+use Rattle.checker.proofs.CheckInput.{input-uncounted, input-chosen}
 use borrow.Author.Needs.{needs}
 use Rattle.checker.proofs.is_route.Statement.{statement}
 use Rattle.checker.proofs.is_route.Tie as tie
@@ -30,7 +30,7 @@ sheet s = sheetOf (s .args .d .now) (s .args .e .now) (s .args .f .now) (s .args
     (s .args .next .now) (s .args .n)
 
 abbrev graph : tie.Start → Graph
-graph s = floorGraph (floorOf (s .args .w) (s .args .h) (s .args .map .now)) (s .args .rows)
+graph s = floorGraph (floorOf (s .args .w) (s .args .h) (s .args .map .now)) (s .args .dirs)
 
 abbrev start : tie.Else1 → tie.Start
 start c = c .before .before .before .before .before .before .before .before .before
@@ -87,7 +87,7 @@ returns-3 c =
     (c .if3 .taken)
 
 vertices-right-requires : tie.Need-vertices-right-requires
-vertices-right-requires c κs = posed-uncounted (start (c .before .before .before .before) .pre)
+vertices-right-requires c κs = input-uncounted (start (c .before .before .before .before) .pre)
 
 returns-4 : tie.Need-returns-4
 returns-4 c =
@@ -100,21 +100,21 @@ returns-4 c =
 -- where costs and counts are right
 chosen : (c : tie.Else4)
     → let a = start (first (c .before)) .args in
-    Choosable (a .w) (a .h) (a .map .now) (a .rows) (a .b .0)
+    Choosable (a .w) (a .h) (a .map .now) (a .dirs) (a .b .0)
     (chosenOf (a .d .now) (a .e .now) (a .f .now) (a .back .now) (a .next .now))
 chosen c =
     let v = c .before in
     let s = start (first v) in
-    let L = floor-lawful (floorOf (s .args .w) (s .args .h) (s .args .map .now)) (s .args .rows)
+    let L = floor-lawful (floorOf (s .args .w) (s .args .h) (s .args .map .now)) (s .args .dirs)
     (listed-lawful (s .pre .job .listed)) in
     record {
-      posed = posed-chosen (s .pre);
+      input = input-chosen (s .pre);
       counted = counts-fit (graph s) (s .args .a .0) (s .args .b .0) (sheet s) (near (first v))
           (v .before .before .before .if2 .left) (v .before .if3 .left) (vertices v) (c .if4 .left) L
           (s .pre .job .start-in) (s .pre .job .goal-in) (s .pre .shape)
           (omega (arith, first v .before .before .before .before .before .shared-slice-known4 .given (s .args .b .0)));
       pinches = pinches-far (s .pre .job) (sheet s) (sym (vertices v) ∙ not-false _ (c .if4 .left));
-      near = near (first v);
+      reached = near (first v);
       leads = counts-lead (graph s) (s .args .a .0) (s .args .b .0) (sheet s) (near (first v))
           (v .before .before .before .if2 .left) (v .before .if3 .left) (vertices v) (c .if4 .left) L
           (s .pre .job .start-in) (s .pre .job .goal-in);

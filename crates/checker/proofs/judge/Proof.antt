@@ -3,8 +3,8 @@ use Prim.Native.Nat.{_^_, _<_}
 use native.Mathlib.Omega.{arith}
 use Rattle.paths.specs.Local.{entry}
 use Rattle.paths.specs.Sheet.{sheetOf}
-use Rattle.checker.specs.Tests.{Posed}
-use Rattle.checker.proofs.Judged.{judged-unsized, judged-posed, judged-route, judged-noRoute, judged-false}
+use Rattle.checker.specs.Tests.{CheckInput}
+use Rattle.checker.proofs.Judged.{judged-unsized, judged-input, judged-route, judged-noRoute, judged-false}
 use borrow.Author.Needs.{needs}
 use Rattle.checker.proofs.judge.Statement.{statement}
 use Rattle.checker.proofs.judge.Tie as tie
@@ -12,13 +12,13 @@ use Rattle.checker.proofs.judge.Tie as tie
 abbrev start : tie.After-sheet-sized → tie.Start
 start c = c .before .before .before .before .before .before .before .before .before
 
-posed : (c : tie.Else1) → let a = start (c .before) .args in
-    Posed (a .w) (a .h) (a .map .now) (a .rows) (a .a .0) (a .b .0)
+input : (c : tie.Else1) → let a = start (c .before) .args in
+    CheckInput (a .w) (a .h) (a .map .now) (a .dirs) (a .a .0) (a .b .0)
     (sheetOf (a .d .now) (a .e .now) (a .f .now) (a .back .now) (a .route .now) (a .next .now) (a .n))
-posed c =
+input c =
     let z = c .before in
     let a = start z .args in
-    judged-posed (a .w) (a .h) (a .map .now) (a .rows) (a .a .0) (a .b .0) (a .d .now) (a .e .now) (a .f .now)
+    judged-input (a .w) (a .h) (a .map .now) (a .dirs) (a .a .0) (a .b .0) (a .d .now) (a .e .now) (a .f .now)
     (a .back .now) (a .route .now) (a .next .now)
     (a .n) (z .before .vertex-count .result) (z .before .vertex-count .ensures .0) (z .sheet-sized .ensures)
     (c .if1 .left) (start z .pre)
@@ -36,34 +36,34 @@ returns : tie.Need-returns
 returns c =
     let z = c .before in
     let a = start z .args in
-    judged-unsized (a .w) (a .h) (a .map .now) (a .rows) (a .a .0) (a .b .0) (a .d .now) (a .e .now) (a .f .now)
+    judged-unsized (a .w) (a .h) (a .map .now) (a .dirs) (a .a .0) (a .b .0) (a .d .now) (a .e .now) (a .f .now)
     (a .back .now) (a .route .now) (a .next .now)
     (a .n) (z .before .vertex-count .result) (z .before .vertex-count .ensures .0) (z .sheet-sized .ensures)
     (c .if1 .taken)
 
 is-route-requires : tie.Need-is-route-requires
-is-route-requires c κs = posed c
+is-route-requires c κs = input c
 
 returns-2 : tie.Need-returns-2
 returns-2 c =
     let r = c .before in
     let z = r .before .before in
     let a = start z .args in
-    judged-route (a .w) (a .h) (a .map .now) (a .rows) (a .a .0) (a .b .0) (a .d .now) (a .e .now) (a .f .now)
+    judged-route (a .w) (a .h) (a .map .now) (a .dirs) (a .a .0) (a .b .0) (a .d .now) (a .e .now) (a .f .now)
     (a .back .now) (a .route .now) (a .next .now)
     (a .n) (z .before .vertex-count .result) (z .before .vertex-count .ensures .0) (z .sheet-sized .ensures)
     (r .before .if1 .left)
     (start z .pre) (total z) (r .is-route .ensures) (c .if2 .taken)
 
 is-no-route-requires : tie.Need-is-no-route-requires
-is-no-route-requires c κs = posed (c .before .before)
+is-no-route-requires c κs = input (c .before .before)
 
 returns-3 : tie.Need-returns-3
 returns-3 c =
     let r = c .before .before .before in
     let z = r .before .before in
     let a = start z .args in
-    judged-noRoute (a .w) (a .h) (a .map .now) (a .rows) (a .a .0) (a .b .0) (a .d .now) (a .e .now) (a .f .now)
+    judged-noRoute (a .w) (a .h) (a .map .now) (a .dirs) (a .a .0) (a .b .0) (a .d .now) (a .e .now) (a .f .now)
     (a .back .now) (a .route .now) (a .next .now)
     (a .n) (z .before .vertex-count .result) (z .before .vertex-count .ensures .0) (z .sheet-sized .ensures)
     (r .before .if1 .left)
@@ -75,7 +75,7 @@ returns-4 c =
     let r = c .before .before .before in
     let z = r .before .before in
     let a = start z .args in
-    judged-false (a .w) (a .h) (a .map .now) (a .rows) (a .a .0) (a .b .0) (a .d .now) (a .e .now) (a .f .now)
+    judged-false (a .w) (a .h) (a .map .now) (a .dirs) (a .a .0) (a .b .0) (a .d .now) (a .e .now) (a .f .now)
     (a .back .now) (a .route .now) (a .next .now)
     (a .n) (z .before .vertex-count .result) (z .before .vertex-count .ensures .0) (z .sheet-sized .ensures)
     (r .before .if1 .left)

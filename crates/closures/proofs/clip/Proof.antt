@@ -7,23 +7,23 @@ use borrow.Author.Needs.{needs}
 use Rattle.closures.proofs.clip.Statement.{statement}
 use Rattle.closures.proofs.clip.Tie as tie
 
-lesser-requires : tie.Need-lesser-requires
-lesser-requires c κs = search needs
+min-requires : tie.Need-min-requires
+min-requires c κs = search needs
 
-lesser-requires-2 : tie.Need-lesser-requires-2
-lesser-requires-2 c κs = search needs
+min-requires-2 : tie.Need-min-requires-2
+min-requires-2 c κs = search needs
 
-sub-lesser : tie.Need-sub-lesser
-sub-lesser c = search needs
+sub-min : tie.Need-sub-min
+sub-min c = search needs
 
-lesser-requires-3 : tie.Need-lesser-requires-3
-lesser-requires-3 c κs = search needs
+min-requires-3 : tie.Need-min-requires-3
+min-requires-3 c κs = search needs
 
-sub-lesser-2 : tie.Need-sub-lesser-2
-sub-lesser-2 c = search needs
+sub-min-2 : tie.Need-sub-min-2
+sub-min-2 c = search needs
 
-lesser-requires-4 : tie.Need-lesser-requires-4
-lesser-requires-4 c κs = search needs
+min-requires-4 : tie.Need-min-requires-4
+min-requires-4 c κs = search needs
 
 -- The clipped rectangle, from its fields.
 clipped-fields : (w h : ℕ) (r : Rectangle) {left top columns rows : ℕ} → left ≡ min (r .column) w
@@ -37,17 +37,17 @@ returns c =
     let t = n .before in
     let l = t .before in
     let a = l .before .args in
-    clipped-fields (a .w) (a .h) (a .r) (l .lesser .ensures) (t .lesser2 .ensures) (n .lesser3 .ensures)
-    (c .lesser4 .ensures)
+    clipped-fields (a .w) (a .h) (a .r) (l .min .ensures) (t .min2 .ensures) (n .min3 .ensures)
+    (c .min4 .ensures)
 
 pub clip-spec : {M : Type 1} → statement M
 clip-spec =
     tie.close
     (tie.spec
-    lesser-requires
-    lesser-requires-2
-    sub-lesser
-    lesser-requires-3
-    sub-lesser-2
-    lesser-requires-4
+    min-requires
+    min-requires-2
+    sub-min
+    min-requires-3
+    sub-min-2
+    min-requires-4
     returns)

@@ -16,8 +16,8 @@ use Rattle.closures.specs.Table.{Strikes}
 use Rattle.closures.proofs.InPlace.{Change, Called, change-meets}
 use Rattle.closures.proofs.AfterStrike as D
 use Rattle.closures.proofs.AfterStrike.Laws as D′
-use Rattle.closures.proofs.Striking as P
-use Rattle.closures.proofs.Striking.Laws as P′
+use Rattle.floor.proofs.Shape as P
+use Rattle.floor.proofs.Shape.Laws as P′
 use Rattle.closures.proofs.struck.Symbol as struck-def
 use Rattle.closures.proofs.struck.Symbol.{name as #closures·struck}
 use Rattle.closures.proofs.struck.Met as struck-thm

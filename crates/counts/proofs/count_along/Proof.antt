@@ -14,10 +14,10 @@ use Rattle.counts.proofs.count_along.Statement.{statement}
 use Rattle.counts.proofs.count_along.Tie as tie
 
 abbrev Inv-loop : tie.InvT-loop
-Inv-loop rows shifts start d n rev work f₀ i₀ f i = Turning rows shifts start n rev d work i f
+Inv-loop dirs shifts start d n rev work f₀ i₀ f i = Turning dirs shifts start n rev d work i f
 
 abbrev μ-loop : tie.MeasureT-loop
-μ-loop rows shifts start d n rev work f₀ i₀ f i = n - i
+μ-loop dirs shifts start d n rev work f₀ i₀ f i = n - i
 
 -- The place where the function begins.
 abbrev start : tie.At-loop Inv-loop μ-loop → tie.Start Inv-loop μ-loop
@@ -52,7 +52,7 @@ counted : (c : tie.After-count-of Inv-loop μ-loop)
     let a = start l .args in
     let u = at .vertex-of-turn .result in
     c .count-of .result
-    ≡ sumOf (countOf (a .rows) (a .shifts .now) (maskAt (length (a .d .now)) (a .work .now) u) (a .start) (a .d .now)
+    ≡ sumOf (countOf (a .dirs) (a .shifts .now) (maskAt (length (a .d .now)) (a .work .now) u) (a .start) (a .d .now)
     (l .loop .f) u)
 counted c = rw (c .before .before .mask-at .ensures) at (c .count-of .ensures)
 

@@ -7,7 +7,7 @@ use Rattle.counts.proofs.count_of.Tie as tie
 returns : tie.Need-returns
 returns c =
     let a = c .before .before .before .before .args in
-    count-one (a .rows) (a .shifts .now) (a .mask) (a .start) (a .d .now) (a .f .now) (a .u) (c .if1 .taken)
+    count-one (a .dirs) (a .shifts .now) (a .mask) (a .start) (a .d .now) (a .f .now) (a .u) (c .if1 .taken)
 
 inflow-at-requires : tie.Need-inflow-at-requires
 inflow-at-requires c κs = search needs
@@ -15,7 +15,7 @@ inflow-at-requires c κs = search needs
 returns-2 : tie.Need-returns-2
 returns-2 c =
     let a = c .before .before .before .before .before .args in
-    count-sum (a .rows) (a .shifts .now) (a .mask) (a .start) (a .d .now) (a .f .now) (a .u) (c .before .if1 .left) _
+    count-sum (a .dirs) (a .shifts .now) (a .mask) (a .start) (a .d .now) (a .f .now) (a .u) (c .before .if1 .left) _
     (c .inflow-at .ensures)
 
 pub count-of-spec : {M : Type 1} → statement M

@@ -7,8 +7,8 @@ use lib.ListN.{length, length-replicate}
 use Rattle.basics.specs.Lists.{zeros}
 use Rattle.counts.specs.Passes.{Summed}
 use Rattle.counts.proofs.Filling.{
-  readied-kept,
-  readied-other,
+  input-kept,
+  input-other,
   passable-back,
   passable-forth,
   filled-both,
@@ -38,12 +38,12 @@ count-along-requires : tie.Need-count-along-requires
 count-along-requires c κs =
     let k = c .before .before .before .before in
     let p = start k .pre in
-    (readied-other (p .1) (readied-kept (k .keep-on-way .ensures) (p .0)), p .5 ∙ ap zeros (sym (p .1)))
+    (input-other (p .1) (input-kept (k .keep-on-way .ensures) (p .0)), p .5 ∙ ap zeros (sym (p .1)))
 
 count-along-requires-2 : tie.Need-count-along-requires-2
 count-along-requires-2 c κs =
     let k = kept (c .before .before .before .before .before) in
-    (readied-kept (k .keep-on-way .ensures) (start k .pre .0), start k .pre .4)
+    (input-kept (k .keep-on-way .ensures) (start k .pre .0), start k .pre .4)
 
 same-length : tie.Need-same-length
 same-length c = search needs

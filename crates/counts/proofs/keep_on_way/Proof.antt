@@ -5,13 +5,13 @@ use mathlib.Core.Path.{_≡_, ap, _∙_, subst}
 use native.Mathlib.Omega.{arith}
 use borrow.Author.Needs.{needs}
 use Rattle.basics.specs.Bounded.{pick}
-use Rattle.counts.specs.Passes.{evenAt, Filtered}
+use Rattle.counts.specs.Passes.{sumsTo, Filtered}
 use Rattle.counts.proofs.Keeping.{kept-none, kept-more, kept-all}
 use Rattle.counts.proofs.keep_on_way.Statement.{statement}
 use Rattle.counts.proofs.keep_on_way.Tie as tie
 
 abbrev Inv-loop : tie.InvT-loop
-Inv-loop whole n d e work₀ kept₀ i₀ work kept i = (i ≤ n) × Filtered (evenAt d e whole) i kept work₀ work
+Inv-loop whole n d e work₀ kept₀ i₀ work kept i = (i ≤ n) × Filtered (sumsTo d e whole) i kept work₀ work
 
 abbrev μ-loop : tie.MeasureT-loop
 μ-loop whole n d e work₀ kept₀ i₀ work kept i = n - i
@@ -30,8 +30,8 @@ copy-settled-requires c κs =
     let n = start l .pre .0 in
     (omega (arith, K .len), omega (arith, K .len, K .few))
 
-makes-up-requires : tie.Need-makes-up-requires Inv-loop μ-loop
-makes-up-requires c κs =
+sums-to-requires : tie.Need-sums-to-requires Inv-loop μ-loop
+sums-to-requires c κs =
     let k = c .before .before in
     let l = k .before .before .before in
     let p = start l .pre in
@@ -57,8 +57,8 @@ loop-again c =
     let k = m .before .before .before in
     let l = k .before .before .before in
     let a = start l .args in
-    let test = subst (λ u. m .makes-up .result ≡ evenAt (a .d .now) (a .e .now) (a .whole) u)
-    (k .copy-settled .ensures .0) (m .makes-up .ensures) in
+    let test = subst (λ u. m .sums-to .result ≡ sumsTo (a .d .now) (a .e .now) (a .whole) u)
+    (k .copy-settled .ensures .0) (m .sums-to .ensures) in
     let one = c .one-if .ensures .0 ∙ ap (λ b. pick b 1 0) test in (
       omega arith,
       rw (k .copy-settled .ensures .1)
@@ -79,7 +79,7 @@ keep-on-way-spec =
     μ-loop
     loop-holds
     copy-settled-requires
-    makes-up-requires
+    sums-to-requires
     one-if-requires
     add-kept
     add-i

@@ -16,12 +16,12 @@ use Rattle.given_costs.proofs.costs_true.Statement.{statement}
 use Rattle.given_costs.proofs.costs_true.Tie as tie
 
 abbrev Inv-loop : tie.InvT-loop
-Inv-loop w h map rows d a windows above₀ here₀ y₀ y-end above here y =
-    Passed (suc h) y (rowTest (leavingGraph (floorOf w h map) rows) a d w)
+Inv-loop w h map dirs d a windows above₀ here₀ y₀ y-end above here y =
+    Passed (suc h) y (rowTest (leavingGraph (floorOf w h map) dirs) a d w)
     × WindowRow (floorOf w h map) (y - 1) windows (suc w) above × WindowRow (floorOf w h map) y windows (suc w) here
 
 abbrev μ-loop : tie.MeasureT-loop
-μ-loop w h map rows d a windows above₀ here₀ y₀ y-end above here y = y-end - y
+μ-loop w h map dirs d a windows above₀ here₀ y₀ y-end above here y = y-end - y
 
 abbrev start : tie.After-window-masks Inv-loop μ-loop → tie.Start Inv-loop μ-loop
 start c = c .before .before .before .before .before

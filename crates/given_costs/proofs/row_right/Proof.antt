@@ -20,11 +20,11 @@ use Rattle.given_costs.proofs.row_right.Statement.{statement}
 use Rattle.given_costs.proofs.row_right.Tie as tie
 
 abbrev Inv-loop : tie.InvT-loop
-Inv-loop w h map rows a d y leaving shifts classes first right₀ x₀ x-end right x =
-    (right ≡ every x (columnTest (leavingGraph (floorOf w h map) rows) a d w y)) × (x ≤ w + 1)
+Inv-loop w h map dirs a d y leaving shifts classes first right₀ x₀ x-end right x =
+    (right ≡ every x (columnTest (leavingGraph (floorOf w h map) dirs) a d w y)) × (x ≤ w + 1)
 
 abbrev μ-loop : tie.MeasureT-loop
-μ-loop w h map rows a d y leaving shifts classes first right₀ x₀ x-end right x = x-end - x
+μ-loop w h map dirs a d y leaving shifts classes first right₀ x₀ x-end right x = x-end - x
 
 abbrev entered : tie.After-classes-of Inv-loop μ-loop → tie.Start Inv-loop μ-loop
 entered c = c .before .before .before .before
@@ -48,7 +48,7 @@ at-number c = let a = start c .args in ap (λ z. a .y * z + c .before .loop .x) 
 mask-of : (c : tie.In-loop Inv-loop μ-loop)
     → let a = start c .args in
     let x = c .before .loop .x in
-    Leaving (floorOf (a .w) (a .h) (a .map .now)) (a .rows) x (a .y) (getD (a .t7) x 0)
+    Leaving (floorOf (a .w) (a .h) (a .map .now)) (a .dirs) x (a .y) (getD (a .t7) x 0)
 mask-of c = start c .pre .3 .at _ (omega (arith, on-row c .column))
 
 shifts-of-requires : tie.Need-shifts-of-requires Inv-loop μ-loop

@@ -2,13 +2,13 @@
 -- mask. Assumes nothing.
 use native.Mathlib.Omega.{arith}
 use Rattle.paths.specs.Local.{entry}
-use Rattle.neighbours.proofs.Classed.{mask-near}
+use Rattle.neighbours.proofs.Classed.{classes-lent}
 use Rattle.given_costs.proofs.Tested.{vertex-tested}
 use Rattle.given_costs.proofs.vertex_right.Statement.{statement}
 use Rattle.given_costs.proofs.vertex_right.Tie as tie
 
 cost-right-requires : tie.Need-cost-right-requires
-cost-right-requires c κs = let p = c .before .before .pre in mask-near (p .1) _ _ _ (p .0)
+cost-right-requires c κs = let p = c .before .before .pre in classes-lent (p .1) _ _ _ (p .0)
 
 returns : tie.Need-returns
 returns c =

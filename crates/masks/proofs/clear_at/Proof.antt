@@ -45,7 +45,8 @@ returns : tie.Need-returns
 returns c =
     let s = c .before .before .before .before in
     let a = s .args in
-    rw add-one (past-skip (floorOf (a .w) (a .h) (a .map .now)) (tableOf (a .rows)) (table-listed (a .rows)) (a .x) (a .y) (s .pre .1 .column)
+    rw add-one (past-skip (floorOf (a .w) (a .h) (a .map .now)) (tableOf (a .dirs)) (table-listed (a .dirs)) (a .x)
+    (a .y) (s .pre .1 .column)
     (s .pre .1 .row) (table-within (s .pre .2)) (s .pre .3)
     (rw (← place s) (ne-eqb _ 1 (c .if1 .taken))))
 
@@ -62,7 +63,8 @@ returns-2 c =
     let b = c .before .before in
     let s = b .before .before .before .before .before .before in
     let a = s .args in
-    rw add-one (past-hit (floorOf (a .w) (a .h) (a .map .now)) (tableOf (a .rows)) (table-listed (a .rows)) (a .x) (a .y) (s .pre .1 .column)
+    rw add-one (past-hit (floorOf (a .w) (a .h) (a .map .now)) (tableOf (a .dirs)) (table-listed (a .dirs)) (a .x)
+    (a .y) (s .pre .1 .column)
     (s .pre .1 .row) (table-within (s .pre .2)) (s .pre .3)
     (rw (← place s) (eq-eqb _ 1 (b .before .before .if1 .left))) (b .clear-to .ensures))
 

@@ -1,5 +1,5 @@
--- `masks::clear_back` meets its contract: off the floor nothing is cleared, and of a vertex the bit of the row that leads
--- back. Assumes nothing.
+-- `masks::clear_back` meets its contract: off the floor nothing is cleared, and of a vertex the bit of the direction
+-- that leads back. Assumes nothing.
 use Prim.Native.Nat.{_<_}
 use mathlib.Core.Path.{_≡_, sym, ap, _∙_}
 use mathlib.Core.Option.{some}
@@ -7,12 +7,12 @@ use lib.ListN.{length}
 use native.Mathlib.Omega.{arith}
 use Rattle.floor.proofs.Numbers.{vertices-le}
 use Rattle.moves.specs.declared.Move.{Move}
-use Rattle.moves.specs.Moves.{rowAt}
+use Rattle.moves.specs.Moves.{dirAt}
 use Rattle.moves.specs.Steps.{farEndAt, stepOf}
 use Rattle.moves.specs.Table.{Short}
 use Rattle.moves.proofs.Signs.{back}
 use Rattle.moves.proofs.Table.{lawful-move, listed-lawful}
-use Rattle.masks.specs.Masks.{rowEndAt}
+use Rattle.masks.specs.Masks.{dirEndAt}
 use Rattle.masks.proofs.Clearing.{end-off, end-to, offsets-end, end-inside, move-off, move-cleared}
 use borrow.Author.Needs.{needs}
 use Rattle.masks.proofs.clear_back.Statement.{statement}
@@ -24,7 +24,8 @@ start c = c .before .before
 short : (c : tie.After-move-at) → Short (c .move-at .result)
 short c =
     let s = start c in
-    rw (c .move-at .ensures) (lawful-move (s .args .rows) (s .args .m) (listed-lawful (s .pre .1)) (s .pre .2) .is-short)
+    rw (c .move-at .ensures)
+    (lawful-move (s .args .dirs) (s .args .m) (listed-lawful (s .pre .1)) (s .pre .2) .is-short)
 
 move-at-requires : tie.Need-move-at-requires
 move-at-requires c κs = let s = c .before in (listed-lawful (s .pre .1), s .pre .2)
@@ -40,7 +41,7 @@ step-from-requires c κs =
 far : (c : tie.After-step-from)
     → let s = start (c .before .before .before) in
     c .step-from .result
-    ≡ stepOf (rowEndAt (s .args .w) (s .args .h) (s .args .x) (s .args .y) (rowAt (s .args .rows) (s .args .m)))
+    ≡ stepOf (dirEndAt (s .args .w) (s .args .h) (s .args .x) (s .args .y) (dirAt (s .args .dirs) (s .args .m)))
 far c =
     let m = c .before .before .before in
     let s = short m in
@@ -61,7 +62,7 @@ returns c = let u = c .before .before in move-off (end-off _ (sym (far u) ∙ c 
 -- It leads to a vertex of the floor.
 found : (c : tie.After-u)
     → let a = start (c .before .before .before .before .before) .args in
-    rowEndAt (a .w) (a .h) (a .x) (a .y) (rowAt (a .rows) (a .m)) ≡ some (c .u .given .0 .0 .0)
+    dirEndAt (a .w) (a .h) (a .x) (a .y) (dirAt (a .dirs) (a .m)) ≡ some (c .u .given .0 .0 .0)
 found c = end-to _ (c .u .given .0 .0) (sym (far (c .before .before)) ∙ c .u .given .1)
 
 below : (c : tie.After-u)
@@ -70,7 +71,7 @@ below : (c : tie.After-u)
 below c =
     let s = start (c .before .before .before .before .before) in
     let a = s .args in
-    rw (s .pre .3) (end-inside (a .w) (a .h) (a .x) (a .y) (rowAt (a .rows) (a .m)) _ (found c))
+    rw (s .pre .3) (end-inside (a .w) (a .h) (a .x) (a .y) (dirAt (a .dirs) (a .m)) _ (found c))
 
 mul-without : tie.Need-mul-without
 mul-without c = omega (arith, below (c .before))
@@ -78,8 +79,8 @@ mul-without c = omega (arith, below (c .before))
 slice-read-without : tie.Need-slice-read-without
 slice-read-without c = below (c .before .before)
 
-turned-row-requires : tie.Need-turned-row-requires
-turned-row-requires c κs = search needs
+turned-dir-requires : tie.Need-turned-dir-requires
+turned-dir-requires c κs = search needs
 
 without-requires : tie.Need-without-requires
 without-requires c κs = search needs
@@ -96,7 +97,7 @@ same-length c = search needs
 returns-2 : tie.Need-returns-2
 returns-2 c =
     let u = c .before .before .before .before in
-    move-cleared (found u) (below u) (rw (c .before .turned-row .ensures .0) at (c .without .ensures))
+    move-cleared (found u) (below u) (rw (c .before .turned-dir .ensures .0) at (c .without .ensures))
 
 pub clear-back-spec : {M : Type 1} → statement M
 clear-back-spec =
@@ -109,7 +110,7 @@ clear-back-spec =
     returns
     mul-without
     slice-read-without
-    turned-row-requires
+    turned-dir-requires
     without-requires
     mul-masks
     slice-write-masks

@@ -9,10 +9,10 @@ use Rattle.masks.proofs.clear_row.Statement.{statement}
 use Rattle.masks.proofs.clear_row.Tie as tie
 
 abbrev Inv-loop : tie.InvT-loop
-Inv-loop w h map rows y masks₀ x₀ x-end masks x = Cleared (floorOf w h map) rows (number w x y) masks × (x ≤ w + 1)
+Inv-loop w h map dirs y masks₀ x₀ x-end masks x = Cleared (floorOf w h map) dirs (number w x y) masks × (x ≤ w + 1)
 
 abbrev μ-loop : tie.MeasureT-loop
-μ-loop w h map rows y masks₀ x₀ x-end masks x = x-end - x
+μ-loop w h map dirs y masks₀ x₀ x-end masks x = x-end - x
 
 abbrev start : tie.At-loop Inv-loop μ-loop → tie.Start Inv-loop μ-loop
 start l = l .before .before .before

@@ -15,7 +15,7 @@ returns : tie.Need-returns
 returns c =
     let d = c .before .before in
     let t = d .before .before in
-    rw (table-sixteen (t .before .before .before .args .rows) (t .if1 .taken)) (d .clear-sixteen .ensures)
+    rw (table-sixteen (t .before .before .before .args .dirs) (t .if1 .taken)) (d .clear-sixteen .ensures)
 
 clear-eight-requires : tie.Need-clear-eight-requires
 clear-eight-requires c κs = search needs
@@ -27,7 +27,7 @@ returns-2 : tie.Need-returns-2
 returns-2 c =
     let d = c .before .before in
     let t = d .before .before in
-    rw (table-eight (t .before .before .before .args .rows) (t .if1 .left)) (d .clear-eight .ensures)
+    rw (table-eight (t .before .before .before .args .dirs) (t .if1 .left)) (d .clear-eight .ensures)
 
 pub clear-to-spec : {M : Type 1} → statement M
 clear-to-spec =

@@ -1,4 +1,4 @@
--- `masks::eight_open` meets its contract: the rows of the moves before m are gathered. Assumes nothing.
+-- `masks::eight_open` meets its contract: the directions of the moves before m are gathered. Assumes nothing.
 use Prim.Native.Nat.{ℕ, _-_, _^_, _≤_}
 use mathlib.Core.Path.{_≡_, ap₂, _∙_}
 use native.Mathlib.Omega.{arith}
@@ -6,8 +6,8 @@ use native.Mathlib.Numerals.{add-one}
 use Rattle.basics.specs.Bounded.{pick}
 use Rattle.basics.specs.Bits.{bit}
 use Rattle.moves.specs.declared.Move.{Move}
-use Rattle.moves.specs.Moves.{rowAt, moveAt}
-use Rattle.moves.specs.Table.{eightRows, Short}
+use Rattle.moves.specs.Moves.{dirAt, moveAt}
+use Rattle.moves.specs.Table.{eightDirs, Short}
 use Rattle.moves.proofs.Signs.{back}
 use Rattle.moves.proofs.Table.{LawfulMove, lawful-move, listed-lawful, eight-listed}
 use Rattle.masks.specs.Windows.{openIn}
@@ -17,13 +17,13 @@ use Rattle.masks.proofs.eight_open.Tie as tie
 
 abbrev Inv-loop : tie.InvT-loop
 Inv-loop b mask₀ m₀ mask m =
-    Gathered eightRows (λ m. openIn (moveAt eightRows m) (bit b 0) (bit b 1) (bit b 2) (bit b 3)) m mask × (m ≤ 8)
+    Gathered eightDirs (λ m. openIn (moveAt eightDirs m) (bit b 0) (bit b 1) (bit b 2) (bit b 3)) m mask × (m ≤ 8)
 
 abbrev μ-loop : tie.MeasureT-loop
 μ-loop b mask₀ m₀ mask m = 8 - m
 
-law : (c : tie.After-move-at Inv-loop μ-loop) → LawfulMove eightRows (c .before .before .loop .m)
-law c = lawful-move eightRows (c .before .before .loop .m) (listed-lawful eight-listed) (omega arith)
+law : (c : tie.After-move-at Inv-loop μ-loop) → LawfulMove eightDirs (c .before .before .loop .m)
+law c = lawful-move eightDirs (c .before .before .loop .m) (listed-lawful eight-listed) (omega arith)
 
 short : (c : tie.After-move-at Inv-loop μ-loop) → Short (c .move-at .result)
 short c = rw (c .move-at .ensures) (law c .is-short)
@@ -34,18 +34,18 @@ loop-holds c = (gathered-none, omega arith)
 move-at-requires : tie.Need-move-at-requires Inv-loop μ-loop
 move-at-requires c κs = (listed-lawful eight-listed, omega arith)
 
-row-at-requires : tie.Need-row-at-requires Inv-loop μ-loop
-row-at-requires c κs = (listed-lawful eight-listed, omega arith)
+dir-at-requires : tie.Need-dir-at-requires Inv-loop μ-loop
+dir-at-requires c κs = (listed-lawful eight-listed, omega arith)
 
-row-open-requires : tie.Need-row-open-requires Inv-loop μ-loop
-row-open-requires c κs =
+dir-open-requires : tie.Need-dir-open-requires Inv-loop μ-loop
+dir-open-requires c κs =
     let k = c .before .before in
     let t = k .before in
     let s = short t in
     rw (back (t .move-at .result .dx) (s .columns), back (t .move-at .result .dy) (s .rows)) (
       record { columns = s .columns; rows = s .rows },
       rw (t .move-at .ensures) (law t .is-narrow),
-      k .row-at .ensures .1,
+      k .dir-at .ensures .1,
       t .before .before .before .pre,
     )
 
@@ -62,11 +62,12 @@ loop-again c =
     let l = t .before .before in
     let b = l .before .args .b in
     let m = t .move-at .result in
-    let is : c .row-open .result
-    ≡ pick (openIn (moveAt eightRows (l .loop .m)) (bit b 0) (bit b 1) (bit b 2) (bit b 3)) (2 ^ rowAt eightRows (l .loop .m)) 0 =
-    rw (back (m .dx) (short t .columns), back (m .dy) (short t .rows)) at (c .row-open .ensures)
+    let is : c .dir-open .result
+    ≡ pick (openIn (moveAt eightDirs (l .loop .m)) (bit b 0) (bit b 1) (bit b 2) (bit b 3))
+    (2 ^ dirAt eightDirs (l .loop .m)) 0 =
+    rw (back (m .dx) (short t .columns), back (m .dy) (short t .rows)) at (c .dir-open .ensures)
     ∙ ap₂ (λ (m : Move) (n : ℕ). pick (openIn m (bit b 0) (bit b 1) (bit b 2) (bit b 3)) (2 ^ n) 0) (t .move-at .ensures)
-    (k .row-at .ensures .0) in
+    (k .dir-at .ensures .0) in
     (rw add-one (gathered-more (l .loop .inv .0) is), omega arith)
 
 returns : tie.Need-returns Inv-loop μ-loop
@@ -83,8 +84,8 @@ eight-open-spec =
     μ-loop
     loop-holds
     move-at-requires
-    row-at-requires
-    row-open-requires
+    dir-at-requires
+    dir-open-requires
     add-m
     loop-less
     loop-again

@@ -12,12 +12,12 @@ use Rattle.masks.proofs.fill_leaving.Statement.{statement}
 use Rattle.masks.proofs.fill_leaving.Tie as tie
 
 abbrev Inv-loop : tie.InvT-loop
-Inv-loop w h map rows windows masks₀ above₀ here₀ y₀ y-end masks above here y =
-    LeavingTo (floorOf w h map) rows (number w 0 y) masks × WindowRow (floorOf w h map) (y - 1) windows (suc w) above
+Inv-loop w h map dirs windows masks₀ above₀ here₀ y₀ y-end masks above here y =
+    LeavingTo (floorOf w h map) dirs (number w 0 y) masks × WindowRow (floorOf w h map) (y - 1) windows (suc w) above
     × WindowRow (floorOf w h map) y windows (suc w) here × (y ≤ h + 1)
 
 abbrev μ-loop : tie.MeasureT-loop
-μ-loop w h map rows windows masks₀ above₀ here₀ y₀ y-end masks above here y = y-end - y
+μ-loop w h map dirs windows masks₀ above₀ here₀ y₀ y-end masks above here y = y-end - y
 
 abbrev start : tie.At-loop Inv-loop μ-loop → tie.Start Inv-loop μ-loop
 start l = l .before .before .before .before

@@ -11,10 +11,10 @@ use Rattle.masks.proofs.fill_masks.Statement.{statement}
 use Rattle.masks.proofs.fill_masks.Tie as tie
 
 abbrev Inv-loop : tie.InvT-loop
-Inv-loop w h map rows masks₀ y₀ y-end masks y = Cleared (floorOf w h map) rows (number w 0 y) masks × (y ≤ h + 1)
+Inv-loop w h map dirs masks₀ y₀ y-end masks y = Cleared (floorOf w h map) dirs (number w 0 y) masks × (y ≤ h + 1)
 
 abbrev μ-loop : tie.MeasureT-loop
-μ-loop w h map rows masks₀ y₀ y-end masks y = y-end - y
+μ-loop w h map dirs masks₀ y₀ y-end masks y = y-end - y
 
 abbrev start : tie.At-loop Inv-loop μ-loop → tie.Start Inv-loop μ-loop
 start l = l .before .before .before .before .before .before .before .before
@@ -35,7 +35,8 @@ loop-holds c =
     let s = c .before .before .before .before .before .before .before in
     let a = s .args in
     let zero : number (a .w) 0 0 ≡ 0 = omega arith in (
-      rw zero (cleared-none (floorOf (a .w) (a .h) (a .map .now)) (a .rows) (s .pre .1) (c .before .before .fill-leaving .ensures)),
+      rw zero (cleared-none (floorOf (a .w) (a .h) (a .map .now)) (a .dirs) (s .pre .1)
+          (c .before .before .fill-leaving .ensures)),
       omega arith,
     )
 
@@ -61,7 +62,8 @@ returns c =
     let l = c .before in
     let a = start l .args in
     let end : l .loop .y ≡ suc (a .h) = omega (arith, l .loop .inv .1) in
-    cleared-all (floorOf (a .w) (a .h) (a .map .now)) (a .rows) (start l .pre .1) (omega (arith, ap (λ z. z * suc (a .w)) end)) (l .loop .inv .0)
+    cleared-all (floorOf (a .w) (a .h) (a .map .now)) (a .dirs) (start l .pre .1)
+    (omega (arith, ap (λ z. z * suc (a .w)) end)) (l .loop .inv .0)
 
 pub fill-masks-spec : {M : Type 1} → statement M
 fill-masks-spec =

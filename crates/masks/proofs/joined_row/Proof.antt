@@ -6,7 +6,7 @@ use native.Mathlib.Omega.{arith}
 use native.Mathlib.Numerals.{add-one}
 use lib.ListN.{getD}
 use Rattle.floor.specs.Floor.{floorOf}
-use Rattle.moves.specs.Table.{sixteenRows}
+use Rattle.moves.specs.Table.{sixteenDirs}
 use Rattle.masks.specs.Masks.{LeavingRow}
 use Rattle.masks.specs.Windows.{windowAt}
 use Rattle.masks.proofs.Masks.{row-none, row-more}
@@ -17,7 +17,8 @@ use Rattle.masks.proofs.joined_row.Tie as tie
 
 abbrev Inv-loop : tie.InvT-loop
 Inv-loop w h map y windows above here below masks₀ before₀ x₀ masks before x =
-    LeavingRow (floorOf w h map) sixteenRows y x masks × (before ≡ getD windows (windowAt (floorOf w h map) (x - 1) y) 0)
+    LeavingRow (floorOf w h map) sixteenDirs y x masks ×
+    (before ≡ getD windows (windowAt (floorOf w h map) (x - 1) y) 0)
     × (x ≤ w)
 
 abbrev μ-loop : tie.MeasureT-loop

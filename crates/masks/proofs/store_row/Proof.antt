@@ -1,5 +1,5 @@
 -- `masks::store_row` meets its contract: the masks of the vertices before column x of the row are stored, of whatever
--- rows they are. Assumes nothing.
+-- directions they are. Assumes nothing.
 use Prim.Native.Nat.{suc, _+_, _-_, _*_, _≤_, _<_}
 use mathlib.Core.Path.{_≡_, sym, ap, _∙_}
 use native.Mathlib.Omega.{arith}
@@ -8,7 +8,7 @@ use native.Mathlib.Nat.{mul-le-mul}
 use native.Mathlib.Numerals.{add-one}
 use Rattle.floor.specs.Floor.{floorOf, vertices, number}
 use Rattle.floor.proofs.Numbers.{number-lt, vertices-le}
-use Rattle.moves.specs.declared.Rows.{Rows}
+use Rattle.moves.specs.declared.Directions.{Directions}
 use Rattle.masks.specs.Masks.{LeavingRow, LeavingTo}
 use Rattle.masks.proofs.Masks.{leaving-more, leaving-fewer}
 use Rattle.masks.proofs.store_row.Statement.{statement}
@@ -16,7 +16,8 @@ use Rattle.masks.proofs.store_row.Tie as tie
 
 abbrev Inv-loop : tie.InvT-loop
 Inv-loop w h map y masks₀ leaving first x₀ x-end masks x =
-    ((r : Rows) → LeavingTo (floorOf w h map) r (number w 0 y) masks₀ → LeavingRow (floorOf w h map) r y (suc w) leaving
+    ((r : Directions) → LeavingTo (floorOf w h map) r (number w 0 y) masks₀ → LeavingRow (floorOf w h map) r y
+    (suc w) leaving
     → LeavingTo (floorOf w h map) r (number w x y) masks) × (length masks ≡ vertices w h) × (x ≤ w + 1)
 
 abbrev μ-loop : tie.MeasureT-loop
@@ -99,7 +100,7 @@ returns c =
     let a = start l .args in
     let next : number (a .w) (a .w + 1) (a .y) ≡ number (a .w) 0 (a .y + 1) =
     sym (ap (λ z. z * suc (a .w) + 0) (add-one (a .y)) ∙ omega arith) in
-    leaving-fewer (l .loop .inv .0 (a .rows) (start l .pre .3) (start l .pre .2)) (omega (arith, next))
+    leaving-fewer (l .loop .inv .0 (a .dirs) (start l .pre .3) (start l .pre .2)) (omega (arith, next))
 
 pub store-row-spec : {M : Type 1} → statement M
 store-row-spec =

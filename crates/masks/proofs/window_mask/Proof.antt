@@ -1,5 +1,5 @@
--- `masks::window_mask` meets its contract: the mask is that of a pinch, or that of the table that has the rows. Assumes
--- nothing.
+-- `masks::window_mask` meets its contract: the mask is that of a pinch, or that of the table that has the directions.
+-- Assumes nothing.
 use mathlib.Core.Path.{_≡_, sym, _∙_}
 use mathlib.Core.Bool.{false}
 use Rattle.basics.specs.Bits.{bit}
@@ -42,7 +42,8 @@ returns-2 : tie.Need-returns-2
 returns-2 c =
     let t = c .before in
     let s = start (t .before .before .before) in
-    window-within (rw (table-sixteen (s .args .rows) (t .if2 .taken)) at (table-within (s .pre))) (c .sixteen-open .ensures)
+    window-within (rw (table-sixteen (s .args .dirs) (t .if2 .taken)) at (table-within (s .pre)))
+    (c .sixteen-open .ensures)
 
 eight-open-requires : tie.Need-eight-open-requires
 eight-open-requires c κs = free (c .before .before)
@@ -51,7 +52,7 @@ returns-3 : tie.Need-returns-3
 returns-3 c =
     let t = c .before in
     let s = start (t .before .before .before) in
-    window-within (rw (table-eight (s .args .rows) (t .if2 .left)) at (table-within (s .pre))) (c .eight-open .ensures)
+    window-within (rw (table-eight (s .args .dirs) (t .if2 .left)) at (table-within (s .pre))) (c .eight-open .ensures)
 
 pub window-mask-spec : {M : Type 1} → statement M
 window-mask-spec =

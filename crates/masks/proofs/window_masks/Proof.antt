@@ -10,10 +10,10 @@ use Rattle.masks.proofs.window_masks.Statement.{statement}
 use Rattle.masks.proofs.window_masks.Tie as tie
 
 abbrev Inv-loop : tie.InvT-loop
-Inv-loop rows masks₀ b₀ masks b = WindowsTo rows b masks × (b ≤ 16)
+Inv-loop dirs masks₀ b₀ masks b = WindowsTo dirs b masks × (b ≤ 16)
 
 abbrev μ-loop : tie.MeasureT-loop
-μ-loop rows masks₀ b₀ masks b = 16 - b
+μ-loop dirs masks₀ b₀ masks b = 16 - b
 
 loop-holds : tie.Need-loop-holds Inv-loop μ-loop
 loop-holds c = (windows-none refl, omega arith)

@@ -3,7 +3,7 @@ use mathlib.Core.Path.{ap, _∙_}
 use lib.Bits.{bitAnd, bitXor}
 use Rattle.basics.specs.Bits.{bit}
 use Rattle.basics.proofs.Bits.{without-bit}
-use Rattle.masks.proofs.Windows.{row-shifted}
+use Rattle.masks.proofs.Windows.{dir-shifted}
 use borrow.Author.Needs.{needs}
 use Rattle.masks.proofs.without.Statement.{statement}
 use Rattle.masks.proofs.without.Tie as tie
@@ -17,7 +17,7 @@ shl-bit c = search needs
 returns : tie.Need-returns
 returns c = record {
   at = λ j.
-      ap (λ b. bit (bitXor (c .args .mask) (bitAnd (c .args .mask) b)) j) (row-shifted (c .args .k) (c .pre))
+      ap (λ b. bit (bitXor (c .args .mask) (bitAnd (c .args .mask) b)) j) (dir-shifted (c .args .k) (c .pre))
       ∙ without-bit (c .args .mask) (c .args .k) j;
 }
 

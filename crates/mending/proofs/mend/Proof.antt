@@ -1,33 +1,33 @@
 -- `mending::mend` meets its contract: an input of bad shape is refused, and any other sheet is mended. Assumes nothing.
 use mathlib.Core.Path.{refl, sym, _∙_}
-use Rattle.mending.proofs.Shaped.{job-mendable, mends-unfit, mends-fit}
+use Rattle.mending.proofs.Shaped.{job-mendable, mends-refused, mends-fit}
 use borrow.Author.Needs.{needs}
 use Rattle.mending.proofs.mend.Statement.{statement}
 use Rattle.mending.proofs.mend.Tie as tie
 
 -- The places: where the job is fit, and the call that mends the sheet.
-abbrev fit : tie.After-mend-sheet-arg7 → tie.After-job2
+abbrev fit : tie.After-mend-sheet-arg7 → tie.After-shape2
 fit c = c .before .before .before .before .before .before .before .before
 
 abbrev mended : tie.After-work → tie.After-mend-sheet
 mended c = c .before .before .before .before .before .before .before .before .before .before .before .before .before
 
-mend-job-requires : tie.Need-mend-job-requires
-mend-job-requires c κs = search needs
+mend-shape-requires : tie.Need-mend-shape-requires
+mend-shape-requires c κs = search needs
 
-enum-known-job : tie.Need-enum-known-job
-enum-known-job c = search needs
+enum-known-shape : tie.Need-enum-known-shape
+enum-known-shape c = search needs
 
-enum-known-job-2 : tie.Need-enum-known-job-2
-enum-known-job-2 c = search needs
+enum-known-shape-2 : tie.Need-enum-known-shape-2
+enum-known-shape-2 c = search needs
 
 mend-sheet-requires : tie.Need-mend-sheet-requires
 mend-sheet-requires c κs =
     let j = fit c in
-    job-mendable _ _ _ _ _ _ _ _ _ (sym (j .before .before .mend-job .ensures) ∙ j .job2 .given .1)
+    job-mendable _ _ _ _ _ _ _ _ _ (sym (j .before .before .mend-shape .ensures) ∙ j .shape2 .given .1)
 
 returns : tie.Need-returns
-returns c = let j = c .before in mends-unfit (j .before .before .mend-job .ensures) (j .job .given .1) refl
+returns c = let j = c .before in mends-refused (j .before .before .mend-shape .ensures) (j .shape .given .1) refl
 
 same-length : tie.Need-same-length
 same-length c = mended (c .before) .mend-sheet .kept .1 .1 .1 .1 .1 .1 .1 .1 .1 .1 .1 .1 .0
@@ -54,15 +54,15 @@ returns-2 : tie.Need-returns-2
 returns-2 c =
     let done = mended (c .before) in
     let j = fit (done .before) in
-    mends-fit (j .before .before .mend-job .ensures) (j .job2 .given .1) (done .mend-sheet .ensures)
+    mends-fit (j .before .before .mend-shape .ensures) (j .shape2 .given .1) (done .mend-sheet .ensures)
 
 pub mend-spec : {M : Type 1} → statement M
 mend-spec =
     tie.close
     (tie.spec
-    mend-job-requires
-    enum-known-job
-    enum-known-job-2
+    mend-shape-requires
+    enum-known-shape
+    enum-known-shape-2
     mend-sheet-requires
     returns
     same-length

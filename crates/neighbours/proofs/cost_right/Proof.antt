@@ -36,8 +36,8 @@ least-two-requires-2 : tie.Need-least-two-requires-2
 least-two-requires-2 c κs =
     let p = start (c .before .before .before) .pre in (p .class 2 (omega arith), p .class 3 (omega arith))
 
-lesser-requires : tie.Need-lesser-requires
-lesser-requires c κs = search needs
+min-requires : tie.Need-min-requires
+min-requires c κs = search needs
 
 -- the least of all, where the ways meet
 least : (c : tie.Joined1)
@@ -69,6 +69,6 @@ cost-right-spec =
     array-copy-out-least-two-3
     array-copy-out-least-two-4
     least-two-requires-2
-    lesser-requires
+    min-requires
     right-by-requires
     returns)

@@ -7,8 +7,8 @@ use native.Mathlib.Omega.{arith}
 use borrow.Author.Tests.{not-true, not-false}
 use borrow.Author.Needs.{needs}
 use Rattle.paths.specs.Local.{entry}
-use Rattle.neighbours.specs.Least.{leastFirst, leastAt, rightNear}
-use Rattle.neighbours.proofs.Least.{lesser-found, by-two, by-four, right-found}
+use Rattle.neighbours.specs.Least.{leastFirst, leastAt, rightLeast}
+use Rattle.neighbours.proofs.Least.{min-found, by-two, by-four, right-found}
 use Rattle.neighbours.proofs.costs_right.Statement.{statement}
 use Rattle.neighbours.proofs.costs_right.Tie as tie
 
@@ -40,17 +40,17 @@ least-by-requires-4 c κs =
     let p = c .before .before .before .before .before .before .before .before .before .before .pre in
     rw (p .1) (p .0 .class 1 (omega arith))
 
-lesser-requires : tie.Need-lesser-requires
-lesser-requires c κs = search needs
+min-requires : tie.Need-min-requires
+min-requires c κs = search needs
 
-lesser-requires-2 : tie.Need-lesser-requires-2
-lesser-requires-2 c κs = search needs
+min-requires-2 : tie.Need-min-requires-2
+min-requires-2 c κs = search needs
 
 element-copy-out-if1 : tie.Need-element-copy-out-if1
 element-copy-out-if1 c = search needs
 
 -- where the code has the least of the first two classes for both costs, and where it began
-abbrev start : tie.After-lesser2 → tie.Start
+abbrev start : tie.After-min2 → tie.Start
 start c = c .before .before .before .before .before .before .before .before .before .before .before .before .before
 
 -- the last two classes
@@ -81,35 +81,35 @@ least-by-requires-8 c κs =
     let p = start (c .before .before .before .before .before .before .before .before) .pre in
     rw (p .1) (p .0 .class 3 (omega arith))
 
-lesser-requires-3 : tie.Need-lesser-requires-3
-lesser-requires-3 c κs = search needs
+min-requires-3 : tie.Need-min-requires-3
+min-requires-3 c κs = search needs
 
-lesser-requires-4 : tie.Need-lesser-requires-4
-lesser-requires-4 c κs = search needs
+min-requires-4 : tie.Need-min-requires-4
+min-requires-4 c κs = search needs
 
-lesser-requires-5 : tie.Need-lesser-requires-5
-lesser-requires-5 c κs = search needs
+min-requires-5 : tie.Need-min-requires-5
+min-requires-5 c κs = search needs
 
-lesser-requires-6 : tie.Need-lesser-requires-6
-lesser-requires-6 c κs = search needs
+min-requires-6 : tie.Need-min-requires-6
+min-requires-6 c κs = search needs
 
 -- the least by the first two classes, and by all, of the costs l
-abbrev first : tie.After-lesser2 → List ℕ → ℕ
+abbrev first : tie.After-min2 → List ℕ → ℕ
 first c l = let a = start c .args in leastFirst (a .shifts .now) (a .t2) (a .mask) (entry l) (a .v)
 
-abbrev least : tie.After-lesser2 → List ℕ → ℕ
+abbrev least : tie.After-min2 → List ℕ → ℕ
 least c l = let a = start c .args in leastAt (a .shifts .now) (a .t2) (a .mask) (entry l) (a .v)
 
-d-first : (c : tie.After-lesser2) → c .before .lesser .result ≡ first c (start c .args .d .now)
+d-first : (c : tie.After-min2) → c .before .min .result ≡ first c (start c .args .d .now)
 d-first c =
     let z = c .before .before .before .before in
-    lesser-found (z .before .before .before .before .least-by .ensures) (z .least-by3 .ensures)
-    (c .before .lesser .ensures)
+    min-found (z .before .before .before .before .least-by .ensures) (z .least-by3 .ensures)
+    (c .before .min .ensures)
 
-e-first : (c : tie.After-lesser2) → c .lesser2 .result ≡ first c (start c .args .e .now)
+e-first : (c : tie.After-min2) → c .min2 .result ≡ first c (start c .args .e .now)
 e-first c =
     let u = c .before .before in
-    lesser-found (u .before .before .before .before .least-by2 .ensures) (u .least-by4 .ensures) (c .lesser2 .ensures)
+    min-found (u .before .before .before .before .least-by2 .ensures) (u .least-by4 .ensures) (c .min2 .ensures)
 
 -- the least of all, where the ways meet
 d-least : (c : tie.Joined1) → c .if1 .d-least ≡ least (c .before) (start (c .before) .args .d .now)
@@ -118,7 +118,7 @@ d-least c =
     let a = start o .args in
     ⊎-elim
     (λ w. w .13 ∙ by-four (a .shifts .now) (a .t2) (a .mask) (entry (a .d .now)) (a .v) (w .0 .taken) (d-first o)
-    (lesser-found (w .2 .ensures) (w .6 .ensures) (w .9 .ensures)) (w .10 .ensures))
+    (min-found (w .2 .ensures) (w .6 .ensures) (w .9 .ensures)) (w .10 .ensures))
     (λ w. w .1 ∙ by-two (a .shifts .now) (a .t2) (a .mask) (entry (a .d .now)) (a .v) (w .0 .left) (d-first o))
     (c .if1 .came)
 
@@ -128,7 +128,7 @@ e-least c =
     let a = start o .args in
     ⊎-elim
     (λ w. w .14 ∙ by-four (a .shifts .now) (a .t2) (a .mask) (entry (a .e .now)) (a .v) (w .0 .taken) (e-first o)
-    (lesser-found (w .4 .ensures) (w .8 .ensures) (w .11 .ensures)) (w .12 .ensures))
+    (min-found (w .4 .ensures) (w .8 .ensures) (w .11 .ensures)) (w .12 .ensures))
     (λ w. w .2 ∙ by-two (a .shifts .now) (a .t2) (a .mask) (entry (a .e .now)) (a .v) (w .0 .left) (e-first o))
     (c .if1 .came)
 
@@ -138,7 +138,7 @@ right-by-requires c κs = search needs
 -- the test of d(v), as the code answers it
 d-right : (c : tie.After-right-by)
     → let a = start (c .before .before) .args in
-    c .right-by .result ≡ rightNear (a .shifts .now) (a .t2) (a .mask) (a .a) (entry (a .d .now)) (a .v)
+    c .right-by .result ≡ rightLeast (a .shifts .now) (a .t2) (a .mask) (a .a) (entry (a .d .now)) (a .v)
 d-right c = right-found _ _ _ (d-least (c .before)) (c .right-by .ensures)
 
 returns : tie.Need-returns
@@ -165,8 +165,8 @@ costs-right-spec =
     least-by-requires-3
     array-copy-out-least-by-4
     least-by-requires-4
-    lesser-requires
-    lesser-requires-2
+    min-requires
+    min-requires-2
     element-copy-out-if1
     array-copy-out-least-by-5
     least-by-requires-5
@@ -176,10 +176,10 @@ costs-right-spec =
     least-by-requires-7
     array-copy-out-least-by-8
     least-by-requires-8
-    lesser-requires-3
-    lesser-requires-4
-    lesser-requires-5
-    lesser-requires-6
+    min-requires-3
+    min-requires-4
+    min-requires-5
+    min-requires-6
     right-by-requires
     returns
     right-by-requires-2

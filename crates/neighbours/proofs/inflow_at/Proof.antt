@@ -13,16 +13,16 @@ use Rattle.neighbours.proofs.inflow_at.Statement.{statement}
 use Rattle.neighbours.proofs.inflow_at.Tie as tie
 
 abbrev Inv-loop : tie.InvT-loop
-Inv-loop rows shifts mask d f v here s₀ m₀ m-end s m =
-    (m-end ≡ rows .count) × SumScan (maskGraph (length d) rows shifts mask) (entry d) (entry f) v m s
+Inv-loop dirs shifts mask d f v here s₀ m₀ m-end s m =
+    (m-end ≡ dirs .count) × SumScan (maskGraph (length d) dirs shifts mask) (entry d) (entry f) v m s
 
 abbrev μ-loop : tie.MeasureT-loop
-μ-loop rows shifts mask d f v here s₀ m₀ m-end s m = rows .count - m
+μ-loop dirs shifts mask d f v here s₀ m₀ m-end s m = dirs .count - m
 
 abbrev start : tie.In-loop Inv-loop μ-loop → tie.Start Inv-loop μ-loop
 start c = c .before .before .before .before .before .before
 
-turn : (c : tie.In-loop Inv-loop μ-loop) → c .before .loop .m < start c .args .rows .count
+turn : (c : tie.In-loop Inv-loop μ-loop) → c .before .loop .m < start c .args .dirs .count
 turn c = omega (arith, c .before .loop .inv .0)
 
 -- the turn of the loop in which a far end is known
@@ -32,7 +32,7 @@ turn-of c = c .before .before .before .before
 -- the far end of the move, once it is known to be there
 goes : (c : tie.After-known-told Inv-loop μ-loop)
     → let a = start (turn-of c) .args in
-    readStep (a .rows) (a .shifts .now) (a .mask) (a .v) (turn-of c .before .loop .m) ≡ some
+    readStep (a .dirs) (a .shifts .now) (a .mask) (a .v) (turn-of c .before .loop .m) ≡ some
     (c .before .w .given .0 .0 .0)
 goes c = end-at _ _ (sym (c .before .before .before .far-end .ensures) ∙ c .before .w .given .1)
 

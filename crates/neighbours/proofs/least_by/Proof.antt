@@ -1,5 +1,5 @@
 -- `neighbours::least_by` meets its contract: the least of the far ends passed. Assumes nothing.
-use Prim.Native.Nat.{ℕ, _+_, _-_, _≤_}
+use Prim.Native.Nat.{ℕ, _+_, _-_, _≤_, min}
 use mathlib.Core.Path.{_≡_, refl, ap, ap₂, _∙_}
 use mathlib.Core.List.{List}
 use native.Mathlib.Omega.{arith}
@@ -8,15 +8,15 @@ use borrow.Author.Tests.{eq-eqb, ne-eqb}
 use borrow.Author.Needs.{needs}
 use lib.ListN.{length}
 use Rattle.offsets.specs.declared.Class.{Class}
-use Rattle.offsets.specs.Classes.{classRow}
+use Rattle.offsets.specs.Classes.{classDir}
 use Rattle.paths.specs.Local.{entry}
-use Rattle.neighbours.specs.Least.{lesserOf, leastOf, endAt, leastBy, RowLent}
+use Rattle.neighbours.specs.Least.{leastOf, endAt, leastBy, DirLent}
 use Rattle.neighbours.proofs.Least.{least-is}
 use Rattle.neighbours.proofs.least_by.Statement.{statement}
 use Rattle.neighbours.proofs.least_by.Tie as tie
 
 abbrev ends : List ℕ → Class → ℕ → List ℕ → ℕ → ℕ → ℕ
-ends shifts class mask d v j = entry d (endAt shifts mask v (classRow class j))
+ends shifts class mask d v j = entry d (endAt shifts mask v (classDir class j))
 
 abbrev Inv-loop : tie.InvT-loop
 Inv-loop shifts class mask d v least₀ j₀ least j = (least ≡ leastOf (ends shifts class mask d v) j) × (j ≤ 4)
@@ -34,8 +34,8 @@ ends-of l = let a = start l .args in ends (a .shifts .now) (a .class) (a .mask) 
 -- the class has a move, so its far ends can be read
 lent : (c : tie.In-loop Inv-loop μ-loop)
     → let l = c .before in let a = start l .args in
-    RowLent (length (a .d .now)) (a .shifts .now) (a .mask) (a .v) (classRow (a .class) (l .loop .j))
-lent c = let l = c .before in start l .pre .row (omega (arith, l .before .if1 .left)) (l .loop .j) (omega arith)
+    DirLent (length (a .d .now)) (a .shifts .now) (a .mask) (a .v) (classDir (a .class) (l .loop .j))
+lent c = let l = c .before in start l .pre .dir (omega (arith, l .before .if1 .left)) (l .loop .j) (omega arith)
 
 returns : tie.Need-returns Inv-loop μ-loop
 unfolding leastBy
@@ -45,23 +45,23 @@ loop-holds : tie.Need-loop-holds Inv-loop μ-loop
 unfolding leastOf
 loop-holds c = (refl, omega arith)
 
-class-row-requires : tie.Need-class-row-requires Inv-loop μ-loop
-class-row-requires c κs = lent c .movable .row
+class-dir-requires : tie.Need-class-dir-requires Inv-loop μ-loop
+class-dir-requires c κs = lent c .movable .dir
 
 end-or-self-requires : tie.Need-end-or-self-requires Inv-loop μ-loop
-end-or-self-requires c κs = let k = lent (c .before) in rw (c .class-row .ensures) (k .listed, k .movable)
+end-or-self-requires c κs = let k = lent (c .before) in rw (c .class-dir .ensures) (k .listed, k .movable)
 
 -- the far end that the code reads
 end-is : (c : tie.After-end-or-self Inv-loop μ-loop)
     → let l = c .before .before .before in let a = start l .args in
-    c .end-or-self .result .0 ≡ endAt (a .shifts .now) (a .mask) (a .v) (classRow (a .class) (l .loop .j))
-end-is c = rw (c .before .class-row .ensures) at (c .end-or-self .ensures)
+    c .end-or-self .result .0 ≡ endAt (a .shifts .now) (a .mask) (a .v) (classDir (a .class) (l .loop .j))
+end-is c = rw (c .before .class-dir .ensures) at (c .end-or-self .ensures)
 
 cost-at-requires : tie.Need-cost-at-requires Inv-loop μ-loop
 cost-at-requires c κs = rw (end-is c) (lent (c .before .before) .inside)
 
-lesser-requires : tie.Need-lesser-requires Inv-loop μ-loop
-lesser-requires c κs = search needs
+min-requires : tie.Need-min-requires Inv-loop μ-loop
+min-requires c κs = search needs
 
 add-j : tie.Need-add-j Inv-loop μ-loop
 add-j c = search needs
@@ -75,8 +75,8 @@ loop-again c =
     let k = c .before in
     let f = k .before in
     let l = f .before .before .before in (
-      rw add-one (c .lesser .ensures
-          ∙ ap₂ lesserOf (l .loop .inv .0) (k .cost-at .ensures .0 ∙ ap (entry (start l .args .d .now)) (end-is f))),
+      rw add-one (c .min .ensures
+          ∙ ap₂ min (l .loop .inv .0) (k .cost-at .ensures .0 ∙ ap (entry (start l .args .d .now)) (end-is f))),
       omega arith,
     )
 
@@ -104,10 +104,10 @@ least-by-spec =
     μ-loop
     returns
     loop-holds
-    class-row-requires
+    class-dir-requires
     end-or-self-requires
     cost-at-requires
-    lesser-requires
+    min-requires
     add-j
     loop-less
     loop-again

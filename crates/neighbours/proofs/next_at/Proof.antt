@@ -18,17 +18,17 @@ use Rattle.neighbours.proofs.next_at.Statement.{statement}
 use Rattle.neighbours.proofs.next_at.Tie as tie
 
 abbrev Inv-loop : tie.InvT-loop
-Inv-loop rows shifts mask d e f b goal v best₀ high₀ m₀ m-end best high m =
-    (m-end ≡ rows .count)
-    × BestScan (traversalOf f b) (candidateOf rows shifts mask d e goal v) (rows .count) m (best .0) high
+Inv-loop dirs shifts mask d e f b goal v best₀ high₀ m₀ m-end best high m =
+    (m-end ≡ dirs .count)
+    × BestScan (traversalOf f b) (candidateOf dirs shifts mask d e goal v) (dirs .count) m (best .0) high
 
 abbrev μ-loop : tie.MeasureT-loop
-μ-loop rows shifts mask d e f b goal v best₀ high₀ m₀ m-end best high m = rows .count - m
+μ-loop dirs shifts mask d e f b goal v best₀ high₀ m₀ m-end best high m = dirs .count - m
 
 abbrev start : tie.In-loop Inv-loop μ-loop → tie.Start Inv-loop μ-loop
 start c = c .before .before .before .before .before .before .before
 
-turn : (c : tie.In-loop Inv-loop μ-loop) → c .before .loop .m < start c .args .rows .count
+turn : (c : tie.In-loop Inv-loop μ-loop) → c .before .loop .m < start c .args .dirs .count
 turn c = omega (arith, c .before .loop .inv .0)
 
 -- a turn's number fits, with one more
@@ -42,7 +42,7 @@ turn-of c = c .before .before .before .before
 -- the far end of the move, once it is known to be there
 goes : (c : tie.After-known-told Inv-loop μ-loop)
     → let a = start (turn-of c) .args in
-    readStep (a .rows) (a .shifts .now) (a .mask) (a .v) (turn-of c .before .loop .m) ≡ some
+    readStep (a .dirs) (a .shifts .now) (a .mask) (a .v) (turn-of c .before .loop .m) ≡ some
     (c .before .w .given .0 .0 .0)
 goes c = end-at _ _ (sym (c .before .before .before .far-end .ensures) ∙ c .before .w .given .1)
 
@@ -61,7 +61,7 @@ follows-is : (c : tie.After-follows Inv-loop μ-loop)
     let l = turn-of k in
     let a = start l .args in
     c .follows .result ≡ followsBy (onShortest (entry (a .d .now)) (entry (a .e .now)) (a .goal)) (entry (a .d .now))
-    (a .v) (k .before .w .given .0 .0 .0) (moveAt (a .rows) (l .before .loop .m) .cost)
+    (a .v) (k .before .w .given .0 .0 .0) (moveAt (a .dirs) (l .before .loop .m) .cost)
 follows-is c =
     let k = far-of c in
     let a = start (turn-of k) .args in
@@ -74,7 +74,7 @@ taken : (c : tie.Else1 Inv-loop μ-loop)
     → let k = far-of (c .before) in
     let l = turn-of k in
     let a = start l .args in
-    candidateOf (a .rows) (a .shifts .now) (a .mask) (a .d .now) (a .e .now) (a .goal) (a .v) (l .before .loop .m)
+    candidateOf (a .dirs) (a .shifts .now) (a .mask) (a .d .now) (a .e .now) (a .goal) (a .v) (l .before .loop .m)
     ≡ some (k .before .w .given .0 .0 .0)
 taken c =
     candidate-on _ _ _ _ _ _ (goes (far-of (c .before))) (sym (follows-is (c .before)) ∙ not-false _ (c .if1 .left))

@@ -4,14 +4,14 @@ use mathlib.Core.Bool.{true}
 use Prim.Native.Nat.{ℕ, _<_}
 use native.Mathlib.Omega.{arith}
 use borrow.Author.Needs.{needs}
-use Rattle.moves.specs.Table.{lawfulRows}
+use Rattle.moves.specs.Table.{lawfulDirs}
 use Rattle.moves.proofs.Table.{listed-lawful}
 use Rattle.offsets.proofs.Classes.{four-moves, middle-low, listed-classes}
 use Rattle.offsets.proofs.classes_of.Statement.{statement}
 use Rattle.offsets.proofs.classes_of.Tie as tie
 
 -- What the class of one of the first four moves takes.
-takes : (s : tie.Start) (m : ℕ) → m < 4 → (lawfulRows (s .args .rows) ≡ true) × (m < s .args .rows .count)
+takes : (s : tie.Start) (m : ℕ) → m < 4 → (lawfulDirs (s .args .dirs) ≡ true) × (m < s .args .dirs .count)
 takes s m h = (listed-lawful (s .pre), omega (arith, four-moves (s .pre)))
 
 add-middle : tie.Need-add-middle

@@ -13,7 +13,7 @@ use Rattle.offsets.proofs.offset_of.Tie as tie
 short : (c : tie.After-move-at) → Short (c .move-at .result)
 short c =
     let s = c .before in
-    rw (c .move-at .ensures) (lawful-move (s .args .rows) (s .args .m) (s .pre .1) (s .pre .2) .is-short)
+    rw (c .move-at .ensures) (lawful-move (s .args .dirs) (s .args .m) (s .pre .1) (s .pre .2) .is-short)
 
 -- The parts of the two offsets.
 columns : (c : tie.After-parts-of) → c .parts-of .result ≡ partsOf (c .before .before .move-at .result .dx)
@@ -21,9 +21,9 @@ columns c =
     let t = c .before .before in
     rw (back (t .move-at .result .dx) (short t .columns)) at (c .parts-of .ensures)
 
-rows : (c : tie.After-parts-of2)
+dirs : (c : tie.After-parts-of2)
     → c .parts-of2 .result ≡ partsOf (c .before .before .before .before .move-at .result .dy)
-rows c =
+dirs c =
     let t = c .before .before .before .before in
     rw (back (t .move-at .result .dy) (short t .rows)) at (c .parts-of2 .ensures)
 
@@ -36,7 +36,7 @@ made : (c : tie.After-parts-of2)
 made c =
     let t = moved c in
     composed (t .before .args .w) (t .move-at .result) (c .before .before .parts-of .result) (c .parts-of2 .result)
-    (columns (c .before .before)) (rows c) (t .before .pre .0) (short t)
+    (columns (c .before .before)) (dirs c) (t .before .pre .0) (short t)
 
 move-at-requires : tie.Need-move-at-requires
 move-at-requires c κs = search needs

@@ -1,4 +1,4 @@
--- `offsets::open_end` meets its contract: the test is the row's bit. Assumes nothing.
+-- `offsets::open_end` meets its contract: the test is the direction's bit. Assumes nothing.
 use Prim.Native.Nat.{_/_, _%_, _^_}
 use mathlib.Core.Path.{_≡_, ap}
 use mathlib.Core.Bool.{true, false}

@@ -11,10 +11,11 @@ use Rattle.offsets.proofs.shift_of.Tie as tie
 
 made : (c : tie.After-offset-of)
     → let a = c .before .args in
-    MoveOffset (a .w) (moveAt (a .rows) (a .m)) (c .offset-of .result)
+    MoveOffset (a .w) (moveAt (a .dirs) (a .m)) (c .offset-of .result)
 made c =
     let s = c .before in
-    move-offset (c .offset-of .ensures) (s .pre .0) (lawful-move (s .args .rows) (s .args .m) (s .pre .1) (s .pre .2) .is-short)
+    move-offset (c .offset-of .ensures) (s .pre .0)
+    (lawful-move (s .args .dirs) (s .args .m) (s .pre .1) (s .pre .2) .is-short)
 
 offset-of-requires : tie.Need-offset-of-requires
 offset-of-requires c κs = search needs

@@ -15,7 +15,7 @@ use Rattle.planner.proofs.Finding.{
   found-few,
   found-sized,
   found-same,
-  found-readied,
+  found-input,
   found-known,
   found-choosable,
   found-walkable,
@@ -57,7 +57,7 @@ ended c = fitting (chosen (written c .before))
 
 -- What is left in e: the costs from b.
 abbrev graph : tie.After-shifts-of → Graph
-graph c = let s = start c .args in floorGraph (floorOf (s .w) (s .h) (s .map .now)) (s .rows)
+graph c = let s = start c .args in floorGraph (floorOf (s .w) (s .h) (s .map .now)) (s .dirs)
 
 costs-from-b : (c : tie.After-shifts-of)
     → ordered c .costs-over-masks .last .1 .1 .1 .1 .1 .0
@@ -96,7 +96,7 @@ fill-counts-requires c κs =
     let s = found-sized F in
     let C = ordered r .costs-over-masks .ensures in
     let S = r .shifts-of .ensures in
-    (found-readied F C S, found-same F C S, s .0, s .1, s .2, s .3)
+    (found-input F C S, found-same F C S, s .0, s .1, s .2, s .3)
 
 same-length : tie.Need-same-length
 same-length c = ordered (shifted (tried c)) .costs-over-masks .kept .1 .1 .1 .1 .1 .0

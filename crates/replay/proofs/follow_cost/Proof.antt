@@ -14,7 +14,7 @@ abbrev plan : tie.Start → Floor
 plan s = floorOf (s .args .w) (s .args .h) (s .args .map .now)
 
 abbrev graph : tie.Start → Graph
-graph s = floorGraph (plan s) (s .args .rows)
+graph s = floorGraph (plan s) (s .args .dirs)
 
 -- The vertex is no pinch.
 free : (c : tie.Else1) → let s = c .before .before .before in pinchAt (plan s) (s .args .v .0) ≡ false

@@ -20,12 +20,12 @@ use Rattle.replay.proofs.move_cost.Reads as reads
 use Rattle.replay.proofs.move_cost.Lts as lts
 
 abbrev Inv-loop : tie.InvT-loop
-Inv-loop w h map rows v x y count m₀ m =
+Inv-loop w h map dirs v x y count m₀ m =
     (m ≤ count)
-    × ((k : ℕ) → k < m → goesTo (farEndAt w h (moveAt rows k) x y) (v .0) ≡ false)
+    × ((k : ℕ) → k < m → goesTo (farEndAt w h (moveAt dirs k) x y) (v .0) ≡ false)
 
 abbrev μ-loop : tie.MeasureT-loop
-μ-loop w h map rows v x y count m₀ m = count - m
+μ-loop w h map dirs v x y count m₀ m = count - m
 
 in-sight-requires : tie.Need-in-sight-requires Inv-loop μ-loop
 in-sight-requires c κs = let p = c .before .pre in (p .0 .sized, p .1, p .2)
@@ -34,7 +34,7 @@ returns : tie.Need-returns Inv-loop μ-loop
 returns c =
     let t = c .before in
     let a = t .before .before .args in
-    unseen-shut (floorOf (a .w) (a .h) (a .map .now)) (a .u .0) (a .v .0) (a .rows)
+    unseen-shut (floorOf (a .w) (a .h) (a .map .now)) (a .u .0) (a .v .0) (a .dirs)
     (sym (t .in-sight .ensures) ∙ not-true (t .in-sight .result) (c .if1 .taken))
 
 column-of-requires : tie.Need-column-of-requires Inv-loop μ-loop
@@ -71,7 +71,7 @@ leads-to-requires c κs =
 leads : (c : tie.After-leads-to Inv-loop μ-loop)
     → let l = looped (c .before) in
     let a = start l .args in
-    goesTo (farEndAt (a .w) (a .h) (moveAt (a .rows) (l .loop .m)) (l .before .before .column-of .result)
+    goesTo (farEndAt (a .w) (a .h) (moveAt (a .dirs) (l .loop .m)) (l .before .before .column-of .result)
     (l .before .row-of .result)) (a .v .0)
     ≡ c .leads-to .result
 leads c =
@@ -91,7 +91,7 @@ returns-2 c =
     let seen = col .before in
     let a = start l .args in
     ap (λ (m : Move). At (m .cost)) (t .move-at .ensures)
-    ∙ first-leads (floorOf (a .w) (a .h) (a .map .now)) (a .u .0) (a .v .0) (a .rows) (col .column-of .result)
+    ∙ first-leads (floorOf (a .w) (a .h) (a .map .now)) (a .u .0) (a .v .0) (a .dirs) (col .column-of .result)
     (row .row-of .result) (col .column-of .ensures .0) (row .row-of .ensures .0)
     (sym (seen .before .in-sight .ensures) ∙ not-false (seen .before .in-sight .result) (seen .if1 .left)) (l .loop .m)
     (omega arith) (l .loop .inv .1) (leads (c .before) ∙ c .if2 .taken)
@@ -113,7 +113,7 @@ returns-3 c =
     let row = l .before in
     let col = row .before in
     let a = start l .args in
-    none-leads (floorOf (a .w) (a .h) (a .map .now)) (a .u .0) (a .v .0) (a .rows) (col .column-of .result)
+    none-leads (floorOf (a .w) (a .h) (a .map .now)) (a .u .0) (a .v .0) (a .dirs) (col .column-of .result)
     (row .row-of .result) (col .column-of .ensures .0) (row .row-of .ensures .0)
     (λ m h. l .loop .inv .1 m (omega arith))
 

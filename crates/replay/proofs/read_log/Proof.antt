@@ -8,10 +8,10 @@ use Rattle.replay.proofs.read_log.Statement.{statement}
 use Rattle.replay.proofs.read_log.Tie as tie
 
 abbrev Inv-loop : tie.InvT-loop
-Inv-loop w h map rows log count drive₀ cursor₀ drive cursor = Reached w h map rows log drive cursor
+Inv-loop w h map dirs log count drive₀ cursor₀ drive cursor = Reached w h map dirs log drive cursor
 
 abbrev μ-loop : tie.MeasureT-loop
-μ-loop w h map rows log count drive₀ cursor₀ drive cursor = length log - cursor .at
+μ-loop w h map dirs log count drive₀ cursor₀ drive cursor = length log - cursor .at
 
 -- The count of the vertices and the start, from the step of the cursor.
 abbrev counted : tie.After-step Inv-loop μ-loop → tie.After-vertex-count Inv-loop μ-loop
@@ -29,7 +29,7 @@ new-requires c κs = search needs
 loop-holds : tie.Need-loop-holds Inv-loop μ-loop
 loop-holds c =
     let a = c .before .before .before .before .args in
-    starts (a .w) (a .h) (a .map .now) (a .rows) (a .log .now) (c .new .result) (c .new .ensures)
+    starts (a .w) (a .h) (a .map .now) (a .dirs) (a .log .now) (c .new .result) (c .new .ensures)
 
 step-requires : tie.Need-step-requires Inv-loop μ-loop
 step-requires c κs = search needs
@@ -42,7 +42,7 @@ returns c =
     let t = c .before .before in
     let s = start t in
     let a = s .args in
-    ends (a .w) (a .h) (a .map .now) (a .rows) (a .log .now) (t .before .loop .inv)
+    ends (a .w) (a .h) (a .map .now) (a .dirs) (a .log .now) (t .before .loop .inv)
     (counted t .vertex-count .ensures .0) (t .step .ensures) (s .pre .1) (c .enum-told .given .1)
 
 enum-told-2 : tie.Need-enum-told-2 Inv-loop μ-loop
@@ -53,7 +53,7 @@ returns-2 c =
     let t = c .before .before in
     let s = start t in
     let a = s .args in
-    breaks (a .w) (a .h) (a .map .now) (a .rows) (a .log .now) (t .before .loop .inv)
+    breaks (a .w) (a .h) (a .map .now) (a .dirs) (a .log .now) (t .before .loop .inv)
     (counted t .vertex-count .ensures .0) (t .step .ensures) (s .pre .1) (c .enum-told2 .given .1)
 
 enum-known-v : tie.Need-enum-known-v Inv-loop μ-loop
@@ -65,7 +65,7 @@ take-stop-requires c κs =
     let t = n .before .before in
     let s = start t in
     let a = s .args in
-    takes (a .w) (a .h) (a .map .now) (a .rows) (a .log .now) (t .before .loop .inv)
+    takes (a .w) (a .h) (a .map .now) (a .dirs) (a .log .now) (t .before .loop .inv)
     (counted t .vertex-count .ensures .0) (t .step .ensures) (n .v .given .0 .0) (n .v .given .0 .1 .0) (n .v .given .1) (s .pre .0) (s .pre .1)
 
 loop-less : tie.Need-loop-less Inv-loop μ-loop
@@ -73,7 +73,7 @@ loop-less c =
     let n = c .before .before in
     let t = n .before .before in
     let a = start t .args in
-    falls (a .w) (a .h) (a .map .now) (a .rows) (a .log .now) (t .before .loop .inv)
+    falls (a .w) (a .h) (a .map .now) (a .dirs) (a .log .now) (t .before .loop .inv)
     (counted t .vertex-count .ensures .0) (t .step .ensures) (n .v .given .0 .0) (n .v .given .0 .1 .0) (n .v .given .1)
 
 loop-again : tie.Need-loop-again Inv-loop μ-loop
@@ -82,7 +82,7 @@ loop-again c =
     let t = n .before .before in
     let s = start t in
     let a = s .args in
-    goes-on (a .w) (a .h) (a .map .now) (a .rows) (a .log .now) (t .before .loop .inv)
+    goes-on (a .w) (a .h) (a .map .now) (a .dirs) (a .log .now) (t .before .loop .inv)
     (counted t .vertex-count .ensures .0) (t .step .ensures) (n .v .given .0 .0) (n .v .given .0 .1 .0) (n .v .given .1)
     (s .pre .0) (c .take-stop .result) (c .take-stop .ensures)
 

@@ -19,7 +19,7 @@ abbrev plan : tie.Start → Floor
 plan s = floorOf (s .args .w) (s .args .h) (s .args .map .now)
 
 abbrev graph : tie.Start → Graph
-graph s = floorGraph (plan s) (s .args .rows)
+graph s = floorGraph (plan s) (s .args .dirs)
 
 add-read : tie.Need-add-read
 add-read c = search needs
@@ -61,7 +61,7 @@ add-t16 c =
       arith,
       s .pre .bounded .cost,
       s .pre .few,
-      follow-high (graph s) (pinchAt (plan s)) (floor-lawful (plan s) (a .rows) (listed-lawful (s .pre .good .listed)))
+      follow-high (graph s) (pinchAt (plan s)) (floor-lawful (plan s) (a .dirs) (listed-lawful (s .pre .good .listed)))
           (before (a .s)) (a .v .0) (x .x .given .0 .0)
           (leg-at (followCost (graph s) (pinchAt (plan s)) (before (a .s)) (a .v .0)) (x .x .given .0 .0)
           (sym (k .follow-cost .ensures) ∙ x .x .given .1)),

@@ -7,7 +7,7 @@ use borrow.Author.Needs.{needs}
 use native.Mathlib.Omega.{arith}
 use lib.ListN.{length, take, length-take}
 use Rattle.floor.specs.Floor.{vertices}
-use Rattle.jobs.specs.Contract.{SmallFloor}
+use Rattle.program_text.specs.Contract.{SmallFloor}
 use Rattle.records.specs.Settled.{longest}
 use Rattle.route.specs.Sent.{Due}
 use Rattle.route.proofs.Sizes.{taken}

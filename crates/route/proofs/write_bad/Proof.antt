@@ -1,7 +1,7 @@
 -- `route::write_bad` meets its contract: the line is all of the program's text. Depends on libc's write, on errno and
 -- on sched_yield.
 use native.Mathlib.Omega.{arith}
-use Rattle.jobs.proofs.Start.{written-within}
+use Rattle.program_text.proofs.Start.{written-within}
 use Rattle.route.proofs.Sizes.{taken}
 use Rattle.route.proofs.Sending.{bad-next, bad-all}
 use borrow.Author.Needs.{needs}

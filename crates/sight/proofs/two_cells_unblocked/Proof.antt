@@ -15,11 +15,11 @@ use Rattle.sight.proofs.two_cells_unblocked.Tie as tie
 abbrev plan : tie.Start → Floor
 plan s = floorOf (s .args .w) (s .args .h) (s .args .map .now)
 
-higher-requires : tie.Need-higher-requires
-higher-requires c κs = search needs
+max-requires : tie.Need-max-requires
+max-requires c κs = search needs
 
-higher-requires-2 : tie.Need-higher-requires-2
-higher-requires-2 c κs = search needs
+max-requires-2 : tie.Need-max-requires-2
+max-requires-2 c κs = search needs
 
 add-blocked-at : tie.Need-add-blocked-at
 add-blocked-at c = search needs
@@ -49,8 +49,8 @@ told : (c : tie.After-blocked-at2)
 told c =
     let s = c .before .before .before .before .before in
     let a = s .args in
-    let x = c .before .before .before .higher .ensures in
-    let y = c .before .before .higher2 .ensures in
+    let x = c .before .before .before .max .ensures in
+    let y = c .before .before .max2 .ensures in
     let columns = s .pre .2 .columns-are in
     let rows = s .pre .2 .rows-are in
     ap₂ (λ other last. not (other || last))
@@ -70,8 +70,8 @@ pub two-cells-unblocked-spec : {M : Type 1} → statement M
 two-cells-unblocked-spec =
     tie.close
     (tie.spec
-    higher-requires
-    higher-requires-2
+    max-requires
+    max-requires-2
     add-blocked-at
     sub-blocked-at
     add-blocked-at-2

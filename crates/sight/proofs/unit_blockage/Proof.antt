@@ -48,11 +48,11 @@ returns-3 c =
     ∙ level-step (plan s) (a .x0) (a .y0) (a .x1) (a .y1) (s .pre .1)
     (sym (t .before .unit-unblocked .ensures) ∙ t .if1 .left) (omega arith) (omega arith)
 
-higher-requires : tie.Need-higher-requires
-higher-requires c κs = search needs
+max-requires : tie.Need-max-requires
+max-requires c κs = search needs
 
-higher-requires-2 : tie.Need-higher-requires-2
-higher-requires-2 c κs = search needs
+max-requires-2 : tie.Need-max-requires-2
+max-requires-2 c κs = search needs
 
 cell-before-requires : tie.Need-cell-before-requires
 unfolding span
@@ -60,8 +60,8 @@ cell-before-requires c κs = search needs
 
 returns-4 : tie.Need-returns-4
 returns-4 c =
-    let x = c .before .before .higher .ensures in
-    let y = c .before .higher2 .ensures in
+    let x = c .before .before .max .ensures in
+    let y = c .before .max2 .ensures in
     let t = c .before .before .before .before .before in
     let s = t .before .before .before in
     let a = s .args in
@@ -80,7 +80,7 @@ unit-blockage-spec =
     returns-2
     vertex-at-requires-2
     returns-3
-    higher-requires
-    higher-requires-2
+    max-requires
+    max-requires-2
     cell-before-requires
     returns-4)

@@ -12,11 +12,11 @@ use Rattle.sight.proofs.unit_unblocked.Tie as tie
 abbrev plan : tie.Start → Floor
 plan s = floorOf (s .args .w) (s .args .h) (s .args .map .now)
 
-higher-requires : tie.Need-higher-requires
-higher-requires c κs = search needs
+max-requires : tie.Need-max-requires
+max-requires c κs = search needs
 
-higher-requires-2 : tie.Need-higher-requires-2
-higher-requires-2 c κs = search needs
+max-requires-2 : tie.Need-max-requires-2
+max-requires-2 c κs = search needs
 
 returns : tie.Need-returns
 returns c =
@@ -31,7 +31,7 @@ returns-2 : tie.Need-returns-2
 returns-2 c =
     let s = c .before .before .before .before .before .before in
     let a = s .args in
-    c .upright-open .ensures ∙ ap (uprightTo (plan s) (a .x0)) (c .before .before .before .higher2 .ensures)
+    c .upright-open .ensures ∙ ap (uprightTo (plan s) (a .x0)) (c .before .before .before .max2 .ensures)
     ∙ sym (unit-upright (plan s) (a .x0) (a .y0) (a .x1) (a .y1) (s .pre .1) (omega arith) (omega arith))
 
 level-open-requires : tie.Need-level-open-requires
@@ -41,7 +41,7 @@ returns-3 : tie.Need-returns-3
 returns-3 c =
     let s = c .before .before .before .before .before .before in
     let a = s .args in
-    c .level-open .ensures ∙ ap (λ x. levelTo (plan s) x (a .y0)) (c .before .before .before .before .higher .ensures)
+    c .level-open .ensures ∙ ap (λ x. levelTo (plan s) x (a .y0)) (c .before .before .before .before .max .ensures)
     ∙ sym (unit-level (plan s) (a .x0) (a .y0) (a .x1) (a .y1) (s .pre .1) (omega arith) (omega arith))
 
 blocked-at-requires : tie.Need-blocked-at-requires
@@ -53,16 +53,16 @@ returns-4 c =
     let a = s .args in
     ap not
     (c .blocked-at .ensures
-    ∙ ap₂ (blocked (plan s)) (c .before .before .before .before .higher .ensures)
-    (c .before .before .before .higher2 .ensures))
+    ∙ ap₂ (blocked (plan s)) (c .before .before .before .before .max .ensures)
+    (c .before .before .before .max2 .ensures))
     ∙ sym (unit-slanted (plan s) (a .x0) (a .y0) (a .x1) (a .y1) (s .pre .1) (omega arith) (omega arith))
 
 pub unit-unblocked-spec : {M : Type 1} → statement M
 unit-unblocked-spec =
     tie.close
     (tie.spec
-    higher-requires
-    higher-requires-2
+    max-requires
+    max-requires-2
     returns
     upright-open-requires
     returns-2

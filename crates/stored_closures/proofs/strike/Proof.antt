@@ -1,7 +1,7 @@
 -- `stored_closures::strike` meets its contract: the answer for the table is that for the numbers, and the slot struck
 -- is stored as four times 0. Assumes nothing.
 use mathlib.Core.Path.{_≡_}
-use Rattle.closures.specs.Plain.{strikeAnswer}
+use Rattle.closures.specs.Plain.{strikeShape}
 use borrow.Author.Needs.{needs}
 use Rattle.stored_closures.specs.Stored.{storedIn}
 use Rattle.stored_closures.proofs.Answered.{striking, strikes-refused, strike-slot, strikes-set}
@@ -14,7 +14,7 @@ start t = t .before .before .before
 -- The answer that `struck` gave.
 given : (t : tie.After-struck)
     → let a = start t .args in
-    t .struck .result .answer ≡ strikeAnswer (a .w) (a .h) (storedIn (a .slots .now)) (a .k)
+    t .struck .result .answer ≡ strikeShape (a .w) (a .h) (storedIn (a .slots .now)) (a .k)
 given t = striking (t .before .table-of .ensures) (t .struck .ensures)
 
 table-of-requires : tie.Need-table-of-requires

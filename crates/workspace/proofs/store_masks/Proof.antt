@@ -37,7 +37,8 @@ returns c =
     let n = c .before .before .before .before .vertex-count in
     let s = c .before .before .before .before .before .before .before in
     let a = s .args in
-    masks-filled (floorOf (a .w) (a .h) (a .map .now)) (a .rows) (n .result) (a .work .now) _ (n .ensures .0) (s .pre .2)
+    masks-filled (floorOf (a .w) (a .h) (a .map .now)) (a .dirs) (n .result) (a .work .now) _ (n .ensures .0)
+    (s .pre .2)
     (c .before .before .fill-masks .ensures)
 
 pub store-masks-spec : {M : Type 1} → statement M

@@ -8,8 +8,8 @@ use Rattle.capi.proofs.change_reports.lurfanzi_cost_changes.Tie as tie
 cost-changes-requires : tie.Need-cost-changes-requires
 cost-changes-requires c κs = search needs
 
-costs-number-requires : tie.Need-costs-number-requires
-costs-number-requires c κs = search needs
+shape-number-requires : tie.Need-shape-number-requires
+shape-number-requires c κs = search needs
 
 same-length : tie.Need-same-length
 same-length c = search needs
@@ -26,14 +26,14 @@ same-length-4 c = search needs
 returns : tie.Need-returns
 returns c =
     let done = c .before .before .before .before .before .before .before .before .before in
-    costs-to (done .cost-changes .ensures) (c .costs-number .ensures)
+    costs-to (done .cost-changes .ensures) (c .shape-number .ensures)
 
 pub lurfanzi-cost-changes-spec : {M : Type 1} → statement M
 lurfanzi-cost-changes-spec =
     tie.close
     (tie.spec
     cost-changes-requires
-    costs-number-requires
+    shape-number-requires
     same-length
     same-length-2
     same-length-3

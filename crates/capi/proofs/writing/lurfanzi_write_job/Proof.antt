@@ -8,15 +8,15 @@ use Rattle.capi.proofs.writing.lurfanzi_write_job.Tie as tie
 put-job-requires : tie.Need-put-job-requires
 put-job-requires c κs = search needs
 
-writing-number-requires : tie.Need-writing-number-requires
-writing-number-requires c κs = search needs
+shape-number-requires : tie.Need-shape-number-requires
+shape-number-requires c κs = search needs
 
 same-length : tie.Need-same-length
 same-length c = search needs
 
 returns : tie.Need-returns
-returns c = record-to (c .before .before .before .before .put-job .ensures) (c .writing-number .ensures)
+returns c = record-to (c .before .before .before .before .put-job .ensures) (c .shape-number .ensures)
 
 pub lurfanzi-write-job-spec : {M : Type 1} → statement M
 lurfanzi-write-job-spec =
-    tie.close (tie.spec put-job-requires writing-number-requires same-length returns)
+    tie.close (tie.spec put-job-requires shape-number-requires same-length returns)

@@ -29,14 +29,14 @@ returns : tie.Need-returns
 returns c =
     let o = c .before in
     let a = start o .args in
-    next-off (a .rows) (a .shifts .now) (a .mask) (a .b) (a .d .now) (a .e .now) (a .f .now) (a .back .now)
+    next-off (a .dirs) (a .shifts .now) (a .mask) (a .b) (a .d .now) (a .e .now) (a .f .now) (a .back .now)
     (a .next .now) (a .v) (read o .index .result) (read o .index .ensures) (o .on-way .ensures) (c .if1 .taken)
 
 returns-2 : tie.Need-returns-2
 returns-2 c =
     let o = c .before .before in
     let a = start o .args in
-    next-goal (a .rows) (a .shifts .now) (a .mask) (a .b) (a .d .now) (a .e .now) (a .f .now) (a .back .now)
+    next-goal (a .dirs) (a .shifts .now) (a .mask) (a .b) (a .d .now) (a .e .now) (a .f .now) (a .back .now)
     (a .next .now) (a .v) (read o .index .result) (read o .index .ensures) (o .on-way .ensures) (c .before .if1 .left)
     (c .if2 .taken)
 
@@ -52,7 +52,7 @@ returns-3 c =
     let n = c .before in
     let o = n .before .before .before in
     let a = start o .args in
-    next-to (a .rows) (a .shifts .now) (a .mask) (a .b) (a .d .now) (a .e .now) (a .f .now) (a .back .now)
+    next-to (a .dirs) (a .shifts .now) (a .mask) (a .b) (a .d .now) (a .e .now) (a .f .now) (a .back .now)
     (a .next .now) (a .v) (read o .index .result) (read o .index .ensures) (o .on-way .ensures)
     (n .before .before .if1 .left) (n .before .if2 .left) (n .next-at .result .0) (n .next-at .ensures)
 

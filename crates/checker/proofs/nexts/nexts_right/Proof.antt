@@ -13,11 +13,11 @@ use Rattle.checker.proofs.nexts.nexts_right.Statement.{statement}
 use Rattle.checker.proofs.nexts.nexts_right.Tie as tie
 
 abbrev Inv-loop : tie.InvT-loop
-Inv-loop w h map rows d e f back next b shifts windows y₀ y-end y =
-    Passed (suc h) y (nextRowTest (floorGraph (floorOf w h map) rows) b (chosenOf d e f back next) w)
+Inv-loop w h map dirs d e f back next b shifts windows y₀ y-end y =
+    Passed (suc h) y (nextRowTest (floorGraph (floorOf w h map) dirs) b (chosenOf d e f back next) w)
 
 abbrev μ-loop : tie.MeasureT-loop
-μ-loop w h map rows d e f back next b shifts windows y₀ y-end y = y-end - y
+μ-loop w h map dirs d e f back next b shifts windows y₀ y-end y = y-end - y
 
 abbrev sheet : tie.Start Inv-loop μ-loop → Sheet
 sheet s = chosenOf (s .args .d .now) (s .args .e .now) (s .args .f .now) (s .args .back .now) (s .args .next .now)
@@ -35,7 +35,7 @@ window-masks-requires : tie.Need-window-masks-requires Inv-loop μ-loop
 window-masks-requires c κs = search needs
 
 add-y-end : tie.Need-add-y-end Inv-loop μ-loop
-add-y-end c = omega (arith, start c .pre .posed .job .sized .high)
+add-y-end c = omega (arith, start c .pre .input .job .sized .high)
 
 loop-holds : tie.Need-loop-holds Inv-loop μ-loop
 loop-holds c = passed-none _ _
@@ -55,11 +55,12 @@ returns c =
     let s = start (l .before) in
     let a = s .args in
     passed-stop (r .row-right .result) (l .loop .inv) (row-in (r .before .before)) (r .row-right .ensures) (c .if1 .taken)
-    ∙ nexts-rows (a .w) (a .h) (a .map .now) (a .rows) (a .b .0) (sheet s)
+    ∙ nexts-rows (a .w) (a .h) (a .map .now) (a .dirs) (a .b .0) (sheet s)
 
 add-y : tie.Need-add-y Inv-loop μ-loop
 add-y c =
-    let t = c .before .before .before in omega (arith, row-in t, start (t .before .before) .pre .posed .job .sized .high)
+    let t = c .before .before .before in omega
+    (arith, row-in t, start (t .before .before) .pre .input .job .sized .high)
 
 loop-less : tie.Need-loop-less Inv-loop μ-loop
 loop-less c = search needs
@@ -76,7 +77,7 @@ returns-2 c =
     let s = start (l .before) in
     let a = s .args in
     passed-all (l .loop .inv) (omega arith)
-    ∙ nexts-rows (a .w) (a .h) (a .map .now) (a .rows) (a .b .0) (sheet s)
+    ∙ nexts-rows (a .w) (a .h) (a .map .now) (a .dirs) (a .b .0) (sheet s)
 
 pub nexts-right-spec : {M : Type 1} → statement M
 nexts-right-spec =

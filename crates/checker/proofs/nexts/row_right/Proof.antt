@@ -22,12 +22,12 @@ use Rattle.checker.proofs.nexts.row_right.Statement.{statement}
 use Rattle.checker.proofs.nexts.row_right.Tie as tie
 
 abbrev Inv-loop : tie.InvT-loop
-Inv-loop w h map rows b d e f back next shifts y first past leaving right₀ x₀ x-end right x =
-    (right ≡ every x (nextColumnTest (floorGraph (floorOf w h map) rows) b (chosenOf d e f back next) w y))
+Inv-loop w h map dirs b d e f back next shifts y first past leaving right₀ x₀ x-end right x =
+    (right ≡ every x (nextColumnTest (floorGraph (floorOf w h map) dirs) b (chosenOf d e f back next) w y))
     × (x ≤ w + 1)
 
 abbrev μ-loop : tie.MeasureT-loop
-μ-loop w h map rows b d e f back next shifts y first past leaving right₀ x₀ x-end right x = x-end - x
+μ-loop w h map dirs b d e f back next shifts y first past leaving right₀ x₀ x-end right x = x-end - x
 
 abbrev entered : tie.After-leaving-row Inv-loop μ-loop → tie.Start Inv-loop μ-loop
 entered c = c .before .before .before .before .before .before .before .before .before .before
@@ -40,7 +40,7 @@ on-row : (c : tie.In-loop Inv-loop μ-loop)
     → let a = start c .args in OnFloor (a .w) (a .h) (c .before .loop .x) (a .y)
 on-row c =
     let p = start c .pre in
-    let z = p .0 .posed .job .sized in
+    let z = p .0 .input .job .sized in
     record { wide = z .wide; high = z .high; column = omega arith; row = p .1 }
 
 at-number : (c : tie.In-loop Inv-loop μ-loop)
@@ -70,7 +70,7 @@ row-within c =
     let a = c .args in
     let same : a .y * (a .w + 1) + (a .w + 1) ≡ suc (number (a .w) (a .w) (a .y))
     = ap (λ z. a .y * z + z) (add-one (a .w)) ∙ omega arith in
-    omega (arith, same, number-lt (a .w) (a .h) (a .w) (a .y) (omega arith) (c .pre .1), c .pre .0 .posed .shape .d)
+    omega (arith, same, number-lt (a .w) (a .h) (a .w) (a .y) (omega arith) (c .pre .1), c .pre .0 .input .shape .d)
 
 add-first : tie.Need-add-first Inv-loop μ-loop
 add-first c = search needs
@@ -78,7 +78,7 @@ add-first c = search needs
 mul-first : tie.Need-mul-first Inv-loop μ-loop
 mul-first c =
     let s = begun c in
-    let z = s .pre .0 .posed .job .sized in
+    let z = s .pre .0 .input .job .sized in
     let y : s .args .y ≤ 128 = omega (arith, z .high, s .pre .1) in
     omega (arith, mul-fits {a = s .args .y} {b = s .args .w + 1} y (omega (arith, z .wide)))
 
@@ -91,13 +91,13 @@ add-past-2 c = omega (arith, row-within (begun c))
 any-on-way-requires : tie.Need-any-on-way-requires Inv-loop μ-loop
 any-on-way-requires c κs =
     let s = begun c in
-    let p = s .pre .0 .posed in
+    let p = s .pre .0 .input in
     (omega (arith, p .job .goal-in, p .shape .d), row-within s, p .shape .e ∙ sym (p .shape .d))
 
 all-zero-requires : tie.Need-all-zero-requires Inv-loop μ-loop
 all-zero-requires c κs =
     let s = begun (c .before .before) in
-    let p = s .pre .0 .posed in
+    let p = s .pre .0 .input in
     (omega arith, omega (arith, row-within s, p .shape .d, p .shape .next))
 
 returns : tie.Need-returns Inv-loop μ-loop
@@ -105,7 +105,7 @@ returns c =
     let o = c .before .before in
     let s = begun (o .before) in
     let a = s .args in
-    next-row-blank (floorGraph (floorOf (a .w) (a .h) (a .map .now)) (a .rows)) (a .b)
+    next-row-blank (floorGraph (floorOf (a .w) (a .h) (a .map .now)) (a .dirs)) (a .b)
     (chosenOf (a .d .now) (a .e .now) (a .f .now) (a .back .now) (a .next .now)) (a .w) (a .y)
     (ap (λ z. a .y * z) (add-one (a .w))) (ap (λ z. a .y * (a .w + 1) + z) (add-one (a .w)))
     (o .any-on-way .ensures (not-true _ (c .before .if1 .taken))) (c .all-zero .result) (c .all-zero .ensures)
@@ -113,7 +113,7 @@ returns c =
 leaving-row-requires : tie.Need-leaving-row-requires Inv-loop μ-loop
 leaving-row-requires c κs =
     let s = c .before .before .before .before .before .before .before .before .before in
-    (s .pre .0 .posed .job .sized, s .pre .1, s .pre .0 .posed .job .listed, s .pre .2)
+    (s .pre .0 .input .job .sized, s .pre .1, s .pre .0 .input .job .listed, s .pre .2)
 
 add-x-end : tie.Need-add-x-end Inv-loop μ-loop
 add-x-end c = search needs
@@ -131,7 +131,7 @@ array-read-next-right c = let o = on-row c in omega (arith, o .wide, o .column)
 -- The mask that the code reads.
 mask-is : (c : tie.In-loop Inv-loop μ-loop)
     → let a = start c .args in
-    Leaving (floorOf (a .w) (a .h) (a .map .now)) (a .rows) (c .before .loop .x) (a .y)
+    Leaving (floorOf (a .w) (a .h) (a .map .now)) (a .dirs) (c .before .loop .x) (a .y)
     (getD (c .before .before .leaving-row .result) (c .before .loop .x) 0)
 mask-is c = c .before .before .leaving-row .ensures .at (c .before .loop .x) (omega arith)
 
@@ -147,7 +147,7 @@ next-right-requires c κs =
       next-choosing p (s .pre .3) (on-row c) (mask-is c) (at-number c),
       p .counted,
       next-leads p (s .pre .3) (on-row c) (mask-is c) (at-number c) (small c),
-      p .posed .shape .next ∙ sym (p .posed .shape .d),
+      p .input .shape .next ∙ sym (p .input .shape .d),
     )
 
 add-x : tie.Need-add-x Inv-loop μ-loop

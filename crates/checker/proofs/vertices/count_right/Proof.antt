@@ -13,7 +13,7 @@ use Rattle.checker.proofs.vertices.count_right.Statement.{statement}
 use Rattle.checker.proofs.vertices.count_right.Tie as tie
 
 abbrev graph : tie.Start → Graph
-graph s = maskGraph (length (s .args .d .now)) (s .args .rows) (s .args .shifts .now) (s .args .mask)
+graph s = maskGraph (length (s .args .d .now)) (s .args .dirs) (s .args .shifts .now) (s .args .mask)
 
 -- where the count was read
 abbrev start : tie.After-shared-slice-known4 → tie.Start

@@ -21,7 +21,7 @@ returns c =
     let o = c .before .before in
     let s = start o in
     let a = s .args in
-    counts-from (a .rows) (a .shifts .now) (a .mask) (a .a) (a .b) (a .d .now) (a .e .now) (a .f .now) (a .back .now)
+    counts-from (a .dirs) (a .shifts .now) (a .mask) (a .a) (a .b) (a .d .now) (a .e .now) (a .f .now) (a .back .now)
     (a .v) (o .on-way .ensures) (c .before .count-right .ensures) (c .if1 .taken)
 
 -- the moves from v, where the slice e counts the vertices
@@ -31,7 +31,7 @@ count-right-requires-2 c κs =
     let a = s .args in
     let p = s .pre in
     let same = sym (p .2) in
-    (subst (λ (n : ℕ). Readable n (a .rows) (a .shifts .now) (a .mask) (a .v)) same (p .0), p .4 ∙ same)
+    (subst (λ (n : ℕ). Readable n (a .dirs) (a .shifts .now) (a .mask) (a .v)) same (p .0), p .4 ∙ same)
 
 returns-2 : tie.Need-returns-2
 returns-2 c =
@@ -39,7 +39,7 @@ returns-2 c =
     let o = r .before in
     let s = start o in
     let a = s .args in
-    counts-to (a .rows) (a .shifts .now) (a .mask) (a .a) (a .b) (a .d .now) (a .e .now) (a .f .now) (a .back .now)
+    counts-to (a .dirs) (a .shifts .now) (a .mask) (a .a) (a .b) (a .d .now) (a .e .now) (a .f .now) (a .back .now)
     (a .v) (o .on-way .ensures) (r .count-right .ensures) (c .before .if1 .left) (c .count-right2 .ensures)
 
 pub counts-right-spec : {M : Type 1} → statement M

@@ -14,19 +14,20 @@ use Rattle.masks.specs.Masks.{Leaving}
 use Rattle.paths.specs.Sheet.{sheetOf}
 use Rattle.grid.specs.Leaving.{leavingGraph}
 use Rattle.checker.specs.Tests.{columnTest}
-use Rattle.checker.proofs.Posed.{posed-shaped}
+use Rattle.checker.proofs.CheckInput.{input-shaped}
 use Rattle.checker.proofs.Passes.{column-readable, column-stops, column-keeps}
 use borrow.Author.Needs.{needs}
 use Rattle.checker.proofs.vertices.row_right.Statement.{statement}
 use Rattle.checker.proofs.vertices.row_right.Tie as tie
 
 abbrev Inv-loop : tie.InvT-loop
-Inv-loop w h map rows joined a b d e f back route next shifts y classes leaving first right₀ x₀ x-end right x =
-    (right ≡ every x (columnTest joined (leavingGraph (floorOf w h map) rows) a b (sheetOf d e f back route next 0) w y))
+Inv-loop w h map dirs joined a b d e f back route next shifts y classes leaving first right₀ x₀ x-end right x =
+    (right ≡ every x (columnTest joined (leavingGraph (floorOf w h map) dirs) a b
+    (sheetOf d e f back route next 0) w y))
     × (x ≤ w + 1)
 
 abbrev μ-loop : tie.MeasureT-loop
-μ-loop w h map rows joined a b d e f back route next shifts y classes leaving first right₀ x₀ x-end right x = x-end - x
+μ-loop w h map dirs joined a b d e f back route next shifts y classes leaving first right₀ x₀ x-end right x = x-end - x
 
 abbrev entered : tie.After-leaving-row Inv-loop μ-loop → tie.Start Inv-loop μ-loop
 entered c = c .before .before .before .before .before .before .before .before .before .before
@@ -80,7 +81,7 @@ array-read-vertex-right c = let o = on-row c in omega (arith, o .wide, o .column
 -- The mask that the code reads.
 mask-is : (c : tie.In-loop Inv-loop μ-loop)
     → let a = start c .args in
-    Leaving (floorOf (a .w) (a .h) (a .map .now)) (a .rows) (c .before .loop .x) (a .y)
+    Leaving (floorOf (a .w) (a .h) (a .map .now)) (a .dirs) (c .before .loop .x) (a .y)
     (getD (c .before .before .leaving-row .result) (c .before .loop .x) 0)
 mask-is c = c .before .before .leaving-row .ensures .at (c .before .loop .x) (omega arith)
 
@@ -96,7 +97,7 @@ vertex-right-requires c κs =
       column-readable p (s .pre .3) (on-row c) (mask-is c) (at-number c),
       c .before .before .before .classes-of .ensures,
       omega (arith, p .job .goal-in, p .shape .d),
-      posed-shaped p,
+      input-shaped p,
     )
 
 add-x : tie.Need-add-x Inv-loop μ-loop

@@ -4,7 +4,7 @@ use native.Mathlib.Omega.{arith}
 use Rattle.paths.specs.Distance.{unreachable}
 use Rattle.paths.specs.Local.{entry}
 use Rattle.paths.specs.Sheet.{Sheet, sheetOf}
-use Rattle.neighbours.proofs.Classed.{mask-near}
+use Rattle.neighbours.proofs.Classed.{classes-lent}
 use Rattle.checker.proofs.Vertex.{vertex-costs, vertex-counts, vertex-cost, vertex-blank}
 use borrow.Author.Needs.{needs}
 use Rattle.checker.proofs.vertices.vertex_right.Statement.{statement}
@@ -28,7 +28,7 @@ e-small : (c : tie.After-shared-slice-known7) → let a = start c .args in entry
 e-small c = omega (arith, e-known c .shared-slice-known3 .given (start c .args .v))
 
 costs-right-requires : tie.Need-costs-right-requires
-costs-right-requires c κs = let p = start (c .before) .pre in (mask-near (p .1) _ _ _ (p .0), p .3 .e)
+costs-right-requires c κs = let p = start (c .before) .pre in (classes-lent (p .1) _ _ _ (p .0), p .3 .e)
 
 returns : tie.Need-returns
 returns c =
@@ -52,7 +52,7 @@ returns-2 c =
     (e-small k) (r .costs-right .ensures) (c .before .if2 .left) (c .counts-right .ensures)
 
 cost-right-requires : tie.Need-cost-right-requires
-cost-right-requires c κs = let p = start (c .before) .pre in mask-near (p .1) _ _ _ (p .0)
+cost-right-requires c κs = let p = start (c .before) .pre in classes-lent (p .1) _ _ _ (p .0)
 
 returns-3 : tie.Need-returns-3
 returns-3 c =

@@ -14,11 +14,11 @@ use Rattle.checker.proofs.vertices.vertices_right.Statement.{statement}
 use Rattle.checker.proofs.vertices.vertices_right.Tie as tie
 
 abbrev Inv-loop : tie.InvT-loop
-Inv-loop w h map rows joined d e f back route next a b shifts windows y₀ y-end y =
-    Passed (suc h) y (rowTest joined (leavingGraph (floorOf w h map) rows) a b (sheetOf d e f back route next 0) w)
+Inv-loop w h map dirs joined d e f back route next a b shifts windows y₀ y-end y =
+    Passed (suc h) y (rowTest joined (leavingGraph (floorOf w h map) dirs) a b (sheetOf d e f back route next 0) w)
 
 abbrev μ-loop : tie.MeasureT-loop
-μ-loop w h map rows joined d e f back route next a b shifts windows y₀ y-end y = y-end - y
+μ-loop w h map dirs joined d e f back route next a b shifts windows y₀ y-end y = y-end - y
 
 abbrev sheet : tie.Start Inv-loop μ-loop → Sheet
 sheet s = sheetOf (s .args .d .now) (s .args .e .now) (s .args .f .now) (s .args .back .now) (s .args .route .now)
@@ -57,7 +57,7 @@ returns c =
     let s = start (l .before) in
     let a = s .args in
     passed-stop (r .row-right .result) (l .loop .inv) (row-in (r .before .before)) (r .row-right .ensures) (c .if1 .taken)
-    ∙ vertices-rows (a .w) (a .h) (a .map .now) (a .rows) (a .joined) (a .a .0) (a .b .0) (sheet s)
+    ∙ vertices-rows (a .w) (a .h) (a .map .now) (a .dirs) (a .joined) (a .a .0) (a .b .0) (sheet s)
     ∙ vertices-leaving (s .pre .job) (sheet s) (a .joined)
 
 add-y : tie.Need-add-y Inv-loop μ-loop
@@ -79,7 +79,7 @@ returns-2 c =
     let s = start (l .before) in
     let a = s .args in
     passed-all (l .loop .inv) (omega arith)
-    ∙ vertices-rows (a .w) (a .h) (a .map .now) (a .rows) (a .joined) (a .a .0) (a .b .0) (sheet s)
+    ∙ vertices-rows (a .w) (a .h) (a .map .now) (a .dirs) (a .joined) (a .a .0) (a .b .0) (sheet s)
     ∙ vertices-leaving (s .pre .job) (sheet s) (a .joined)
 
 pub vertices-right-spec : {M : Type 1} → statement M

@@ -28,8 +28,8 @@ add-number-at c = search needs
 number-at-requires : tie.Need-number-at-requires Inv-loop μ-loop
 number-at-requires c κs = search needs
 
-lesser-requires : tie.Need-lesser-requires Inv-loop μ-loop
-lesser-requires c κs = search needs
+min-requires : tie.Need-min-requires Inv-loop μ-loop
+min-requires c κs = search needs
 
 near-ahead-requires : tie.Need-near-ahead-requires Inv-loop μ-loop
 near-ahead-requires c κs = search needs
@@ -44,8 +44,8 @@ loop-holds c =
     let a = s .args in
     let e : a .i + 2 ≡ suc (suc (a .i)) = omega arith in
     let leg = next-leg (sight s) (a .n) (s .pre .0 .sees) (a .i) (s .pre .2) in
-    let next = least-next (sight s) (a .n) (a .legs .now) (a .i) (a .cap) (t .lesser .result) leg
-    (rw (← add-one (a .i)) (omega (arith, t .lesser .ensures, t .before .number-at .ensures .0))) in
+    let next = least-next (sight s) (a .n) (a .legs .now) (a .i) (a .cap) (t .min .result) leg
+    (rw (← add-one (a .i)) (omega (arith, t .min .ensures, t .before .number-at .ensures .0))) in
     (omega arith, omega arith, rw e (least-reached _ _ _ _ _ _ _ _ _ next (c .near-ahead .ensures)))
 
 add-loop : tie.Need-add-loop Inv-loop μ-loop
@@ -79,7 +79,7 @@ least-ahead-spec =
     μ-loop
     add-number-at
     number-at-requires
-    lesser-requires
+    min-requires
     near-ahead-requires
     add-j
     loop-holds

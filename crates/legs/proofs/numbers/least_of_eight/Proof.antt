@@ -15,15 +15,15 @@ add-least-of-four c = search needs
 least-of-four-requires-2 : tie.Need-least-of-four-requires-2
 least-of-four-requires-2 c κs = search needs
 
-lesser-requires : tie.Need-lesser-requires
-lesser-requires c κs = search needs
+min-requires : tie.Need-min-requires
+min-requires c κs = search needs
 
 returns : tie.Need-returns
 returns c =
     let second = c .before in
     let first = second .before in
     at-most-then (first .least-of-four .ensures) (second .least-of-four2 .ensures) _ _ (omega arith)
-    (c .lesser .ensures)
+    (c .min .ensures)
 
 pub least-of-eight-spec : {M : Type 1} → statement M
 least-of-eight-spec =
@@ -32,5 +32,5 @@ least-of-eight-spec =
     least-of-four-requires
     add-least-of-four
     least-of-four-requires-2
-    lesser-requires
+    min-requires
     returns)

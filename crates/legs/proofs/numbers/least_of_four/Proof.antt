@@ -15,15 +15,15 @@ add-least-of-two c = search needs
 least-of-two-requires-2 : tie.Need-least-of-two-requires-2
 least-of-two-requires-2 c κs = search needs
 
-lesser-requires : tie.Need-lesser-requires
-lesser-requires c κs = search needs
+min-requires : tie.Need-min-requires
+min-requires c κs = search needs
 
 returns : tie.Need-returns
 returns c =
     let second = c .before in
     let first = second .before in
     at-most-then (first .least-of-two .ensures) (second .least-of-two2 .ensures) _ _ (omega arith)
-    (c .lesser .ensures)
+    (c .min .ensures)
 
 pub least-of-four-spec : {M : Type 1} → statement M
 least-of-four-spec =
@@ -32,5 +32,5 @@ least-of-four-spec =
     least-of-two-requires
     add-least-of-two
     least-of-two-requires-2
-    lesser-requires
+    min-requires
     returns)

@@ -14,17 +14,17 @@ add-number-at c = search needs
 number-at-requires-2 : tie.Need-number-at-requires-2
 number-at-requires-2 c κs = search needs
 
-lesser-requires : tie.Need-lesser-requires
-lesser-requires c κs = search needs
+min-requires : tie.Need-min-requires
+min-requires c κs = search needs
 
 returns : tie.Need-returns
 returns c =
     let second = c .before in
     let first = second .before in
     at-most-then (at-most-one _ _ _ (first .number-at .ensures .0)) (at-most-one _ _ _ (second .number-at2 .ensures .0))
-    _ _ (omega arith) (c .lesser .ensures)
+    _ _ (omega arith) (c .min .ensures)
 
 pub least-of-two-spec : {M : Type 1} → statement M
 least-of-two-spec =
     tie.close
-    (tie.spec number-at-requires add-number-at number-at-requires-2 lesser-requires returns)
+    (tie.spec number-at-requires add-number-at number-at-requires-2 min-requires returns)

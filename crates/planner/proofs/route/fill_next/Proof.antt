@@ -11,11 +11,11 @@ use Rattle.planner.proofs.route.fill_next.Statement.{statement}
 use Rattle.planner.proofs.route.fill_next.Tie as tie
 
 abbrev Inv-loop : tie.InvT-loop
-Inv-loop rows shifts b d e f back work next₀ first₀ next first =
-    NumberedTo rows shifts b d e f back work first next × (first ≤ length d)
+Inv-loop dirs shifts b d e f back work next₀ first₀ next first =
+    NumberedTo dirs shifts b d e f back work first next × (first ≤ length d)
 
 abbrev μ-loop : tie.MeasureT-loop
-μ-loop rows shifts b d e f back work next₀ first₀ next first = length d - first
+μ-loop dirs shifts b d e f back work next₀ first₀ next first = length d - first
 
 abbrev start : tie.At-loop Inv-loop μ-loop → tie.Start Inv-loop μ-loop
 start c = c .before .before .before .before .before .before .before .before

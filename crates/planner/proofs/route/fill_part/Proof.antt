@@ -10,11 +10,11 @@ use Rattle.planner.proofs.route.fill_part.Statement.{statement}
 use Rattle.planner.proofs.route.fill_part.Tie as tie
 
 abbrev Inv-loop : tie.InvT-loop
-Inv-loop rows shifts b d e f back work next₀ first past v₀ next v =
-    NumberedTo rows shifts b d e f back work v next × (v ≤ past)
+Inv-loop dirs shifts b d e f back work next₀ first past v₀ next v =
+    NumberedTo dirs shifts b d e f back work v next × (v ≤ past)
 
 abbrev μ-loop : tie.MeasureT-loop
-μ-loop rows shifts b d e f back work next₀ first past v₀ next v = past - v
+μ-loop dirs shifts b d e f back work next₀ first past v₀ next v = past - v
 
 abbrev start : tie.At-loop Inv-loop μ-loop → tie.Start Inv-loop μ-loop
 start c = c .before .before .before .before .before .before .before .before
@@ -69,7 +69,7 @@ returns c =
     let l = c .before in
     let a = start l .args in
     let ends : l .loop .v ≡ a .past = omega (arith, l .loop .inv .1) in
-    subst (λ z. NumberedTo (a .rows) (a .shifts .now) (a .b) (a .d .now) (a .e .now) (a .f .now) (a .back .now)
+    subst (λ z. NumberedTo (a .dirs) (a .shifts .now) (a .b) (a .d .now) (a .e .now) (a .f .now) (a .back .now)
     (a .work .now) z (l .loop .next)) ends (l .loop .inv .0)
 
 pub fill-part-spec : {M : Type 1} → statement M

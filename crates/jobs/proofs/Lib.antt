@@ -1,8 +1,0 @@
-pub mod Start
-pub mod Central
-pub mod Thinned
-pub mod Planning
-pub mod Telling
-pub mod Program
-pub mod Turns
-pub mod Cells
