@@ -3,7 +3,7 @@
 --   upright-obstacle, level-obstacle == along a grid line: the first shut step
 --   slanted-obstacle  == a slanted segment: the first blocked cell by columns, as the rule has it, is the first by rows
 --   blockage-clear    == no cell and no step is named exactly when none is in the way
---   upright-.., level-.., cell-.. past, met == one answer of a scan, from what the code reads
+--   upright-tested, level-tested, cell-past, cell-met == one answer of a scan, from what the code reads
 use Prim.Native.Nat.{ℕ, suc, _*_, _≤_, _<_}
 use mathlib.Core.Path.{_≡_, refl, sym, ap, _∙_}
 use mathlib.Core.Bool.{Bool, true, false, _&&_, not}
@@ -33,6 +33,9 @@ use Rattle.sight.specs.Obstacle.{
 }
 use Rattle.sight.specs.Travel.{
   Ends,
+  lineStep,
+  uprightTo,
+  levelTo,
   uprightFree,
   levelFree,
   touches,
@@ -58,27 +61,28 @@ pick-not false a b = refl
 
 -- ---- one answer of a scan
 
-module _ (f : Floor) (x a b k : ℕ) (t : Bool) (e : t ≡ uprightOpen f x (cellOn a b k)) where
-  pub upright-past : not t ≡ false → uprightStep f x a b k ≡ Clear
-  unfolding uprightStep
-  upright-past n =
-      pick-yes (uprightOpen f x (cellOn a b k)) Clear (stepAt f x (startOn a b k)) (sym e ∙ not-false t n)
+-- The k-th step from a towards b along line p, by its end and its start, and by the test t of the cells beside it.
+module _ (f : Floor) (p a b k end start : ℕ) (ends : end ≡ suc (cellOn a b k)) (starts : start ≡ startOn a b k)
+    (u t : Bool) where
+  abbrev step : Obstacle
+  step = lineStep f u p a b k
 
-  pub upright-met : not t ≡ true → uprightStep f x a b k ≡ stepAt f x (startOn a b k)
-  unfolding uprightStep
-  upright-met n =
-      pick-no (uprightOpen f x (cellOn a b k)) Clear (stepAt f x (startOn a b k)) (sym e ∙ not-true t n)
+  -- One test of the step.
+  tested : (x : Bool) (o : Obstacle) → t ≡ x → step ≡ pick x Clear o → (t ≡ true → Clear ≡ step) × (t ≡ false → o ≡ step)
+  tested x o e q = (
+    λ y. sym (q ∙ pick-yes x Clear o (sym e ∙ y)),
+    λ n. sym (q ∙ pick-no x Clear o (sym e ∙ n)),
+  )
 
-module _ (f : Floor) (y a b k : ℕ) (t : Bool) (e : t ≡ levelOpen f (cellOn a b k) y) where
-  pub level-past : not t ≡ false → levelStep f y a b k ≡ Clear
-  unfolding levelStep
-  level-past n =
-      pick-yes (levelOpen f (cellOn a b k) y) Clear (stepAt f (startOn a b k) y) (sym e ∙ not-false t n)
+  pub upright-tested : u ≡ true → t ≡ uprightTo f p end
+      → (t ≡ true → Clear ≡ step) × (t ≡ false → stepAt f p start ≡ step)
+  unfolding uprightStep uprightOpen
+  upright-tested y e = tested (uprightTo f p end) (stepAt f p start) e (rw (y, ends, starts))
 
-  pub level-met : not t ≡ true → levelStep f y a b k ≡ stepAt f (startOn a b k) y
-  unfolding levelStep
-  level-met n =
-      pick-no (levelOpen f (cellOn a b k) y) Clear (stepAt f (startOn a b k) y) (sym e ∙ not-true t n)
+  pub level-tested : u ≡ false → t ≡ levelTo f end p
+      → (t ≡ true → Clear ≡ step) × (t ≡ false → stepAt f start p ≡ step)
+  unfolding levelStep levelOpen
+  level-tested n e = tested (levelTo f end p) (stepAt f start p) e (rw (n, ends, starts))
 
 module _ (f : Floor) (s : Segment) (r c : ℕ) where
   abbrev named : Obstacle

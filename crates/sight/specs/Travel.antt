@@ -5,6 +5,9 @@
 --   Ends w h x0 y0 x1 y1  == both ends of a segment lie on the floor
 --   Apart x0 y0 x1 y1 c r == the ends (x0, y0) and (x1, y1) are c columns and r rows apart
 --   Narrow c r            == c columns and r rows are what a move leads: two of each at most, and one of either
+--   OnLine w h u p a b    == a segment from a to b along a grid line lies on the floor: along column line p where u
+--                            holds, else along row line p
+--   lineStep f u p a b k  == its k-th step, where it is shut
 --   uprightTo, levelTo    == the step that ends in a vertex is not shut
 --   uprightFree, levelFree == the k-th step of a segment along a grid line is not shut
 --   touches dx dy c r     == a segment dx wide and dy high enters the cell c columns and r rows from its first end
@@ -25,12 +28,12 @@
 use Prim.Native.Nat.{ℕ, suc, _+_, _*_, _≤_, _<_}
 use mathlib.Core.Path.{_≡_}
 use mathlib.Core.Logic.{_⊎_}
-use mathlib.Core.Bool.{Bool, _&&_, not}
+use mathlib.Core.Bool.{Bool, true, false, _&&_, not}
 use lib.Dec.{leb, ltb}
 use Rattle.basics.specs.Bounded.{pick, every}
 use Rattle.floor.specs.Floor.{Floor, blocked}
 use Rattle.sight.specs.Sight.{Segment, segmentOf, enters, uprightOpen, levelOpen, pinch}
-use Rattle.sight.specs.Obstacle.{cellAt, span, cellOn, startOn, first, pinchAt}
+use Rattle.sight.specs.Obstacle.{cellAt, span, cellOn, startOn, first, uprightStep, levelStep, pinchAt}
 use Rattle.sight.specs.declared.Obstacle.{Obstacle}
 use Rattle.sight.specs.declared.Obstacle.the-variants.{Clear}
 
@@ -48,6 +51,14 @@ pub record Narrow (columns rows : ℕ) : Type 0 where
   pub columns-few : columns ≤ 2
   pub rows-few : rows ≤ 2
   pub one : (columns ≡ 1) ⊎ (rows ≡ 1)
+
+pub record OnLine (w h : ℕ) (upright : Bool) (at a b : ℕ) : Type 0 where
+  pub column : upright ≡ true → (at ≤ w) × (a ≤ h) × (b ≤ h)
+  pub row : upright ≡ false → (at ≤ h) × (a ≤ w) × (b ≤ w)
+  pub small : (a ≤ 127) × (b ≤ 127)
+
+abbrev pub lineStep : Floor → Bool → ℕ → ℕ → ℕ → ℕ → Obstacle
+lineStep f upright at a b k = pick upright (uprightStep f at a b k) (levelStep f at a b k)
 
 -- The cells on both sides of the step along column line x that ends on row line y are not both blocked; the same of the
 -- step along row line y that ends on column line x. So `uprightOpen f x j` is `uprightTo f x (suc j)`.

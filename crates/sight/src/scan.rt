@@ -5,8 +5,8 @@ ghost use Prim.Native.Nat.{suc, _*_, _<_, _≤_};
 ghost use Rattle.floor.specs.Floor.{floorOf};
 ghost use Rattle.floor.specs.Known.{Sized};
 ghost use Rattle.sight.specs.Sight.{segmentOf};
-ghost use Rattle.sight.specs.Obstacle.{span, cellOn, startOn, first, uprightStep, levelStep, blockage};
-ghost use Rattle.sight.specs.Travel.{Ends, uprightTo, levelTo, rowObstacle, cellThere, RowRun};
+ghost use Rattle.sight.specs.Obstacle.{span, cellOn, startOn, first, blockage};
+ghost use Rattle.sight.specs.Travel.{Ends, OnLine, lineStep, uprightTo, levelTo, rowObstacle, cellThere, RowRun};
 ghost use Rattle.sight.specs.Travel.{Carried, RunBetween};
 use crate::Obstacle;
 
@@ -69,34 +69,53 @@ pub fn level_open(w: usize, h: usize, map: &[u8], x: usize, y: usize) -> bool
     true
 }
 
-// The first shut step along column line x from row y0 to row y1.
-fn upright_obstacle(w: usize, h: usize, map: &[u8], x: usize, y0: usize, y1: usize) -> Obstacle
-    requires { ⌜ Sized w h (now map) × (x ≤ w) × (y0 ≤ h) × (y1 ≤ h) ⌝ }
-    ensures { λ r. ⌜ r ≡ first (span y0 y1) (uprightStep (floorOf w h (now (map .entry))) x y0 y1) ⌝ }
+// The k-th step from a towards b, where it is shut: along column line `at` where `upright`, else along row line `at`.
+fn step_there(
+    w: usize,
+    h: usize,
+    map: &[u8],
+    upright: bool,
+    at: usize,
+    a: usize,
+    b: usize,
+    k: usize,
+) -> Obstacle
+    requires { ⌜ Sized w h (now map) × OnLine w h upright at a b × (k < span a b) ⌝ }
+    ensures { λ r. ⌜ r ≡ lineStep (floorOf w h (now (map .entry))) upright at a b k ⌝ }
 {
-    let n = span_of(y0, y1);
-    let mut k: usize = 0;
-    while k < n {
-        let y = line_at(y0, y1, k);
-        if !upright_open(w, h, map, x, y) {
-            return Obstacle::Step(floor::vertex_at(w, h, x, start_at(y0, y1, k)));
+    let past = line_at(a, b, k);
+    let start = start_at(a, b, k);
+    if upright {
+        if upright_open(w, h, map, at, past) {
+            return Obstacle::Clear;
         }
-        k += 1;
+        return Obstacle::Step(floor::vertex_at(w, h, at, start));
     }
-    Obstacle::Clear
+    if level_open(w, h, map, past, at) {
+        return Obstacle::Clear;
+    }
+    Obstacle::Step(floor::vertex_at(w, h, start, at))
 }
 
-// The first shut step along row line y from column x0 to column x1.
-fn level_obstacle(w: usize, h: usize, map: &[u8], y: usize, x0: usize, x1: usize) -> Obstacle
-    requires { ⌜ Sized w h (now map) × (y ≤ h) × (x0 ≤ w) × (x1 ≤ w) ⌝ }
-    ensures { λ r. ⌜ r ≡ first (span x0 x1) (levelStep (floorOf w h (now (map .entry))) y x0 x1) ⌝ }
+// The first shut step from a to b along a grid line.
+fn line_obstacle(
+    w: usize,
+    h: usize,
+    map: &[u8],
+    upright: bool,
+    at: usize,
+    a: usize,
+    b: usize,
+) -> Obstacle
+    requires { ⌜ Sized w h (now map) × OnLine w h upright at a b ⌝ }
+    ensures { λ r. ⌜ r ≡ first (span a b) (lineStep (floorOf w h (now (map .entry))) upright at a b) ⌝ }
 {
-    let n = span_of(x0, x1);
+    let n = span_of(a, b);
     let mut k: usize = 0;
     while k < n {
-        let x = line_at(x0, x1, k);
-        if !level_open(w, h, map, x, y) {
-            return Obstacle::Step(floor::vertex_at(w, h, start_at(x0, x1, k), y));
+        let found = step_there(w, h, map, upright, at, a, b, k);
+        if !crate::is_clear(found) {
+            return found;
         }
         k += 1;
     }
@@ -286,10 +305,10 @@ pub fn far_blockage(
     ensures { λ r. ⌜ r ≡ blockage (floorOf w h (now (map .entry))) (segmentOf x0 y0 x1 y1) ⌝ }
 {
     if x0 == x1 {
-        return upright_obstacle(w, h, map, x0, y0, y1);
+        return line_obstacle(w, h, map, true, x0, y0, y1);
     }
     if y0 == y1 {
-        return level_obstacle(w, h, map, y0, x0, x1);
+        return line_obstacle(w, h, map, false, y0, x0, x1);
     }
     if span_of(x0, x1) < span_of(y0, y1) {
         return steep_obstacle(w, h, map, x0, y0, x1, y1);

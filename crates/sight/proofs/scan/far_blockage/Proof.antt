@@ -1,5 +1,6 @@
 -- `sight::scan::far_blockage` meets its contract: each return is one kind of segment. Assumes nothing.
 use mathlib.Core.Path.{_≡_, sym, _∙_}
+use mathlib.Core.Bool.{true≢false}
 use native.Mathlib.Omega.{arith}
 use Rattle.floor.specs.Floor.{Floor, floorOf}
 use Rattle.sight.specs.Sight.{segmentOf}
@@ -14,24 +15,42 @@ use Rattle.sight.proofs.scan.far_blockage.Tie as tie
 abbrev plan : tie.Start → Floor
 plan s = floorOf (s .args .w) (s .args .h) (s .args .map .now)
 
-upright-obstacle-requires : tie.Need-upright-obstacle-requires
-upright-obstacle-requires c κs = search needs
+line-obstacle-requires : tie.Need-line-obstacle-requires
+line-obstacle-requires c κs =
+    let s = c .before .before in
+    let e = s .pre .1 in (
+      s .pre .0,
+      record {
+        column = λ q. (e .x-first, e .y-first, e .y-last);
+        row = λ q. absurd (true≢false q);
+        small = (omega (arith, e .y-first, s .pre .0 .high), omega (arith, e .y-last, s .pre .0 .high));
+      },
+    )
 
 returns : tie.Need-returns
 returns c =
     let s = c .before .before .before in
     let a = s .args in
-    c .upright-obstacle .ensures
+    c .line-obstacle .ensures
     ∙ sym (upright-obstacle (plan s) (a .x0) (a .y0) (a .x1) (a .y1) (c .before .if1 .taken))
 
-level-obstacle-requires : tie.Need-level-obstacle-requires
-level-obstacle-requires c κs = search needs
+line-obstacle-requires-2 : tie.Need-line-obstacle-requires-2
+line-obstacle-requires-2 c κs =
+    let s = c .before .before .before in
+    let e = s .pre .1 in (
+      s .pre .0,
+      record {
+        column = λ q. absurd (true≢false (sym q));
+        row = λ q. (e .y-first, e .x-first, e .x-last);
+        small = (omega (arith, e .x-first, s .pre .0 .wide), omega (arith, e .x-last, s .pre .0 .wide));
+      },
+    )
 
 returns-2 : tie.Need-returns-2
 returns-2 c =
     let s = c .before .before .before .before in
     let a = s .args in
-    c .level-obstacle .ensures
+    c .line-obstacle2 .ensures
     ∙ sym
     (level-obstacle (plan s) (a .x0) (a .y0) (a .x1) (a .y1) (c .before .before .if1 .left) (c .before .if2 .taken))
 
@@ -84,9 +103,9 @@ pub far-blockage-spec : {M : Type 1} → statement M
 far-blockage-spec =
     tie.close
     (tie.spec
-    upright-obstacle-requires
+    line-obstacle-requires
     returns
-    level-obstacle-requires
+    line-obstacle-requires-2
     returns-2
     span-of-requires
     span-of-requires-2
