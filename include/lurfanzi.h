@@ -42,7 +42,7 @@
  * size_t, so that none is cut down on its way in; those of lurfanzi_write_job alone are as wide as its record has them.
  *
  * The library is built for x86-64. It uses the C library's memcpy and memset, no heap, no static memory and less than
- * 4 KiB of stack; calls at the same time are safe on different memory, and on the same memory where none of them
+ * 10 KiB of stack; calls at the same time are safe on different memory, and on the same memory where none of them
  * writes it.
  */
 #ifndef LURFANZI_H
