@@ -5,7 +5,7 @@ ghost use Rattle.capi.specs.Changes.{CellsTo, CostsTo};
 
 // The first report's answer with how many cells closed and how many opened, both 0 at a refusal.
 #[repr(C)]
-#[derive(Drop)]
+#[derive(Clone, Copy)]
 pub struct ChangesResult {
     pub closed: usize,
     pub opened: usize,

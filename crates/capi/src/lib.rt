@@ -1,6 +1,7 @@
 // The C interface: each operation on plain numbers and slices, under the contract of the operation.
 // include/lurfanzi.h declares these functions. Sides, neighbourhood, ends, slots and the numbers of a rectangle are 32
 // bits wide, so that no number is truncated on its way in.
+#![tactic(auto)]
 ghost use Rattle.std.specs.Prelude.{◌≡◌};
 ghost use Rattle.basics.specs.Bounded.{pick};
 ghost use Rattle.sight.specs.Question.{sight_answer, sight_number, obstacle_number, obstacle_place};
@@ -21,7 +22,7 @@ pub mod writing; // writing.rt: the program's input written
 
 // What is in the way, and its place: the number of a cell or vertex, 0 where nothing is in the way.
 #[repr(C)]
-#[derive(Drop)]
+#[derive(Clone, Copy)]
 pub struct ObstacleResult {
     pub place: u32,
     pub answer: u8,
@@ -29,7 +30,7 @@ pub struct ObstacleResult {
 
 // The answer of the planner's second operation with its values, all 0 at a refusal.
 #[repr(C)]
-#[derive(Drop)]
+#[derive(Clone, Copy)]
 pub struct PlanResult {
     pub total: u64,
     pub points: usize,
@@ -39,7 +40,7 @@ pub struct PlanResult {
 
 // The thinning's answer with how many positions are kept, 0 at a refusal.
 #[repr(C)]
-#[derive(Drop)]
+#[derive(Clone, Copy)]
 pub struct ThinResult {
     pub kept: usize,
     pub answer: u8,
@@ -47,7 +48,7 @@ pub struct ThinResult {
 
 // Post's answer with the slot, 0 at a refusal.
 #[repr(C)]
-#[derive(Drop)]
+#[derive(Clone, Copy)]
 pub struct PostResult {
     pub slot: u32,
     pub answer: u8,
@@ -56,7 +57,7 @@ pub struct PostResult {
 // The replay's answer with its values, all 0 at every answer but 0 and 17. `unfollowed` and `bad` are 0 where there is
 // no such record.
 #[repr(C)]
-#[derive(Drop)]
+#[derive(Clone, Copy)]
 pub struct ReplayResult {
     pub read: usize,
     pub unfollowed: usize,

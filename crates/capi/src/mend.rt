@@ -7,7 +7,7 @@ ghost use Rattle.capi.specs.Mending.{MendsTo};
 // The answer; `n`, the number of points of the true route, 0 at every answer but 0; and for each slice the number of
 // places where the damaged one and the true one differ, 0 at every answer but 0 and 7.
 #[repr(C)]
-#[derive(Drop)]
+#[derive(Clone, Copy)]
 pub struct MendResult {
     pub n: usize,
     pub d: usize,

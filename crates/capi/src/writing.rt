@@ -8,7 +8,7 @@ use writer::Writer;
 
 // A call's answer, and the writer afterwards: at a refusal the one handed in.
 #[repr(C)]
-#[derive(Drop)]
+#[derive(Clone, Copy)]
 pub struct WriteResult {
     pub writer: Writer,
     pub answer: u8,

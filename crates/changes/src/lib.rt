@@ -1,5 +1,6 @@
 // What changed between two floors of one size: the cells that differ, and the costs from a start. The first floor is
 // the one before the change, the second, whose names end in 2, the one after it.
+#![tactic(auto)]
 ghost use Rattle.std.specs.Prelude.{◌≡◌, ◌+◌, ◌<◌, ◌≤◌, length};
 ghost use Rattle.basics.specs.Lists.{tabulate};
 ghost use Rattle.floor.specs.Floor.{floor_of};
@@ -14,14 +15,14 @@ use grid::JobShape;
 use moves::Directions;
 
 // How many cells closed, open on the first floor and blocked on the second, and how many opened.
-#[derive(Drop)]
+#[derive(Clone, Copy)]
 pub struct Tally {
     pub closed: usize,
     pub opened: usize,
 }
 
 // The first report's answer: the differing cells are listed, with how many closed and opened, or a refusal.
-#[derive(Drop)]
+#[derive(Clone, Copy)]
 pub enum CellReport {
     Listed(Tally),
     Refused(Refusal),

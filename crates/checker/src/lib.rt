@@ -1,4 +1,5 @@
 // The checker: it accepts exactly the true sheets, and has no memory to write in. `back` is the slice b of rule 5.1.
+#![tactic(auto)]
 mod nexts; // nexts.rt: the test of the next vertices
 mod route; // route.rt: the test of the route
 mod vertices; // vertices.rt: the tests of costs and counts
@@ -18,7 +19,7 @@ use grid::JobShape;
 use moves::Directions;
 
 // The answer: the sheet is the true route sheet, the true no_route sheet, or refused.
-#[derive(Drop)]
+#[derive(Clone, Copy)]
 pub enum Checked {
     Route,
     NoRoute,

@@ -1,4 +1,5 @@
 // Closures of a floor: a table of sixteen slots, each a rectangle or free. Post, strike, and the working map.
+#![tactic(auto)]
 ghost use Rattle.std.specs.Prelude.{◌≡◌, ◌<◌, min};
 ghost use Rattle.std.proofs.Math.Option.{some};
 ghost use Rattle.floor.specs.Refusals.{floor_shape};
@@ -11,7 +12,7 @@ ghost use Rattle.closures.specs.Known.{MapsLent, CellsOnFloor, clipped, Marked};
 use floor::{Refusal, Shape};
 
 // A rectangle of cells: its first column and row, and how many columns and rows it has.
-#[derive(Drop)]
+#[derive(Clone, Copy)]
 pub struct Rectangle {
     pub column: usize,
     pub row: usize,
@@ -20,7 +21,7 @@ pub struct Rectangle {
 }
 
 // What a slot holds.
-#[derive(Drop)]
+#[derive(Clone, Copy)]
 pub enum Hold {
     Free,
     Held(Rectangle),
@@ -28,13 +29,13 @@ pub enum Hold {
 
 // One of the sixteen slots. It is a struct round the enum, since the prover has no rule for a field that is an array of
 // enums (decision D2.11).
-#[derive(Drop)]
+#[derive(Clone, Copy)]
 pub struct Slot {
     pub hold: Hold,
 }
 
 // A table of sixteen closures for a floor of fixed size, its sides in cells.
-#[derive(Drop)]
+#[derive(Clone, Copy)]
 pub struct Closures {
     pub width: usize,
     pub height: usize,
@@ -42,21 +43,21 @@ pub struct Closures {
 }
 
 // What post answers: the slot, or a refusal.
-#[derive(Drop)]
+#[derive(Clone, Copy)]
 pub enum Posting {
     In(usize),
     Refused(Refusal),
 }
 
 // The table after post, with the answer.
-#[derive(Drop)]
+#[derive(Clone, Copy)]
 pub struct AfterPost {
     pub table: Closures,
     pub answer: Posting,
 }
 
 // The table after strike, with the answer.
-#[derive(Drop)]
+#[derive(Clone, Copy)]
 pub struct AfterStrike {
     pub table: Closures,
     pub answer: Shape,

@@ -5,6 +5,7 @@
 // since on the way the cost from a rises as the cost to b falls. A vertex gets its count once every vertex whose count
 // is added to it has its own. A sum on the way never passes the total, so a sum that does not fit says that the total
 // does not.
+#![tactic(auto)]
 ghost use Rattle.std.specs.Prelude.{◌≡◌, ℕ, ◌<◌, ◌≤◌, length};
 ghost use Rattle.basics.specs.Bounded.{pick};
 ghost use Rattle.basics.specs.Lists.{zeros};

@@ -1,4 +1,5 @@
 // The floor: cells and vertices, what a cell reads as, and the refusals over the shape of a floor and of an end.
+#![tactic(auto)]
 ghost use Rattle.std.specs.Prelude.{◌≡◌, suc, ◌+◌, ◌-◌, ◌*◌, ◌<◌, ◌≤◌, length, eqb};
 ghost use Rattle.basics.specs.Bounded.{pick};
 ghost use Rattle.floor.specs.Floor.{cell_number, bit_at, map_length, stored_cells, floor_of};
@@ -8,15 +9,15 @@ ghost use Rattle.floor.specs.Window.{WindowMap};
 ghost use Rattle.floor.specs.Refusals.{refusal_number, shape_number, unused_clear, sides_shape, floor_shape, end_shape};
 
 // The number of a cell: column + row * W.
-#[derive(Drop)]
+#[derive(Clone, Copy)]
 pub struct Cell(pub usize);
 
 // The number of a vertex, a cell corner: column + row * (W + 1).
-#[derive(Drop)]
+#[derive(Clone, Copy)]
 pub struct Vertex(pub usize);
 
 // Every refusal of rule 6.1, in the order of the numbers.
-#[derive(Drop)]
+#[derive(Clone, Copy)]
 pub enum Refusal {
     Size,
     MapLength,
@@ -41,7 +42,7 @@ pub enum Refusal {
 }
 
 // What a test of an input's shape finds.
-#[derive(Drop)]
+#[derive(Clone, Copy)]
 pub enum Shape {
     Good,
     Refused(Refusal),

@@ -1,5 +1,6 @@
 // A floor with a neighbourhood as a graph, and the shape of a job. The graph is defined in specs/Grid.antt; that it is
 // lawful is proved in proofs/Lawful.antt.
+#![tactic(auto)]
 ghost use Rattle.std.specs.Prelude.{◌≡◌, ◌<◌};
 ghost use Rattle.floor.specs.Floor.{floor_of, vertices};
 ghost use Rattle.floor.specs.Known.{Sized};
@@ -11,7 +12,7 @@ use floor::{Refusal, Shape, Vertex};
 use moves::{Directions, Neighbourhood};
 
 // What the tests of a job's shape find: the directions of its neighbourhood, or the first refusal of 1 to 5, then 11.
-#[derive(Drop)]
+#[derive(Clone, Copy)]
 pub enum JobShape {
     Fit(Directions),
     Refused(Refusal),

@@ -6,6 +6,7 @@
 // fewer legs left than any position that i was found to see. These are the pairs that any method by sight must ask,
 // where a leg to j would leave i with fewer legs than its number says, and for each i some positions that have one leg
 // fewer left, until one is seen: first those whose vertices are near, then all, in the order of the list.
+#![tactic(auto)]
 ghost use Rattle.std.specs.Prelude.{◌≡◌};
 ghost use Rattle.legs.specs.Answer.{legs_shape, check_answer, Proposes};
 

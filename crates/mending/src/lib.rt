@@ -6,6 +6,7 @@
 //     mend_sheet         the operation where none of refusals 1 to 5, 11 and 6 applies: answers 0, 7 and 8
 //     plan_sheet         the true sheet, by the planner
 //     sheet_differences  at how many places two sheets differ, for each slice
+#![tactic(auto)]
 ghost use Rattle.std.specs.Prelude.{◌≡◌};
 ghost use Rattle.floor.specs.Floor.{floor_of};
 ghost use Rattle.paths.specs.Sheet.{sheet_of};
@@ -21,7 +22,7 @@ use moves::Directions;
 use planner::Planned;
 
 // For each slice of a sheet, at how many places it differs from that of another.
-#[derive(Drop)]
+#[derive(Clone, Copy)]
 pub struct Differences {
     pub d: usize,
     pub e: usize,
@@ -33,7 +34,7 @@ pub struct Differences {
 
 // The answer: the number of points of the route and the differences; the differences alone, where no walk joins the
 // ends; or a refusal.
-#[derive(Drop)]
+#[derive(Clone, Copy)]
 pub enum Mended {
     Route(usize, Differences),
     NoRoute(Differences),
@@ -41,7 +42,7 @@ pub enum Mended {
 }
 
 // The lengths of the slices of a sheet.
-#[derive(Drop)]
+#[derive(Clone, Copy)]
 struct Lengths {
     d: usize,
     e: usize,

@@ -1,5 +1,6 @@
 // The moves: the two tables, the directions of a neighbourhood, the far end of a move, and whether a cell or a step is
 // in its way.
+#![tactic(auto)]
 ghost use Rattle.std.specs.Prelude.{◌≡◌, true, ◌+◌, ◌-◌, ◌<◌, ◌≤◌, nat_abs, get_or};
 ghost use Rattle.floor.specs.Floor.{floor_of};
 ghost use Rattle.floor.specs.Known.{Sized};
@@ -22,7 +23,7 @@ ghost use Rattle.moves.specs.Table.{lawful_dirs, Short, narrow, OnFloor, Reaches
 use floor::Vertex;
 
 // A move: its signed offsets in columns and rows, and its cost.
-#[derive(Drop)]
+#[derive(Clone, Copy)]
 pub struct Move {
     pub dx: i8,
     pub dy: i8,
@@ -30,7 +31,7 @@ pub struct Move {
 }
 
 // The directions that a neighbourhood has: `count` of them, from `first` on, each `stride` after the one before.
-#[derive(Drop)]
+#[derive(Clone, Copy)]
 pub struct Directions {
     pub first: usize,
     pub stride: usize,
@@ -38,35 +39,35 @@ pub struct Directions {
 }
 
 // A neighbourhood by its number: refusal 4 is `Refused`.
-#[derive(Drop)]
+#[derive(Clone, Copy)]
 pub enum Neighbourhood {
     Known(Directions),
     Refused,
 }
 
 // Where a move leads: to a vertex, or off the floor.
-#[derive(Drop)]
+#[derive(Clone, Copy)]
 pub enum Step {
     To(Vertex),
     Off,
 }
 
 // A change of a number: by `up` less `down`.
-#[derive(Drop)]
+#[derive(Clone, Copy)]
 pub struct Offset {
     pub up: usize,
     pub down: usize,
 }
 
 // One coordinate of where a move leads, or past the edge of the floor.
-#[derive(Drop)]
+#[derive(Clone, Copy)]
 enum Place {
     Is(usize),
     Past,
 }
 
 // Where a move leads: its column and row, or outside the floor.
-#[derive(Drop)]
+#[derive(Clone, Copy)]
 enum Spot {
     At(usize, usize),
     Outside,

@@ -4,6 +4,7 @@
 // The moves are read in one form: the directions of the neighbourhood, with their costs in the table; for each
 // direction, by how much it changes a vertex number (`offsets::shifts_of`); and a mask of the vertex's moves, the open
 // ones or those that leave it. The shifts are lent, since an array passed by value would be copied at each vertex.
+#![tactic(auto)]
 ghost use Rattle.std.specs.Prelude.{◌≡◌, ◌&&◌, true, false, ◌<◌, ◌≤◌, ◌^◌, min, length};
 ghost use Rattle.std.proofs.Math.Option.{some};
 ghost use Rattle.basics.specs.Bounded.{pick};
@@ -25,7 +26,7 @@ use offsets::{Class, OpenEnd};
 const NOWHERE: u64 = 4294967296;
 
 // A sum of counts, where it fits 64 bits.
-#[derive(Drop)]
+#[derive(Clone, Copy)]
 pub enum Sum {
     Is(u64),
     Over,

@@ -1,5 +1,6 @@
 // The moves as changes of a vertex number: the far end of an open move by the mask of its vertex, and the classes of
 // moves of one cost.
+#![tactic(auto)]
 ghost use Rattle.std.specs.Prelude.{◌≡◌, true, ◌+◌, ◌<◌, ◌≤◌};
 ghost use Rattle.moves.specs.Moves.{move_at};
 ghost use Rattle.moves.specs.Table.{Listed, eight_dirs, sixteen_dirs, lawful_dirs};
@@ -23,7 +24,7 @@ const QUARTER: usize = 4;
 
 // Four moves of one cost, each a quarter turn after the one before: directions `dir + 4 * j` for j from 0 to 3. Cost 0
 // stands for a class of no move.
-#[derive(Drop)]
+#[derive(Clone, Copy)]
 pub struct Class {
     pub dir: usize,
     pub cost: u32,
@@ -31,7 +32,7 @@ pub struct Class {
 
 // Where a move leads from a vertex, by the mask of its open moves: to a vertex, or nowhere. A move that leads off the
 // floor is shut.
-#[derive(Drop)]
+#[derive(Clone, Copy)]
 pub enum OpenEnd {
     At(Vertex),
     Shut,

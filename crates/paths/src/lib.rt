@@ -22,6 +22,7 @@
 // are those of walks), proofs/Reverse (walks turned round), proofs/Route (the central route is a cheapest walk),
 // proofs/NextNumbers (the central route is the walk through the next vertices), proofs/Sheets (which sheets are true),
 // proofs/SheetTest (the tests of specs/Local are exact).
+#![tactic(auto)]
 ghost use Rattle.std.specs.Prelude.{◌≡◌};
 ghost use Rattle.paths.specs.Distance.{unreachable};
 

@@ -7,6 +7,7 @@
 //     finish_job         a job finished from true costs: answers 0, 7 and 8
 //     finish_over_masks  a job finished from true costs and the masks in the working slice
 //     find_route         the route of a job whose ends a walk joins: answers 0 and 8
+#![tactic(auto)]
 mod route; // route.rt: the next vertices, and the central route, which is the walk through them
 
 ghost use Rattle.std.specs.Prelude.{◌≡◌, ◌*◌, ◌≤◌};
@@ -25,7 +26,7 @@ use moves::Directions;
 
 // The answer of the second operation: the cost of the route, the number of cheapest routes and the number of its
 // points; or a refusal.
-#[derive(Drop)]
+#[derive(Clone, Copy)]
 pub enum Planned {
     Found {
         cost: u32,

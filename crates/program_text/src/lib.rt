@@ -1,5 +1,6 @@
 // One job of the program: planned, thinned and written as lines; and one turn of the program, which writes the text of
 // one record.
+#![tactic(auto)]
 ghost use Rattle.std.specs.Prelude.{◌≡◌, ◌≤◌};
 ghost use Rattle.floor.specs.Floor.{stored_cells, floor_of, vertices};
 ghost use Rattle.planner.specs.Plan.{slices_of};
@@ -25,7 +26,7 @@ use records::stream::{Cursor, JobRecord, MapRecord, Record};
 const FALSE_COSTS: u8 = 9;
 
 // What a turn wrote: a number of bytes, with the cursor at which the program goes on, or that they are the last.
-#[derive(Drop)]
+#[derive(Clone, Copy)]
 pub enum Turn {
     More(usize, Cursor),
     Last(usize),

@@ -6,14 +6,14 @@ ghost use Rattle.records.specs.Format.{word_at, marked_at, map_side, cell_byte, 
 ghost use Rattle.records.specs.Settled.{MapSettled, JobSettled, Settled, Decides};
 
 // The place of the next record, and its number: 0 for the map, k for job k.
-#[derive(Drop)]
+#[derive(Clone, Copy)]
 pub struct Cursor {
     pub at: usize,
     pub due: usize,
 }
 
 // A map of `wide` by `high` cells, whose bytes start at place `cells`.
-#[derive(Drop)]
+#[derive(Clone, Copy)]
 pub struct MapRecord {
     pub wide: usize,
     pub high: usize,
@@ -21,7 +21,7 @@ pub struct MapRecord {
 }
 
 // A job, numbered from 1, with its ends as vertex numbers.
-#[derive(Drop)]
+#[derive(Clone, Copy)]
 pub struct JobRecord {
     pub number: usize,
     pub neighbourhood: usize,
@@ -30,7 +30,7 @@ pub struct JobRecord {
 }
 
 // What a step finds. A map or a job comes with the cursor past it; a bad record is given by the place where it starts.
-#[derive(Drop)]
+#[derive(Clone, Copy)]
 pub enum Record {
     Map(MapRecord, Cursor),
     Job(JobRecord, Cursor),

@@ -1,4 +1,5 @@
 // The replay of a cart's log: its records one by one, the cost driven, the faults, and whether the log is cheapest.
+#![tactic(auto)]
 ghost use Rattle.std.specs.Prelude.{◌≡◌, ◌*◌, ◌<◌, ◌≤◌, eqb, length};
 ghost use Rattle.basics.specs.Bounded.{pick};
 ghost use Rattle.floor.specs.Floor.{floor_of, vertices};
@@ -27,7 +28,7 @@ use logs::{LogCursor, LogStep};
 use moves::{Directions, Move, Step};
 
 // Every record can follow the one before; or the number of the first that cannot.
-#[derive(Drop)]
+#[derive(Clone, Copy)]
 pub enum Followed {
     Throughout,
     Not(usize),
@@ -35,7 +36,7 @@ pub enum Followed {
 
 // What is answered of a log: the number of records read, the cost driven, the first record that cannot follow, and
 // whether the log is cheapest.
-#[derive(Drop)]
+#[derive(Clone, Copy)]
 pub struct Drive {
     pub read: usize,
     pub cost: u32,
@@ -44,7 +45,7 @@ pub struct Drive {
 }
 
 // The answer: a log read to its end; a log with a bad record, and the number of that record; or a refusal.
-#[derive(Drop)]
+#[derive(Clone, Copy)]
 pub enum Replayed {
     Whole(Drive),
     Broken(usize, Drive),
@@ -52,7 +53,7 @@ pub enum Replayed {
 }
 
 // The cost at which a record follows the one before, or shut where it cannot follow.
-#[derive(Drop)]
+#[derive(Clone, Copy)]
 enum Leg {
     At(u32),
     Shut,
@@ -60,7 +61,7 @@ enum Leg {
 
 // What was driven by the records read so far, and the vertices of the first and the last of them, 0 where none was
 // read.
-#[derive(Drop)]
+#[derive(Clone, Copy)]
 struct Progress {
     read: usize,
     cost: u32,
@@ -70,7 +71,7 @@ struct Progress {
 }
 
 // What was driven by the whole log, and whether a bad record ended the reading.
-#[derive(Drop)]
+#[derive(Clone, Copy)]
 struct Reading {
     drive: Progress,
     broken: bool,

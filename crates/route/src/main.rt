@@ -9,6 +9,7 @@
 //
 // No contract can name the bytes that libc's read and write move: that the buffer holds what was read, and that a write
 // moves what is lent to it, is not proved.
+#![tactic(auto)]
 ghost use Rattle.std.specs.Prelude.{◌≡◌, ◌*◌, ◌≤◌, ◌<◌, length};
 ghost use Rattle.floor.specs.Floor.{map_length, vertices};
 ghost use Rattle.planner.specs.Plan.{slices_of};
@@ -27,7 +28,7 @@ const MOST_TRIES: usize = 1000000000000000;
 
 // What is read of the input: so many bytes, at the start of the buffer, and whether that is all: the input has ended,
 // or can't be read.
-#[derive(Drop)]
+#[derive(Clone, Copy)]
 struct Reading {
     count: usize,
     over: bool,
@@ -35,7 +36,7 @@ struct Reading {
 
 // After a turn: so many bytes of the program's text are written, and where it goes on, or that they are all; or a part
 // could not be written, which ends the run.
-#[derive(Drop)]
+#[derive(Clone, Copy)]
 enum Sent {
     More(usize, Cursor),
     Last(usize),
@@ -44,7 +45,7 @@ enum Sent {
 
 // The end of a run: what is read of the input, and all of the text is written, so many bytes; or a part of it could
 // not be written.
-#[derive(Drop)]
+#[derive(Clone, Copy)]
 enum Ending {
     Whole(Reading, usize),
     Broken,

@@ -1,4 +1,5 @@
 // Line of sight between two vertices of a floor, and the sight question.
+#![tactic(auto)]
 ghost use Rattle.std.specs.Prelude.{◌≡◌, ◌+◌, ◌<◌, ◌≤◌, max};
 ghost use Rattle.floor.specs.Floor.{floor_of, vertices};
 ghost use Rattle.floor.specs.Known.{Sized};
@@ -15,7 +16,7 @@ mod scan; // scan.rt: the steps of a segment along a grid line, and the cells th
 
 // What is in the way from one vertex to another: nothing; a blocked cell that is entered; a shut step, given by the
 // vertex where it begins; or a pinch.
-#[derive(Drop)]
+#[derive(Clone, Copy)]
 pub enum Obstacle {
     Clear,
     Cell(Cell),
@@ -24,7 +25,7 @@ pub enum Obstacle {
 }
 
 // The answer to the sight question.
-#[derive(Drop)]
+#[derive(Clone, Copy)]
 pub enum Sight {
     Answered(Obstacle),
     Refused(Refusal),

@@ -124,7 +124,7 @@ fn line_obstacle(
 
 // Where a segment crosses a row line: so many whole columns from the first end, and a rest, of which `dy` make a
 // column.
-#[derive(Drop)]
+#[derive(Clone, Copy)]
 struct Crossing {
     column: usize,
     rest: usize,

@@ -1,4 +1,5 @@
 // Thinning: the positions of a list of vertices that a cart needs.
+#![tactic(auto)]
 ghost use Rattle.std.specs.Prelude.{◌≡◌, pred, ◌<◌, ◌≤◌, length, get_or};
 ghost use Rattle.basics.specs.Bounded.{every};
 ghost use Rattle.floor.specs.Floor.{floor_of, vertices};
@@ -10,7 +11,7 @@ ghost use Rattle.thinning.specs.Known.{VertexList, Leg, Recordable, Recorded};
 use floor::{Refusal, Shape, Vertex};
 
 // The answer: the number of positions that are kept, or a refusal.
-#[derive(Drop)]
+#[derive(Clone, Copy)]
 pub enum Thinned {
     Kept(usize),
     Refused(Refusal),

@@ -2,3 +2,4 @@
 // statement, proofs/Worked.antt the proof. proofs/Sights.antt has worked sight questions, proofs/Example.antt the
 // example of the program, and proofs/Packed.antt that a packed floor answers as the byte floor with the same cells.
 // There is no code here.
+#![tactic(auto)]

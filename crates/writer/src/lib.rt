@@ -1,5 +1,6 @@
 // Writing the program's input: one map record and job records into a lent buffer, with a writer that is passed by value
 // and answered by each call.
+#![tactic(auto)]
 ghost use Rattle.std.specs.Prelude.{◌≡◌, ◌+◌, ◌*◌, ◌/◌, ◌%◌, ◌≤◌, ◌<◌, length};
 ghost use Rattle.basics.specs.Lists.{tabulate};
 ghost use Rattle.floor.specs.Floor.{floor_of, cell_bytes};
@@ -15,14 +16,14 @@ use records::lines;
 // The place of the next record in the buffer, and the number of that record: 0 for the map, k for job k. C passes this
 // struct by value.
 #[repr(C)]
-#[derive(Drop)]
+#[derive(Clone, Copy)]
 pub struct Writer {
     pub at: usize,
     pub due: usize,
 }
 
 // The writer after a call, and the answer of the call.
-#[derive(Drop)]
+#[derive(Clone, Copy)]
 pub struct AfterWrite {
     pub writer: Writer,
     pub answer: Shape,

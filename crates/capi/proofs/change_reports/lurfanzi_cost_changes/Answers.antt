@@ -1,0 +1,8 @@
+-- `capi::change_reports::lurfanzi_cost_changes` meets its contract: it hands its numbers and slices on to
+use Rattle.capi.proofs.Changes.{costs_to}
+use borrow.Author.Rules.{rules}
+use Rattle.capi.proofs.change_reports.lurfanzi_cost_changes.Goals as goal
+
+pub returns : goal.returns
+returns c =
+    costs_to c.cost_changes-r.ensures c.shape_number.ensures

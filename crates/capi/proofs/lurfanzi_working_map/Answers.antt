@@ -1,0 +1,7 @@
+-- `capi::lurfanzi_working_map` meets its contract: it hands its numbers and slices on to
+use Rattle.capi.proofs.Given.{writes-to}
+use borrow.Author.Rules.{rules}
+use Rattle.capi.proofs.lurfanzi_working_map.Goals as goal
+
+pub returns : goal.returns
+returns c = writes-to c.the_working_map.ensures c.shape_number.ensures

@@ -1,0 +1,50 @@
+-- `checker::nexts::nexts_right` meets its contract: the rows before `y` pass. Assumes nothing.
+use Prim.Native.Nat.{suc, ◌-◌, ◌<◌}
+use mathlib.Core.Path.{◌∙◌}
+use native.Mathlib.Omega.{arith}
+use Rattle.basics.proofs.Scan.{Passed, passed_none, passed-stop, passed-more, passed-all}
+use Rattle.floor.specs.Floor.{floor_of}
+use Rattle.paths.specs.Sheet.{Sheet}
+use Rattle.grid.specs.Grid.{floor_graph}
+use Rattle.checker.specs.Tests.{chosen_of, next_row_test}
+use Rattle.checker.proofs.Choices.{nexts-rows}
+use borrow.Author.Rules.{rules}
+use Rattle.checker.proofs.nexts.nexts_right.Goals.{In-loop-y}
+use Rattle.checker.proofs.nexts.nexts_right.Goals as goal
+
+row_in : (c : In-loop-y) → c.loop-y.y < suc c.args.h
+row_in c = omega arith
+
+pub overflow_add-y-end : goal.overflow_add-y-end
+overflow_add-y-end c = omega (arith, c.requires.input.job.sized.high)
+
+pub loop-y-init : goal.loop-y-init
+loop-y-init c = passed_none _ _
+
+pub row_right-requires : goal.row_right-requires
+row_right-requires c =
+    (c.requires, omega (arith, row_in (goal.at.row_right-requires c).In-loop-y), c.window_masks-windows.ensures, c.shifts_of-shifts.ensures)
+
+pub returns-then-not-row_right : goal.returns-then-not-row_right
+returns-then-not-row_right c =
+    let a = c.args in
+    passed-stop c.row_right.result c.loop-y.invariant (row_in (goal.at.returns-then-not-row_right c).In-loop-y) c.row_right.ensures
+    c.if-not-row_right.true-raw
+    ∙ nexts-rows a.w a.h a.map.now a.dirs a.b.0 (chosen_of c.args.d.now c.args.e.now c.args.f.now c.args.back.now c.args.next.now)
+
+pub overflow_step-y : goal.overflow_step-y
+overflow_step-y c =
+    omega
+    (arith, row_in (goal.at.overflow_step-y c).In-loop-y, c.requires.input.job.sized.high)
+
+pub loop-y-preserved : goal.loop-y-preserved
+loop-y-preserved c =
+    passed-more c.row_right.result c.loop-y.invariant (row_in (goal.at.loop-y-preserved c).In-loop-y)
+    c.row_right.ensures
+    c.if-not-row_right.false-raw
+
+pub returns : goal.returns
+returns c =
+    let a = c.args in
+    passed-all c.loop-y.invariant (omega arith)
+    ∙ nexts-rows a.w a.h a.map.now a.dirs a.b.0 (chosen_of c.args.d.now c.args.e.now c.args.f.now c.args.back.now c.args.next.now)

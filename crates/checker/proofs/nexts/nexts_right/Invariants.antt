@@ -1,0 +1,17 @@
+-- `checker::nexts::nexts_right` meets its contract: the rows before `y` pass. Assumes nothing.
+use Prim.Native.Nat.{suc, ◌-◌, ◌<◌}
+use mathlib.Core.Path.{◌∙◌}
+use native.Mathlib.Omega.{arith}
+use Rattle.basics.proofs.Scan.{Passed, passed_none, passed-stop, passed-more, passed-all}
+use Rattle.floor.specs.Floor.{floor_of}
+use Rattle.paths.specs.Sheet.{Sheet}
+use Rattle.grid.specs.Grid.{floor_graph}
+use Rattle.checker.specs.Tests.{chosen_of, next_row_test}
+use Rattle.checker.proofs.Choices.{nexts-rows}
+use borrow.Author.Rules.{rules}
+use Rattle.checker.proofs.nexts.nexts_right.Given as goal
+
+-- `checker::nexts::nexts_right` meets its contract: the rows before `y` pass. Assumes nothing.
+abbrev pub invariant-loop-y : goal.invariant-loop-y
+invariant-loop-y l =
+    Passed (suc l.h) l.y (next_row_test (floor_graph (floor_of l.w l.h l.map) l.dirs) l.goal (chosen_of l.d l.e l.f l.back l.next) l.w)

@@ -1,0 +1,27 @@
+-- `checker::nexts::row_right` meets its contract: the flag says whether the next vertices of the row before column x
+use Prim.Native.Nat.{suc, ◌+◌, ◌-◌, ◌*◌, ◌≤◌}
+use mathlib.Core.Path.{◌≡◌, refl, sym, ap, ◌∙◌}
+use mathlib.Core.Logic.{⊎_elim}
+use native.Mathlib.Omega.{arith}
+use native.Mathlib.Numerals.{add-one}
+use borrow.Author.Tests.{not-true}
+use lib.ListN.{length, get_or}
+use Rattle.basics.specs.Bounded.{every}
+use Rattle.floor.specs.Floor.{floor_of, number}
+use Rattle.floor.proofs.Numbers.{mul-fits, vertices-le, number_lt}
+use Rattle.moves.specs.Table.{OnFloor}
+use Rattle.masks.specs.Masks.{Leaving}
+use Rattle.paths.specs.Distance.{unreachable}
+use Rattle.paths.specs.Local.{entry}
+use Rattle.grid.specs.Grid.{floor_graph}
+use Rattle.checker.specs.Tests.{chosen_of, next_column_test}
+use Rattle.checker.proofs.Choices.{next-row-blank, next-choosing, next-leads, next-stops, next-keeps}
+use borrow.Author.Rules.{rules}
+use Rattle.checker.proofs.nexts.row_right.Given as goal
+
+-- `checker::nexts::row_right` meets its contract: the flag says whether the next vertices of the row before column x
+-- pass. Assumes nothing.
+abbrev pub invariant-loop-x : goal.invariant-loop-x
+invariant-loop-x l =
+    (l.right ≡ every l.x (next_column_test (floor_graph (floor_of l.w l.h l.map) l.dirs) l.b (chosen_of l.d l.e l.f l.back l.next) l.w l.y))
+    × (l.x ≤ l.w + 1)

@@ -1,0 +1,21 @@
+-- `closures::mark_all` meets its contract: the closures of the slots below k are on the map. Assumes nothing.
+use Prim.Native.Nat.{◌-◌}
+use mathlib.Core.Path.{sym, ◌∙◌}
+use native.Mathlib.Omega.{arith}
+use borrow.Author.Rules.{rules}
+use Rattle.closures.proofs.Marks.{
+  Marking,
+  marking-good,
+  marking-length,
+  marking-none,
+  marking-more,
+  marking-done,
+}
+use Rattle.closures.proofs.mark_all.Given as goal
+
+-- `closures::mark_all` meets its contract: the closures of the slots below k are on the map. Assumes nothing.
+abbrev pub invariant-loop-k : goal.invariant-loop-k
+invariant-loop-k l = Marking l.table l.base l.k l.work
+
+abbrev pub decreases-loop-k : goal.decreases-loop-k
+decreases-loop-k l = 16 - l.k

@@ -1,0 +1,41 @@
+-- `legs::checking::legs_open` meets its contract: the legs passed are legs. Assumes nothing.
+use Prim.Native.Nat.{ℕ, suc, pred, ◌-◌}
+use mathlib.Core.Path.{◌≡◌, ◌∙◌, ap₂}
+use mathlib.Core.Bool.{Bool}
+use mathlib.Core.List.{List}
+use native.Mathlib.Omega.{arith}
+use native.Mathlib.Numerals.{add-one}
+use borrow.Author.Rules.{rules}
+use lib.ListN.{get_or}
+use Rattle.basics.proofs.Scan.{Passed, passed_none, passed-stop, passed-more, passed-all}
+use Rattle.legs.specs.Choices.{is_leg}
+use Rattle.legs.specs.Known.{sight_on}
+use Rattle.legs.proofs.checking.legs_open.Goals.{After-is_leg}
+use Rattle.legs.proofs.checking.legs_open.Goals as goal
+
+-- `legs::checking::legs_open` meets its contract: the legs passed are legs. Assumes nothing.
+abbrev leg_at : (ℕ → ℕ → Bool) → ℕ → List ℕ → ℕ → Bool
+leg_at s n l k = is_leg s n (get_or l k 0) (get_or l (suc k) 0)
+
+pub loop-k-init : goal.loop-k-init
+loop-k-init c = passed_none _ _
+
+-- What the test of a leg says of the kept positions.
+leg-told : (c : After-is_leg)
+    → (c.is_leg.result ≡ leg_at (sight_on c.args.w c.args.h c.args.map.now c.args.list.now) c.args.n c.args.kept.now c.loop-k.k)
+leg-told c =
+    c.is_leg.ensures
+    ∙ ap₂ (is_leg (sight_on c.args.w c.args.h c.args.map.now c.args.list.now) c.args.n) c.number_at-i.ensures.0 (rw add-one at c.number_at-j.ensures.0)
+
+pub returns-then-not-is_leg : goal.returns-then-not-is_leg
+returns-then-not-is_leg c =
+    let l = c.loop-k in
+    passed-stop c.is_leg.result l.invariant (omega arith) (leg-told (goal.at.returns-then-not-is_leg c).After-is_leg) c.if-not-is_leg.true-raw
+
+pub loop-k-preserved : goal.loop-k-preserved
+loop-k-preserved c =
+    let l = c.loop-k in
+    passed-more c.is_leg.result l.invariant (omega arith) (leg-told (goal.at.loop-k-preserved c).After-is_leg) c.if-not-is_leg.false-raw
+
+pub returns : goal.returns
+returns c = passed-all c.loop-k.invariant (omega arith)

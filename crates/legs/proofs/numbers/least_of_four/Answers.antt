@@ -1,0 +1,10 @@
+-- `legs::numbers::least_of_four` meets its contract: the lesser of two least numbers is at most each of both
+use native.Mathlib.Omega.{arith}
+use borrow.Author.Rules.{rules}
+use Rattle.legs.proofs.Least.{at-most-then}
+use Rattle.legs.proofs.numbers.least_of_four.Goals as goal
+
+pub returns : goal.returns
+returns c =
+    at-most-then c.least_of_two.ensures c.least_of_two-2.ensures _ _ (omega arith)
+    c.min.ensures

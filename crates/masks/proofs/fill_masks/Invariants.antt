@@ -1,0 +1,14 @@
+-- `masks::fill_masks` meets its contract: the masks of the moves that leave the vertices are stored, and then the moves
+use Prim.Native.Nat.{suc, ◌+◌, ◌-◌, ◌*◌, ◌≤◌}
+use mathlib.Core.Path.{◌≡◌, sym, ap, ◌∙◌}
+use native.Mathlib.Omega.{arith}
+use Rattle.floor.specs.Floor.{floor_of, number}
+use Rattle.masks.specs.Masks.{Cleared}
+use Rattle.masks.proofs.Clearing.{cleared-none, cleared-all}
+use borrow.Author.Rules.{rules}
+use Rattle.masks.proofs.fill_masks.Given as goal
+
+-- `masks::fill_masks` meets its contract: the masks of the moves that leave the vertices are stored, and then the moves
+-- to pinches of the rows before y are cleared. Assumes nothing.
+abbrev pub invariant-loop-y : goal.invariant-loop-y
+invariant-loop-y l = Cleared (floor_of l.w l.h l.map) l.dirs (number l.w 0 l.y) l.masks × (l.y ≤ l.h + 1)

@@ -1,0 +1,25 @@
+-- `masks::join_line` meets its contract: the masks of the vertices before column x of the row are made, the rest of the
+use Prim.Native.Nat.{ℕ, suc, ◌+◌, ◌-◌, ◌≤◌}
+use mathlib.Core.Path.{◌≡◌, refl, sym, ap, ◌∙◌}
+use native.Mathlib.Omega.{arith}
+use native.Mathlib.Numerals.{add-one}
+use lib.ListN.{length-set, get_or}
+use lib.Seq.{get_or-set_other}
+use Rattle.floor.specs.Floor.{floor_of}
+use Rattle.moves.specs.Table.{sixteen_dirs}
+use Rattle.masks.specs.Masks.{LeavingRow}
+use Rattle.masks.specs.Windows.{window_at}
+use Rattle.masks.proofs.Masks.{row-none, row_more}
+use Rattle.masks.proofs.Windows.{past-right, line-leaving}
+use borrow.Author.Rules.{rules}
+use Rattle.masks.proofs.join_line.Given as goal
+
+-- `masks::join_line` meets its contract: the masks of the vertices before column x of the row are made, the rest of the
+-- line is as it was, and `before` is the mask of the window on the left of that vertex. Assumes nothing.
+abbrev pub invariant-loop-x : goal.invariant-loop-x
+invariant-loop-x l =
+    LeavingRow (floor_of l.w l.h l.map) sixteen_dirs l.y l.x l.line × ((k : ℕ) → l.x ≤ k → get_or l.line k 0 ≡ get_or l.initial.line k 0)
+    × (l.before ≡ get_or l.windows (window_at (floor_of l.w l.h l.map) (l.x - 1) l.y) 0) × (l.x ≤ l.w)
+
+abbrev pub decreases-loop-x : goal.decreases-loop-x
+decreases-loop-x l = l.w - l.x

@@ -1,0 +1,37 @@
+-- `masks::window_mask` meets its contract: the mask is that of a pinch, or that of the table that has the directions.
+use mathlib.Core.Path.{◌≡◌, sym, ◌∙◌}
+use mathlib.Core.Bool.{false}
+use Rattle.basics.specs.Bits.{bit}
+use Rattle.moves.proofs.Table.{table-sixteen, table-eight, table-within}
+use Rattle.masks.specs.Windows.{pinch_of}
+use Rattle.masks.proofs.Windows.{pinch-window, pinch-alone, window-within}
+use borrow.Author.Rules.{rules}
+use Rattle.masks.proofs.window_mask.Goals.{Else-is_pinch}
+use Rattle.masks.proofs.window_mask.Goals as goal
+
+-- The middle of the floor is no pinch.
+free : (c : Else-is_pinch)
+    → let b = c.args.b in
+    pinch_of (bit b 0) (bit b 1) (bit b 2) (bit b 3) ≡ false
+free c =
+    sym (pinch-window c.window_map-map.ensures) ∙ sym c.is_pinch.ensures ∙ c.if-is_pinch.false
+
+pub returns-then-is_pinch : goal.returns-then-is_pinch
+returns-then-is_pinch c =
+    pinch-alone c.requires
+    (sym (pinch-window c.window_map-map.ensures) ∙ sym c.is_pinch.ensures ∙ c.if-is_pinch.true)
+
+pub sixteen_open-requires : goal.sixteen_open-requires
+sixteen_open-requires c = free (goal.at.sixteen_open-requires c).Else-is_pinch
+
+pub returns-then-dirs-eq16 : goal.returns-then-dirs-eq16
+returns-then-dirs-eq16 c =
+    window-within (rw (table-sixteen c.args.dirs c.if-dirs-eq16.true) at (table-within c.requires))
+    c.sixteen_open.ensures
+
+pub eight_open-requires : goal.eight_open-requires
+eight_open-requires c = free (goal.at.eight_open-requires c).Else-is_pinch
+
+pub returns : goal.returns
+returns c =
+    window-within (rw (table-eight c.args.dirs c.if-dirs-eq16.false) at (table-within c.requires)) c.eight_open.ensures

@@ -1,0 +1,15 @@
+-- `masks::window_row` meets its contract: the windows of the vertices before column x of the line are read, and `left`
+use Prim.Native.Nat.{suc, ◌+◌, ◌-◌, ◌*◌, ◌≤◌}
+use mathlib.Core.Path.{◌≡◌, refl, ap, ap₂, ◌∙◌}
+use native.Mathlib.Omega.{arith}
+use native.Mathlib.Numerals.{add-one}
+use Rattle.floor.specs.Floor.{floor_of}
+use Rattle.masks.specs.Windows.{pair_at, window_at, WindowRow}
+use Rattle.masks.proofs.Windows.{read_none, read_more}
+use Rattle.masks.proofs.window_row.Given as goal
+
+-- `masks::window_row` meets its contract: the windows of the vertices before column x of the line are read, and `left`
+-- has the two cells on the left of that one. Assumes nothing.
+abbrev pub invariant-loop-x : goal.invariant-loop-x
+invariant-loop-x l =
+    WindowRow (floor_of l.w l.h l.map) l.y l.windows l.x l.masks × (l.left ≡ pair_at (floor_of l.w l.h l.map) l.x l.y) × (l.left ≤ 5) × (l.x ≤ l.w + 1)

@@ -1,0 +1,14 @@
+-- `mending::sheet_differences` meets its contract: each count is that of its slices. Assumes nothing.
+use borrow.Author.Rules.{rules}
+use Rattle.mending.proofs.sheet_differences.Goals as goal
+
+pub returns : goal.returns
+returns c =
+    rw (
+      c.differences_u32.ensures,
+      c.differences_u32-2.ensures,
+      c.differences_u64.ensures,
+      c.differences_u64-2.ensures,
+      c.differences_u16.ensures,
+      c.differences_u16-2.ensures,
+    )

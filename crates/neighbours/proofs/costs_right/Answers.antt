@@ -1,0 +1,93 @@
+-- `neighbours::costs_right` meets its contract, cost by cost. Assumes nothing.
+use Prim.Native.Nat.{ℕ}
+use mathlib.Core.Path.{◌≡◌, sym, ◌∙◌}
+use mathlib.Core.Logic.{⊎_elim}
+use mathlib.Core.List.{List}
+use native.Mathlib.Omega.{arith}
+use borrow.Author.Tests.{not-true, not-false}
+use borrow.Author.Rules.{rules}
+use Rattle.paths.specs.Local.{entry}
+use Rattle.neighbours.specs.Least.{least_first, least_at, right_least}
+use Rattle.neighbours.proofs.Least.{min-found, by_two, by-four, right-found}
+use Rattle.neighbours.proofs.costs_right.Goals.{After-min-e_least, After-right_by, Joined-classes-ne0}
+use Rattle.neighbours.proofs.costs_right.Goals as goal
+
+pub least_by-d_first-requires : goal.least_by-d_first-requires
+least_by-d_first-requires c = c.requires.0.class 0 (omega arith)
+
+pub least_by-e_first-requires : goal.least_by-e_first-requires
+least_by-e_first-requires c =
+    let p = c.requires in rw p.1 (p.0.class 0 (omega arith))
+
+pub least_by-d_second-requires : goal.least_by-d_second-requires
+least_by-d_second-requires c =
+    c.requires.0.class 1 (omega arith)
+
+pub least_by-e_second-requires : goal.least_by-e_second-requires
+least_by-e_second-requires c =
+    let p = c.requires in
+    rw p.1 (p.0.class 1 (omega arith))
+
+pub least_by-d_third-requires : goal.least_by-d_third-requires
+least_by-d_third-requires c = c.requires.0.class 2 (omega arith)
+
+pub least_by-e_third-requires : goal.least_by-e_third-requires
+least_by-e_third-requires c =
+    let p = c.requires in rw p.1 (p.0.class 2 (omega arith))
+
+pub least_by-d_fourth-requires : goal.least_by-d_fourth-requires
+least_by-d_fourth-requires c = c.requires.0.class 3 (omega arith)
+
+pub least_by-e_fourth-requires : goal.least_by-e_fourth-requires
+least_by-e_fourth-requires c =
+    let p = c.requires in
+    rw p.1 (p.0.class 3 (omega arith))
+
+-- the least by the first two classes, and by all, of the costs l
+abbrev first : After-min-e_least → List ℕ → ℕ
+first c l = let a = c.args in least_first a.shifts.now a.t2 a.mask (entry l) a.v
+
+abbrev least : After-min-e_least → List ℕ → ℕ
+least c l = let a = c.args in least_at a.shifts.now a.t2 a.mask (entry l) a.v
+
+d-first : (c : After-min-e_least) → c.min-d_least.result ≡ first c c.args.d.now
+d-first c =
+    min-found c.least_by-d_first.ensures c.least_by-d_second.ensures
+    c.min-d_least.ensures
+
+e-first : (c : After-min-e_least) → c.min-e_least.result ≡ first c c.args.e.now
+e-first c =
+    min-found c.least_by-e_first.ensures c.least_by-e_second.ensures c.min-e_least.ensures
+
+-- the least by all classes, after the branch
+d-least : (c : Joined-classes-ne0) → c.if-classes-ne0.d-least ≡ least (goal.at.Joined-classes-ne0 c).After-min-e_least c.args.d.now
+d-least c =
+    let a = c.args in
+    ⊎_elim
+    (λ w. w.13 ∙ by-four a.shifts.now a.t2 a.mask (entry a.d.now) a.v w.0.taken (d-first (goal.at.Joined-classes-ne0 c).After-min-e_least)
+    (min-found w.2.ensures w.6.ensures w.9.ensures) w.10.ensures)
+    (λ w. w.1 ∙ by_two a.shifts.now a.t2 a.mask (entry a.d.now) a.v w.0.left (d-first (goal.at.Joined-classes-ne0 c).After-min-e_least))
+    c.if-classes-ne0.branch-raw
+
+e-least : (c : Joined-classes-ne0) → c.if-classes-ne0.e-least ≡ least (goal.at.Joined-classes-ne0 c).After-min-e_least c.args.e.now
+e-least c =
+    let a = c.args in
+    ⊎_elim
+    (λ w. w.14 ∙ by-four a.shifts.now a.t2 a.mask (entry a.e.now) a.v w.0.taken (e-first (goal.at.Joined-classes-ne0 c).After-min-e_least)
+    (min-found w.4.ensures w.8.ensures w.11.ensures) w.12.ensures)
+    (λ w. w.2 ∙ by_two a.shifts.now a.t2 a.mask (entry a.e.now) a.v w.0.left (e-first (goal.at.Joined-classes-ne0 c).After-min-e_least))
+    c.if-classes-ne0.branch-raw
+
+-- the test of d(v), as the code answers it
+d-right : (c : After-right_by)
+    → let a = c.args in
+    c.right_by.result ≡ right_least a.shifts.now a.t2 a.mask a.a (entry a.d.now) a.v
+d-right c = right-found _ _ _ (d-least (goal.at.After-right_by c).Joined-classes-ne0) c.right_by.ensures
+
+pub returns-then-not-right_by : goal.returns-then-not-right_by
+returns-then-not-right_by c = rw (sym (d-right (goal.at.returns-then-not-right_by c).After-right_by) ∙ not-true _ c.if-not-right_by.true-raw)
+
+pub returns : goal.returns
+returns c =
+    rw (sym (d-right (goal.at.returns c).After-right_by) ∙ not-false _ c.if-not-right_by.false-raw)
+    (right-found _ _ _ (e-least (goal.at.returns c).Joined-classes-ne0) c.right_by-2.ensures)

@@ -1,0 +1,15 @@
+-- `offsets::eight_shifts` meets its contract: the moves before m have their shifts. Assumes nothing.
+use Prim.Native.Nat.{◌-◌, ◌≤◌}
+use mathlib.Core.Path.{◌≡◌, refl}
+use native.Mathlib.Omega.{arith}
+use Rattle.moves.specs.Table.{eight_dirs}
+use Rattle.moves.proofs.Table.{listed-lawful, eight-listed}
+use Rattle.offsets.proofs.Masked.{ShiftsTo, shifts_none, shifts-more, shifts-all}
+use Rattle.offsets.proofs.eight_shifts.Given as goal
+
+-- `offsets::eight_shifts` meets its contract: the moves before m have their shifts. Assumes nothing.
+abbrev pub invariant-loop-m : goal.invariant-loop-m
+invariant-loop-m l = ShiftsTo l.w eight_dirs l.m l.shifts × (l.m ≤ 8)
+
+abbrev pub decreases-loop-m : goal.decreases-loop-m
+decreases-loop-m l = 8 - l.m

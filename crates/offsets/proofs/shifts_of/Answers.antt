@@ -1,0 +1,15 @@
+-- `offsets::shifts_of` meets its contract: the shifts of a table hold for the directions that are in it. Assumes
+use Rattle.moves.proofs.Table.{table-sixteen, table-eight, table-within}
+use Rattle.offsets.proofs.Masked.{shifts-within}
+use borrow.Author.Rules.{rules}
+use Rattle.offsets.proofs.shifts_of.Goals as goal
+
+pub returns-then-dirs-eq16 : goal.returns-then-dirs-eq16
+returns-then-dirs-eq16 c =
+    shifts-within (rw (table-sixteen c.args.dirs c.if-dirs-eq16.true) at (table-within c.requires.1))
+    c.sixteen_shifts.ensures
+
+pub returns : goal.returns
+returns c =
+    shifts-within (rw (table-eight c.args.dirs c.if-dirs-eq16.false) at (table-within c.requires.1))
+    c.eight_shifts.ensures

@@ -1,0 +1,23 @@
+-- `planner::fill_costs` meets its contract: a start of bad shape is refused, and from any other the costs are filled.
+use mathlib.Core.Path.{refl, sym, ◌∙◌}
+use Rattle.grid.proofs.Jobs.{good-job}
+use Rattle.planner.proofs.Shaped.{fills-refused, fills-fit}
+use borrow.Author.Rules.{rules}
+use Rattle.planner.proofs.fill_costs.Goals as goal
+
+pub fill_job-requires : goal.fill_job-requires
+fill_job-requires c =
+    good-job _ _ _ _ _ _ _ (sym c.job_shape-shape.ensures ∙ c.in-Fit.is)
+
+pub returns-in-Refused : goal.returns-in-Refused
+returns-in-Refused c = fills-refused (sym c.job_shape-shape.ensures ∙ c.in-Refused.is) refl
+
+pub shape_of-d : goal.shape_of-d
+shape_of-d c = c.fill_job.auto.1.1.1.1.1.0
+
+pub shape_of-work : goal.shape_of-work
+shape_of-work c = c.fill_job.auto.1.1.1.1.1.1.0
+
+pub returns-in-Fit : goal.returns-in-Fit
+returns-in-Fit c =
+    fills-fit c.job_shape-shape.ensures c.in-Fit.is c.fill_job.ensures

@@ -1,0 +1,26 @@
+-- `planner::route::write_route` meets its contract: the n points written are those of the route before `at`. Assumes
+use Prim.Native.Nat.{◌-◌, ◌<◌}
+use native.Mathlib.Omega.{arith}
+use borrow.Author.Rules.{rules}
+use lib.ListN.{length}
+use Rattle.paths.specs.Graph.{Graph}
+use Rattle.planner.specs.Parts.{Walkable}
+use Rattle.planner.proofs.Walking.{
+  Walking,
+  Stepping,
+  step_start,
+  step-more,
+  step_end,
+  step-len,
+  next-len,
+  walking-room,
+}
+use Rattle.planner.proofs.route.write_route.Given as goal
+
+-- `planner::route::write_route` meets its contract: the n points written are those of the route before `at`. Assumes
+-- nothing.
+abbrev pub invariant-loop-at : goal.invariant-loop-at
+invariant-loop-at l = Stepping l.a l.b l.next l.initial.route l.n l.at l.route
+
+abbrev pub decreases-loop-at : goal.decreases-loop-at
+decreases-loop-at l = length l.next - l.n

@@ -1,0 +1,15 @@
+-- `records::lines::put_text` meets its contract: the first k bytes of the text are written. Assumes nothing.
+use Prim.Native.Nat.{◌+◌, ◌-◌, ◌≤◌}
+use native.Mathlib.Omega.{arith}
+use borrow.Author.Rules.{rules}
+use lib.ListN.{length, take}
+use Rattle.records.specs.Known.{Written}
+use Rattle.records.proofs.Writing.{Copying, copying-none, copying-more, copying-done}
+use Rattle.records.proofs.lines.put_text.Given as goal
+
+-- `records::lines::put_text` meets its contract: the first k bytes of the text are written. Assumes nothing.
+abbrev pub invariant-loop-k : goal.invariant-loop-k
+invariant-loop-k l = Copying l.initial.buf l.at l.text l.n l.k l.buf
+
+abbrev pub decreases-loop-k : goal.decreases-loop-k
+decreases-loop-k l = l.n - l.k

@@ -1,0 +1,21 @@
+-- `replay::judge` meets its contract: a log with a fault leaves both slices 0, and from the first record of any other
+use borrow.Author.Rules.{rules}
+use Rattle.replay.proofs.Shaped.{faulty-judged, start-good, faultless-judged}
+use Rattle.replay.proofs.judge.Goals as goal
+
+pub returns-then-not-is_faultless : goal.returns-then-not-is_faultless
+returns-then-not-is_faultless c =
+    faulty-judged c.requires.1 c.args.costs-1.now c.args.work-1.now c.is_faultless.ensures
+    c.if-not-is_faultless.true-raw c.requires.0 c.fill_u32.ensures c.fill_u32-then-not-is_faultless.ensures
+
+pub costs_from-requires : goal.costs_from-requires
+costs_from-requires c =
+    record {
+      job = start-good c.requires.1 c.is_faultless.ensures c.if-not-is_faultless.false-raw c.requires.0.good;
+      d_len = c.requires.0.costs_len;
+      work_len = c.requires.0.work_len;
+    }
+
+pub returns : goal.returns
+returns c =
+    faultless-judged c.requires.1 c.is_faultless.ensures c.if-not-is_faultless.false-raw c.costs_from.ensures

@@ -1,0 +1,13 @@
+-- `route::read_more` meets its contract: what is read stands past the first n bytes, which are left. Depends on libc's
+use Prim.Native.Nat.{◌-◌}
+use native.Mathlib.Omega.{arith}
+use lib.ListN.{length}
+use Rattle.route.proofs.Settling.{read_more}
+use borrow.Author.Rules.{rules}
+use Rattle.route.proofs.read_more.Goals as goal
+
+pub returns : goal.returns
+returns c =
+    let a = c.args in
+    read_more a.input-1.now c.read_some-got.new.0 a.n (length a.input-1.now - a.n) c.read_some-got.result
+    (omega (arith, c.requires)) c.read_some-got.ensures

@@ -1,0 +1,25 @@
+-- `sight::scan::slanted_obstacle` meets its contract: the rows passed have nothing in the way, and the crossing of the
+use Prim.Native.Nat.{◌+◌, ◌-◌, ◌≤◌, ◌<◌}
+use mathlib.Core.Path.{sym, ◌∙◌}
+use native.Mathlib.Omega.{arith}
+use native.Mathlib.Nat.{mod-lt, div-le_self}
+use borrow.Author.Rules.{rules}
+use borrow.Author.Tests.{not-true, not-false}
+use Rattle.floor.specs.Floor.{floor_of}
+use Rattle.sight.specs.Sight.{segment_of}
+use Rattle.sight.specs.Obstacle.{span}
+use Rattle.sight.specs.Travel.{row_obstacle, Crosses}
+use Rattle.sight.proofs.Travel.{span-le}
+use Rattle.sight.proofs.First.{clear-is, Looked, looked-none, looked-more, looked-all, looked-stop}
+use Rattle.sight.proofs.Runs.{crosses-first, crosses-next, crosses-inside}
+use Rattle.sight.proofs.scan.slanted_obstacle.Given as goal
+
+-- `sight::scan::slanted_obstacle` meets its contract: the rows passed have nothing in the way, and the crossing of the
+-- next row line is known. Assumes nothing.
+abbrev pub invariant-loop-r : goal.invariant-loop-r
+invariant-loop-r l =
+    Looked (span l.y0 l.y1) l.r (row_obstacle (floor_of l.w l.h l.map) (segment_of l.x0 l.y0 l.x1 l.y1))
+    × Crosses (span l.x0 l.x1) (span l.y0 l.y1) l.r l.at.column l.at.rest
+
+abbrev pub decreases-loop-r : goal.decreases-loop-r
+decreases-loop-r l = l.dy - l.r

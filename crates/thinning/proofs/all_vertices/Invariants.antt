@@ -1,0 +1,17 @@
+-- `thinning::all_vertices` meets its contract: the numbers passed are all vertices. Assumes nothing.
+use Prim.Native.Nat.{◌-◌}
+use mathlib.Core.Path.{refl, ap}
+use mathlib.Core.Bool.{not}
+use native.Mathlib.Omega.{arith}
+use borrow.Author.Rules.{rules}
+use Rattle.basics.proofs.Scan.{Passed, passed_none, passed-stop, passed-more, passed-all}
+use Rattle.thinning.specs.Thinning.{is_vertex}
+use Rattle.thinning.proofs.Shapes.{vertex-yes, vertex-no}
+use Rattle.thinning.proofs.all_vertices.Given as goal
+
+-- `thinning::all_vertices` meets its contract: the numbers passed are all vertices. Assumes nothing.
+abbrev pub invariant-loop-k : goal.invariant-loop-k
+invariant-loop-k l = Passed l.n l.k (is_vertex l.w l.h l.list)
+
+abbrev pub decreases-loop-k : goal.decreases-loop-k
+decreases-loop-k l = l.n - l.k

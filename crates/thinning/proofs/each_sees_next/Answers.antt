@@ -1,0 +1,29 @@
+-- `thinning::each_sees_next` meets its contract: each vertex passed sees the next. Assumes nothing.
+use Prim.Native.Nat.{suc, pred, ◌-◌}
+use native.Mathlib.Omega.{arith}
+use native.Mathlib.Numerals.{add-one}
+use borrow.Author.Rules.{rules}
+use Rattle.basics.proofs.Scan.{Passed, passed_none, passed-stop, passed-more, passed-all}
+use Rattle.floor.specs.Floor.{floor_of}
+use Rattle.thinning.specs.Thinning.{sees_next}
+use Rattle.thinning.proofs.each_sees_next.Goals as goal
+
+pub loop-k-init : goal.loop-k-init
+loop-k-init c = passed_none _ _
+
+pub returns-then-not-seen_at : goal.returns-then-not-seen_at
+unfolding sees_next
+returns-then-not-seen_at c =
+    let l = c.loop-k in
+    let e = rw add-one at c.seen_at.ensures in
+    passed-stop c.seen_at.result l.invariant (omega arith) e c.if-not-seen_at.true-raw
+
+pub loop-k-preserved : goal.loop-k-preserved
+unfolding sees_next
+loop-k-preserved c =
+    let l = c.loop-k in
+    let e = rw add-one at c.seen_at.ensures in
+    passed-more c.seen_at.result l.invariant (omega arith) e c.if-not-seen_at.false-raw
+
+pub returns : goal.returns
+returns c = passed-all c.loop-k.invariant (omega arith)

@@ -1,0 +1,16 @@
+-- `thinning::each_sees_next` meets its contract: each vertex passed sees the next. Assumes nothing.
+use Prim.Native.Nat.{suc, pred, ◌-◌}
+use native.Mathlib.Omega.{arith}
+use native.Mathlib.Numerals.{add-one}
+use borrow.Author.Rules.{rules}
+use Rattle.basics.proofs.Scan.{Passed, passed_none, passed-stop, passed-more, passed-all}
+use Rattle.floor.specs.Floor.{floor_of}
+use Rattle.thinning.specs.Thinning.{sees_next}
+use Rattle.thinning.proofs.each_sees_next.Given as goal
+
+-- `thinning::each_sees_next` meets its contract: each vertex passed sees the next. Assumes nothing.
+abbrev pub invariant-loop-k : goal.invariant-loop-k
+invariant-loop-k l = Passed (pred l.n) l.k (sees_next (floor_of l.w l.h l.map) l.list)
+
+abbrev pub decreases-loop-k : goal.decreases-loop-k
+decreases-loop-k l = l.n - l.k

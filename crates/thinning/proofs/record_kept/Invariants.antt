@@ -1,0 +1,27 @@
+-- `thinning::record_kept` meets its contract: `Recording` says what the loop has recorded. Assumes nothing.
+use Prim.Native.Nat.{suc, ◌-◌, ◌<◌}
+use mathlib.Core.Path.{sym, ap, ◌∙◌}
+use native.Mathlib.Omega.{arith}
+use borrow.Author.Rules.{rules}
+use lib.ListN.{length}
+use Rattle.basics.specs.Lists.{padded}
+use Rattle.floor.specs.Floor.{Floor, floor_of}
+use Rattle.thinning.specs.Thinning.{seen, sees_next, next_kept}
+use Rattle.thinning.proofs.Shapes.{Joined, joined-list, joined-sees}
+use Rattle.thinning.proofs.Kept.{Next, next-kept, kept-chain}
+use Rattle.thinning.proofs.Recording.{
+  Recording,
+  recording-first,
+  recording-more,
+  recording-count,
+  recording-done,
+}
+use Rattle.thinning.proofs.record_kept.Given as goal
+
+-- `thinning::record_kept` meets its contract: `Recording` says what the loop has recorded. Assumes nothing.
+abbrev pub invariant-loop-i : goal.invariant-loop-i
+invariant-loop-i l =
+    Recording (next_kept (seen (floor_of l.w l.h l.map) l.list) l.n) l.n (length l.list) l.m l.i l.out
+
+abbrev pub decreases-loop-i : goal.decreases-loop-i
+decreases-loop-i l = l.n - l.i

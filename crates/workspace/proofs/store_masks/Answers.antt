@@ -1,0 +1,13 @@
+-- `workspace::store_masks` meets its contract: the masks are filled in a part of the working slice. Assumes nothing.
+use Rattle.floor.specs.Floor.{floor_of}
+use Rattle.workspace.proofs.Regions.{masks-filled}
+use borrow.Author.Rules.{rules}
+use Rattle.workspace.proofs.store_masks.Goals as goal
+
+pub returns : goal.returns
+returns c =
+    let n = c.vertex_count-count in
+    let a = c.args in
+    masks-filled (floor_of a.w a.h a.map.now) a.dirs n.result a.work-1.now _ n.ensures.0
+    c.requires.2
+    c.fill_masks.ensures

@@ -1,0 +1,15 @@
+-- `writer::put_cells` meets its contract: the bytes of the first c cells are written. Assumes nothing.
+use Prim.Native.Nat.{◌-◌}
+use native.Mathlib.Omega.{arith}
+use Rattle.basics.specs.Lists.{tabulate}
+use Rattle.records.proofs.Writing.{Copying, copying-done}
+use Rattle.writer.specs.Known.{cell_byte}
+use Rattle.writer.proofs.Cells.{cells-none, cells-more}
+use Rattle.writer.proofs.put_cells.Given as goal
+
+-- `writer::put_cells` meets its contract: the bytes of the first c cells are written. Assumes nothing.
+abbrev pub invariant-loop-c : goal.invariant-loop-c
+invariant-loop-c l = Copying l.initial.buf l.at (tabulate l.count (cell_byte l.map)) l.count l.c l.buf
+
+abbrev pub decreases-loop-c : goal.decreases-loop-c
+decreases-loop-c l = l.count - l.c
