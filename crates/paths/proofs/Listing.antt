@@ -23,9 +23,9 @@ module _ {A : Type 0} where
   pub gather-cases : {x : A} (n : ℕ) (F : ℕ → List A) → Memᴰ x (gather n F)
       → (m : ℕ) × (m < n) × Memᴰ x (F m)
   unfolding gather
-  gather-cases zero F h = absurd (Memᴰ.not-nil h)
-  gather-cases (suc n) F h =
-      ⊎_elim (λ a. let r = gather-cases n F a in (r.0, omega (arith, r.1), r.2)) (λ b. (n, omega arith, b))
+  gather-cases {x = x} zero F h = absurd (Memᴰ.not-nil h)
+  gather-cases {x = x} (suc n) F h =
+      ⊎_elim (λ a. let r = gather-cases {x = x} n F a in (r.0, omega (arith, r.1), r.2)) (λ b. (n, omega arith, b))
       (Memᴰ.append_cases (gather n F) h)
 
   pub gather-mem : {x : A} (n m : ℕ) (F : ℕ → List A) → m < n → Memᴰ x (F m) → Memᴰ x (gather n F)
