@@ -8,6 +8,6 @@ pub returns : goal.returns
 returns c =
     let n = c.vertex_count-count in
     let a = c.args in
-    masks-filled (floor_of a.w a.h a.map.now) a.dirs n.result a.work-1.now _ n.ensures.0
+    masks-filled (floor_of a.w a.h a.map.now) a.dirs n.result a.work.now _ n.ensures.0
     c.requires.2
     c.fill_masks.ensures
