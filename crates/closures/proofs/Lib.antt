@@ -5,4 +5,3 @@ pub mod Rows
 pub mod Answered
 pub mod Simulation
 pub mod Working
-pub mod InPlace

@@ -7,7 +7,6 @@ use Rattle.closures.specs.Table.{held}
 use Rattle.closures.proofs.Search.{Searched, searched-none, searched-found, searched-more, searched-all}
 use Rattle.closures.proofs.lowest_free.Given as goal
 
--- `closures::lowest_free` meets its contract: no slot below `k` is free. Assumes nothing.
 abbrev pub invariant-loop-k : goal.invariant-loop-k
 invariant-loop-k l = Searched (held l.table) l.k
 

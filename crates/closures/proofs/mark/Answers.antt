@@ -43,7 +43,7 @@ overflow_step-j c =
 pub loop-j-preserved : goal.loop-j-preserved
 loop-j-preserved c =
     let a = c.args in
-    rows_more a.r a.w a.h a.work-1.now c.requires.0 c.loop-j.invariant c.requires.1 (omega arith) _ _
+    rows_more a.r a.w a.h a.work.now c.requires.0 c.loop-j.invariant c.requires.1 (omega arith) _ _
     c.cell_at.ensures c.block_cells.ensures
 
 pub shape_of-work : goal.shape_of-work

@@ -7,6 +7,5 @@ use Rattle.floor.proofs.Maps.{row_fits}
 use Rattle.closures.proofs.Rows.{Rows, rows_none, rows-good, rows-length, rows_more, rows-done}
 use Rattle.closures.proofs.mark.Given as goal
 
--- `closures::mark` meets its contract: the rows before row j are blocked. Assumes nothing.
 abbrev pub invariant-loop-j : goal.invariant-loop-j
 invariant-loop-j l = Rows l.r l.w l.h l.initial.work l.j-end l.j l.work

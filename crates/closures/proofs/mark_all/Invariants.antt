@@ -13,7 +13,6 @@ use Rattle.closures.proofs.Marks.{
 }
 use Rattle.closures.proofs.mark_all.Given as goal
 
--- `closures::mark_all` meets its contract: the closures of the slots below k are on the map. Assumes nothing.
 abbrev pub invariant-loop-k : goal.invariant-loop-k
 invariant-loop-k l = Marking l.table l.base l.k l.work
 

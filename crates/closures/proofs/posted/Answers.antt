@@ -1,4 +1,5 @@
 -- `closures::posted` meets its contract: a refusal leaves the table as it was, and otherwise the lowest free slot is
+-- changed. Assumes nothing.
 use mathlib.Core.Path.{sym, ◌∙◌}
 use Rattle.closures.specs.Table.{held}
 use Rattle.closures.proofs.Shapes.{good-post}

@@ -1,4 +1,5 @@
 -- `closures::struck` meets its contract: a refusal leaves the table as it was, and otherwise the slot is freed. Assumes
+-- nothing.
 use mathlib.Core.Path.{sym, ◌∙◌}
 use native.Mathlib.Omega.{arith}
 use Rattle.closures.specs.Table.{held}

@@ -1,4 +1,5 @@
 -- `closures::working_map` meets its contract: a refusal leaves the working slice as it was lent, else the map is
+-- written. Assumes nothing.
 use mathlib.Core.Path.{◌≡◌, sym, ◌∙◌}
 use lib.ListN.{length}
 use Rattle.floor.specs.declared.Shape.TheVariants.{Good}
@@ -28,4 +29,4 @@ mark_all-requires c =
 pub returns : goal.returns
 returns c =
     let a = c.args in
-    writes-map a.table a.base.now a.work-1.now _ (good (goal.at.returns c).In-Good) c.mark_all.ensures
+    writes-map a.table a.base.now a.work.now _ (good (goal.at.returns c).In-Good) c.mark_all.ensures

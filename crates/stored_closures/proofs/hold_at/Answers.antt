@@ -1,4 +1,5 @@
 -- `stored_closures::hold_at` meets its contract: the test of the columns says whether the slot is held. Assumes
+-- nothing.
 use mathlib.Core.Path.{ap, ◌∙◌}
 use mathlib.Core.Option.{some}
 use borrow.Author.Rules.{rules}

@@ -1,4 +1,5 @@
 -- `stored_closures::strike` meets its contract: the answer for the table is that for the numbers, and four zeros are
+-- stored in the slot. Assumes nothing.
 use mathlib.Core.Path.{◌≡◌}
 use Rattle.closures.specs.Plain.{strike_shape}
 use borrow.Author.Rules.{rules}

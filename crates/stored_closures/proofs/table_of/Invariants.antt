@@ -5,7 +5,6 @@ use borrow.Author.Rules.{rules}
 use Rattle.stored_closures.proofs.Table.{Built, built-none, built-more, built-done}
 use Rattle.stored_closures.proofs.table_of.Given as goal
 
--- `stored_closures::table_of` meets its contract: the slots below k are read. Assumes nothing.
 abbrev pub invariant-loop-k : goal.invariant-loop-k
 invariant-loop-k l = Built l.w l.h l.slots l.k l.table
 
