@@ -23,6 +23,7 @@
 // proofs/NextNumbers (the central route is the walk through the next vertices), proofs/Sheets (which sheets are true),
 // proofs/SheetTest (the tests of specs/Local are exact).
 #![tactic(auto)]
+
 ghost use Rattle.std.specs.Prelude.{◌≡◌};
 ghost use Rattle.paths.specs.Distance.{unreachable};
 
