@@ -1,5 +1,6 @@
 // The floor: cells and vertices, what a cell reads as, and the refusals over the shape of a floor and of an end.
 #![tactic(auto)]
+
 ghost use Rattle.std.specs.Prelude.{◌≡◌, suc, ◌+◌, ◌-◌, ◌*◌, ◌<◌, ◌≤◌, length, eqb};
 ghost use Rattle.basics.specs.Bounded.{pick};
 ghost use Rattle.floor.specs.Floor.{cell_number, bit_at, map_length, stored_cells, floor_of};

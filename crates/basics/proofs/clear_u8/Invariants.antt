@@ -4,6 +4,5 @@ use native.Mathlib.Omega.{arith}
 use Rattle.basics.proofs.Fill.{Filling, filling-none, filling-more, filling-done}
 use Rattle.basics.proofs.clear_u8.Given as goal
 
--- `basics::clear_u8` meets its contract: the places before `i` are filled. Assumes nothing.
 abbrev pub invariant-loop-i : goal.invariant-loop-i
 invariant-loop-i l = Filling 0 l.i-end l.i l.initial.s l.s

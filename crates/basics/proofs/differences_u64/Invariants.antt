@@ -12,7 +12,6 @@ use Rattle.basics.proofs.Counting.{
 }
 use Rattle.basics.proofs.differences_u64.Given as goal
 
--- `basics::differences_u64` meets its contract: `n` counts the places before `i` where the slices differ. Assumes
 -- nothing.
 abbrev pub invariant-loop-i : goal.invariant-loop-i
 invariant-loop-i l = Differing l.s l.t l.i-end l.i l.n

@@ -5,6 +5,5 @@ use borrow.Author.Rules.{rules}
 use Rattle.basics.proofs.Fill.{Filling, filling-none, filling-more, filling-done}
 use Rattle.basics.proofs.fill_u32.Given as goal
 
--- `basics::fill_u32` meets its contract: the places before `i` are filled. Assumes nothing.
 abbrev pub invariant-loop-i : goal.invariant-loop-i
 invariant-loop-i l = Filling l.x l.i-end l.i l.initial.s l.s

@@ -1,7 +1,6 @@
 -- `floor::block_cell` meets its contract: the bit of the cell is set in its byte. Assumes nothing.
 use native.Mathlib.Omega.{arith}
 use Rattle.floor.proofs.Blocking.{block_one}
-use borrow.Author.Rules.{rules}
 use Rattle.floor.proofs.block_cell.Goals as goal
 
 pub returns : goal.returns

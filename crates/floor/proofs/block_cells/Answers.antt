@@ -1,8 +1,7 @@
 -- `floor::block_cells` meets its contract: the cells before `at` are blocked. Assumes nothing.
-use Prim.Native.Nat.{◌-◌}
 use mathlib.Core.Path.{refl}
 use native.Mathlib.Omega.{arith}
-use Rattle.floor.proofs.Blocking.{Blocking, blocking-length, blocking-none, blocking-more, blocking-done}
+use Rattle.floor.proofs.Blocking.{blocking-length, blocking-none, blocking-more, blocking-done}
 use Rattle.floor.proofs.block_cells.Goals as goal
 
 pub loop-at-init : goal.loop-at-init

@@ -1,9 +1,9 @@
 -- `floor::blocked_at` meets its contract: each test for a cell outside the floor answers blocked, and a cell on the
-use mathlib.Core.Path.{◌≡◌, sym, ap, ◌∙◌}
+-- floor is read. Assumes nothing.
+use mathlib.Core.Path.{sym, ap, ◌∙◌}
 use native.Mathlib.Omega.{arith}
-use Rattle.floor.specs.Floor.{Floor, bit_at, floor_of, cell_of}
+use Rattle.floor.specs.Floor.{bit_at, floor_of, cell_of}
 use Rattle.floor.proofs.Cells.{blocked-left, blocked-above, blocked-right, blocked-below, blocked-inside}
-use borrow.Author.Rules.{rules}
 use Rattle.floor.proofs.blocked_at.Goals as goal
 
 pub returns-then-x-eq0 : goal.returns-then-x-eq0

@@ -1,7 +1,6 @@
 -- `floor::cell_at` meets its contract: with numbers up to 127 no sum or product wraps. Assumes nothing.
 use native.Mathlib.Omega.{arith}
 use Rattle.floor.proofs.Numbers.{mul-fits, mul-add-fits}
-use borrow.Author.Rules.{rules}
 use Rattle.floor.proofs.cell_at.Goals as goal
 
 pub overflow_mul-result : goal.overflow_mul-result

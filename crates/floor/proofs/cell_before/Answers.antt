@@ -1,6 +1,5 @@
 -- `floor::cell_before` meets its contract: the map has a bit for the cell's number. Assumes nothing.
 use Rattle.floor.proofs.Numbers.{cell-inside}
-use borrow.Author.Rules.{rules}
 use Rattle.floor.proofs.cell_before.Goals as goal
 
 pub returns : goal.returns

@@ -1,7 +1,6 @@
 -- `floor::column_of` meets its contract: the column is the remainder by w + 1. Assumes nothing.
 use native.Mathlib.Omega.{arith}
 use Rattle.floor.proofs.Numbers.{column-by}
-use borrow.Author.Rules.{rules}
 use Rattle.floor.proofs.column_of.Goals as goal
 
 pub returns : goal.returns

@@ -1,9 +1,7 @@
 -- `floor::copy_map` meets its contract: the places before `at` are copied. Assumes nothing.
-use Prim.Native.Nat.{◌-◌}
 use mathlib.Core.Path.{refl, sym}
 use native.Mathlib.Omega.{arith}
-use lib.ListN.{length, get_or}
-use Rattle.floor.proofs.Rewriting.{Rewriting, rewriting-more, copy-none, copy_done}
+use Rattle.floor.proofs.Rewriting.{rewriting-more, copy-none, copy_done}
 use Rattle.floor.proofs.copy_map.Goals as goal
 
 pub loop-at-init : goal.loop-at-init

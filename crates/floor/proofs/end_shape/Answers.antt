@@ -1,7 +1,6 @@
 -- `floor::end_shape` meets its contract: each return is one case of `end_shape`. Assumes nothing.
 use native.Mathlib.Omega.{arith}
 use Rattle.floor.proofs.Shapes.{end-good, end_refused}
-use borrow.Author.Rules.{rules}
 use Rattle.floor.proofs.end_shape.Goals as goal
 
 pub returns-then-v-vertex_count : goal.returns-then-v-vertex_count

@@ -3,7 +3,6 @@ use mathlib.Core.Path.{◌≡◌, sym, ◌∙◌}
 use Rattle.floor.specs.Refusals.{sides_shape}
 use Rattle.floor.specs.declared.Shape.TheVariants.{Good}
 use Rattle.floor.proofs.Shapes.{good-sides, sides-refused, length-refused, unused-refused, unused-passed}
-use borrow.Author.Rules.{rules}
 use Rattle.floor.proofs.floor_shape.Goals.{In-Good}
 use Rattle.floor.proofs.floor_shape.Goals as goal
 

@@ -1,6 +1,5 @@
 -- `floor::refusal_number` meets its contract: each refusal has its number. Assumes nothing.
 use mathlib.Core.Path.{sym, ap}
-use borrow.Author.Rules.{rules}
 use Rattle.floor.specs.Refusals.{refusal_number}
 use Rattle.floor.proofs.refusal_number.Goals as goal
 

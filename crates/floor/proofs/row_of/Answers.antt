@@ -1,7 +1,6 @@
 -- `floor::row_of` meets its contract: the row is the quotient by w + 1. Assumes nothing.
 use native.Mathlib.Omega.{arith}
 use Rattle.floor.proofs.Numbers.{row_by}
-use borrow.Author.Rules.{rules}
 use Rattle.floor.proofs.row_of.Goals as goal
 
 pub returns : goal.returns

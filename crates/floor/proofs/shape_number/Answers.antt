@@ -1,6 +1,5 @@
 -- `floor::shape_number` meets its contract: a good shape has the number 0, a refusal its own. Assumes nothing.
 use mathlib.Core.Path.{sym, ap, ◌∙◌}
-use borrow.Author.Rules.{rules}
 use Rattle.floor.specs.Refusals.{shape_number}
 use Rattle.floor.proofs.shape_number.Goals as goal
 

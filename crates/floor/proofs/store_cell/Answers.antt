@@ -1,5 +1,4 @@
 -- `floor::store_cell` meets its contract: the byte is 0, or the cell is blocked. Assumes nothing.
-use borrow.Author.Rules.{rules}
 use borrow.Author.Tests.{eq-eqb, ne_eqb}
 use Rattle.floor.proofs.store_cell.Goals as goal
 

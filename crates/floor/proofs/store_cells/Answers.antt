@@ -1,9 +1,7 @@
 -- `floor::store_cells` meets its contract: the cells below `at` are stored. Assumes nothing.
-use Prim.Native.Nat.{◌-◌}
 use mathlib.Core.Path.{sym, ◌∙◌}
 use native.Mathlib.Omega.{arith}
-use borrow.Author.Rules.{rules}
-use Rattle.floor.proofs.Storing.{Storing, storing-length, storing-none, storing-more, storing-done}
+use Rattle.floor.proofs.Storing.{storing-length, storing-none, storing-more, storing-done}
 use Rattle.floor.proofs.store_cells.Goals as goal
 
 pub loop-at-init : goal.loop-at-init

@@ -1,7 +1,7 @@
 -- `floor::unused_clear` meets its contract: where 8 divides n every bit is a cell, otherwise all unused bits are in the
+-- last byte. Assumes nothing.
 use native.Mathlib.Omega.{arith}
 use Rattle.floor.proofs.Unused.{all-used, last-tells}
-use borrow.Author.Rules.{rules}
 use Rattle.floor.proofs.unused_clear.Goals as goal
 
 -- last byte. Assumes nothing.

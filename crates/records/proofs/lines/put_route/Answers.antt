@@ -1,4 +1,5 @@
 -- `records::lines::put_route` meets its contract: a number has at most 20 digits, so each field leaves room for the
+-- next. Assumes nothing.
 use Prim.Native.Nat.{◌+◌, ◌≤◌}
 use native.Mathlib.Omega.{arith}
 use lib.ListN.{length}

@@ -7,7 +7,6 @@ use Rattle.records.specs.Known.{Written}
 use Rattle.records.proofs.Writing.{Copying, copying-none, copying-more, copying-done}
 use Rattle.records.proofs.lines.put_text.Given as goal
 
--- `records::lines::put_text` meets its contract: the first k bytes of the text are written. Assumes nothing.
 abbrev pub invariant-loop-k : goal.invariant-loop-k
 invariant-loop-k l = Copying l.initial.buf l.at l.text l.n l.k l.buf
 

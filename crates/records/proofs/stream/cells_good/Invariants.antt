@@ -9,7 +9,6 @@ use Rattle.basics.proofs.Scan.{Passed, passed_none, passed-more, passed-all}
 use Rattle.records.specs.Format.{cell_byte}
 use Rattle.records.proofs.stream.cells_good.Given as goal
 
--- `records::stream::cells_good` meets its contract: the cells passed are all 0 or 1. Assumes nothing.
 abbrev pub invariant-loop-k : goal.invariant-loop-k
 invariant-loop-k l = Passed l.count l.k (cell_byte l.s l.from)
 

@@ -1,4 +1,5 @@
 -- `records::stream::job_settled` meets its contract: a wrong byte of the mark settles the job, a missing one leaves it
+-- open, and a whole record settles it. Assumes nothing.
 use Prim.Native.Nat.{ℕ, ◌+◌, ◌-◌}
 use native.Mathlib.Omega.{arith}
 use borrow.Author.Tests.{eq-eqb, ne_eqb, leb-true, leb-false}

@@ -1,4 +1,5 @@
 -- `records::stream::map_settled` meets its contract: a wrong byte settles the map, a missing one leaves it open where
+-- those before it are right, and a whole record settles it. Assumes nothing.
 use Prim.Native.Nat.{ℕ, ◌+◌, ◌*◌, ◌≤◌}
 use mathlib.Core.Path.{◌≡◌, ap, ap₂, sym, ◌∙◌}
 use mathlib.Core.Bool.{not, true, false}

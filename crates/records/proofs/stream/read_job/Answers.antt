@@ -1,4 +1,5 @@
 -- `records::stream::read_job` meets its contract: a test that fails refutes one field of `GoodJob`, and together they
+-- make it. Assumes nothing.
 use native.Mathlib.Omega.{arith}
 use Rattle.records.proofs.Found.{refuted, granted, job-found, job-bad}
 use borrow.Author.Rules.{rules}

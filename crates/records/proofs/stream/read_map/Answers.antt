@@ -1,4 +1,5 @@
 -- `records::stream::read_map` meets its contract: a test that fails refutes one field of `GoodMap`, and together they
+-- make it. Assumes nothing.
 use Prim.Native.Nat.{ℕ, ◌+◌, ◌*◌, ◌≤◌}
 use mathlib.Core.Path.{◌≡◌, ap, ap₂, ◌∙◌}
 use mathlib.Core.List.{List}

@@ -1,4 +1,5 @@
 -- `writer::Writer::put_map` meets its contract: a refusal changes neither writer nor buffer, and otherwise the record
+-- is written. Assumes nothing.
 use mathlib.Core.Path.{◌≡◌, sym, ◌∙◌}
 use lib.ListN.{length}
 use Rattle.floor.specs.declared.Shape.TheVariants.{Good}
