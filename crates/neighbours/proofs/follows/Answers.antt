@@ -9,4 +9,4 @@ pub returns-then-cost_at-c : goal.returns-then-cost_at-c
 returns-then-cost_at-c c = follows-not _ _ _ _ _ (λ e. omega arith)
 
 pub returns : goal.returns
-returns c = c.is_on_way.ensures ∙ follows-adds-up _ _ _ _ _ (omega arith)
+returns c = c.on_way.ensures ∙ follows-adds-up _ _ _ _ _ (omega arith)

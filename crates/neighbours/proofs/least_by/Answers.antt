@@ -14,10 +14,7 @@ use Rattle.neighbours.specs.Least.{least_of, end_at, least_by, DirLent}
 use Rattle.neighbours.proofs.Least.{least-is}
 use Rattle.neighbours.proofs.least_by.Goals.{After-end_or_self-w, In-loop-j}
 use Rattle.neighbours.proofs.least_by.Goals as goal
-
--- `neighbours::least_by` meets its contract: the least of the far ends passed. Assumes nothing.
-abbrev ends : List ℕ → Class → ℕ → List ℕ → ℕ → ℕ → ℕ
-ends shifts class mask d v j = entry d (end_at shifts mask v (class_dir class j))
+use Rattle.neighbours.proofs.least_by.Invariants.{ends}
 
 -- the class has a move, so its far ends can be read
 lent : (c : In-loop-j)

@@ -22,7 +22,7 @@ turn c = omega (arith, c.loop-m.invariant.0)
 
 -- m + 1 fits 64 bits
 more : (c : In-loop-m) → c.loop-m.m + 1 < 2 ^ 64
-more c = omega (arith, turn c, c.good.0)
+more c = omega (arith, turn c)
 
 -- the far end of the move, once it is known to be there
 goes : (c : In-At)
