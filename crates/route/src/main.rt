@@ -7,10 +7,10 @@
 // is written before it is sure, and `Cursor::is_settled` says where it is: the program reads on only where some byte to
 // come could change what stands at the cursor.
 //
-// No contract can name the bytes that libc's read and write move: that the buffer holds what was read, and that a write
-// moves what is lent to it, is not proved.
+// No contract can name the bytes that a read of standard input or a write to standard output moves: that the buffer
+// holds what was read, and that a write moves what is lent to it, is not proved.
 #![tactic(auto)]
-ghost use Rattle.std.specs.Prelude.{◌≡◌, ◌*◌, ◌≤◌, ◌<◌, length};
+ghost use Rattle.std.specs.Prelude.{◌≡◌, ◌*◌, ◌≤◌, ◌<◌, length, IfOk};
 ghost use Rattle.floor.specs.Floor.{map_length, vertices};
 ghost use Rattle.planner.specs.Plan.{slices_of};
 ghost use Rattle.program_text.specs.Contract.{SmallFloor, Ready, TurnWritten};
@@ -18,10 +18,11 @@ ghost use Rattle.records.specs.Settled.{longest, Reached};
 ghost use Rattle.route.specs.Sent.{Sure, Next, Due, turn_room, SentTurn};
 ghost use Rattle.route.specs.Reads.{ReadMore, ReadFor, MapRead, BadRead, Ended};
 
-use libc::{EAGAIN, EINTR, STDIN_FILENO, STDOUT_FILENO};
 use program_text::Turn;
 use records::lines;
 use records::stream::{Cursor, MapRecord, Record};
+use std::io::{Error, ErrorKind, Read, Result, Stdin, Stdout, Write};
+use std::thread;
 
 // How often a read or a write is tried again before it counts as failed: for years, at a microsecond each.
 const MOST_TRIES: usize = 1000000000000000;
@@ -53,44 +54,52 @@ enum Ending {
 
 // Whether a read or a write that failed is to be tried again: a signal came, or the descriptor is one that does not
 // block and is not ready. Then other processes run first. (docs/DECISIONS.md says why it does not sleep.)
-fn tries_again() -> bool {
-    let error = os::errno();
-    if error == EINTR {
-        return true;
+fn tries_again(error: &Error) -> bool {
+    match error.kind() {
+        ErrorKind::Interrupted => true,
+        ErrorKind::WouldBlock => {
+            thread::yield_now();
+            true
+        }
+        _ => false,
     }
-    if error != EAGAIN {
-        return false;
-    }
-    libc::sched_yield();
-    true
 }
 
 // Writes some of `part`, which stands at place `written` of the program's text for an input that begins with s, and
 // answers how many bytes the system took. No other function writes.
-fn write_some(s: &[u8], over: bool, written: usize, part: &[u8]) -> usize
+fn write_some(
+    stdout: Stdout,
+    s: &[u8],
+    over: bool,
+    written: usize,
+    part: &[u8],
+) -> Result<usize>
     requires { Next s.now over written part.now }
-    ensures { result ≤ length part.now }
+    ensures { IfOk result (λ n. n ≤ length part.now) }
 {
-    io::count(libc::write(STDOUT_FILENO, part), part)
+    let mut to = stdout;
+    to.write(part)
 }
 
 // Writes all of `part`, and answers whether that could be done.
-fn write_next(s: &[u8], over: bool, written: usize, part: &[u8]) -> bool
+fn write_next(stdout: Stdout, s: &[u8], over: bool, written: usize, part: &[u8]) -> bool
     requires { Next s.now over written part.now }
 {
     let mut done: usize = 0;
     let mut tries: usize = 0;
     while done < part.len() {
-        let put = write_some(s, over, written + done, &part[done..]);
-        done += put;
-        if put == 0 {
-            if MOST_TRIES <= tries {
-                return false;
+        match write_some(stdout, s, over, written + done, &part[done..]) {
+            Ok(0) => return false,
+            Ok(put) => done += put,
+            Err(error) => {
+                if MOST_TRIES <= tries {
+                    return false;
+                }
+                if !tries_again(&error) {
+                    return false;
+                }
+                tries += 1;
             }
-            if !tries_again() {
-                return false;
-            }
-            tries += 1;
         }
     }
     true
@@ -98,17 +107,19 @@ fn write_next(s: &[u8], over: bool, written: usize, part: &[u8]) -> bool
 
 // Reads what there is of the input into `buf`, and answers how many bytes, 0 at its end. A read that fails ends the
 // input.
-fn read_some(buf: &mut [u8]) -> usize
+fn read_some(stdin: Stdin, buf: &mut [u8]) -> usize
     ensures { result ≤ length buf.new }
 {
+    let mut from = stdin;
     let mut tries: usize = 0;
     while tries < MOST_TRIES {
-        let got = libc::read(STDIN_FILENO, buf);
-        if got >= 0 {
-            return io::count(got, buf);
-        }
-        if !tries_again() {
-            return 0;
+        match from.read(buf) {
+            Ok(got) => return got,
+            Err(error) => {
+                if !tries_again(&error) {
+                    return 0;
+                }
+            }
         }
         tries += 1;
     }
@@ -116,11 +127,11 @@ fn read_some(buf: &mut [u8]) -> usize
 }
 
 // Reads on, past the first n bytes of the buffer, which has room for more.
-fn read_more(input: &mut [u8], n: usize) -> Reading
+fn read_more(stdin: Stdin, input: &mut [u8], n: usize) -> Reading
     requires { n < length input.old }
     ensures { ReadMore input.old n input.new result }
 {
-    let got = read_some(&mut input[n..]);
+    let got = read_some(stdin, &mut input[n..]);
     Reading {
         count: n + got,
         over: got == 0,
@@ -128,7 +139,7 @@ fn read_more(input: &mut [u8], n: usize) -> Reading
 }
 
 // Reads on until what stands at the cursor is sure. The buffer never fills before that.
-fn read_for(input: &mut [u8], first: Reading, c: Cursor) -> Reading
+fn read_for(stdin: Stdin, input: &mut [u8], first: Reading, c: Cursor) -> Reading
     requires { (first.count ≤ length input.old) × (length input.old ≡ longest) × Reached c }
     ensures { ReadFor input.old first input.new result c }
 {
@@ -141,12 +152,13 @@ fn read_for(input: &mut [u8], first: Reading, c: Cursor) -> Reading
         if c.is_settled(&input[..n]) {
             return r;
         }
-        r = read_more(input, n);
+        r = read_more(stdin, input, n);
     }
 }
 
 // Writes the text of the turn t, which stands at the start of `out`.
 fn send_turn(
+    stdout: Stdout,
     s: &[u8],
     over: bool,
     written: usize,
@@ -162,7 +174,7 @@ fn send_turn(
     ensures { SentTurn s.now over w h map.now c result }
 {
     let n = program_text::bytes_of(t);
-    if !write_next(s, over, written, &out[..n]) {
+    if !write_next(stdout, s, over, written, &out[..n]) {
         return Sent::Cut;
     }
     match t {
@@ -173,6 +185,7 @@ fn send_turn(
 
 // Takes one turn and writes its text.
 fn write_turn(
+    stdout: Stdout,
     s: &[u8],
     over: bool,
     written: usize,
@@ -196,12 +209,13 @@ fn write_turn(
     ensures { SentTurn s.now over w h map.now c result }
 {
     let t = program_text::take_turn(s, c, w, h, map, d, e, f, back, route, next, work, kept, out);
-    send_turn(s, over, written, c, w, h, map, t, out)
+    send_turn(stdout, s, over, written, c, w, h, map, t, out)
 }
 
 // Lends the arrays for one turn: a place for each of the at most 32 * 32 vertices, and room for the lines of a job. The
 // costs d are the caller's: they are kept from turn to turn.
 fn lend_turn(
+    stdout: Stdout,
     s: &[u8],
     over: bool,
     written: usize,
@@ -226,6 +240,7 @@ fn lend_turn(
     let mut kept = [0u16; 1024];
     let mut out = [0u8; 6307];
     write_turn(
+        stdout,
         s,
         over,
         written,
@@ -248,6 +263,8 @@ fn lend_turn(
 // The jobs that follow the map m, with a slice for its cells and one for the costs from a start, which the next job may
 // share.
 fn run_jobs(
+    stdin: Stdin,
+    stdout: Stdout,
     input: &mut [u8],
     first: Reading,
     m: MapRecord,
@@ -267,10 +284,10 @@ fn run_jobs(
     let mut c = past;
     let mut written: usize = 0;
     loop {
-        r = read_for(input, r, c);
+        r = read_for(stdin, input, r, c);
         let k = r.count;
         let over = r.over;
-        match lend_turn(&input[..k], over, written, c, w, h, map, d) {
+        match lend_turn(stdout, &input[..k], over, written, c, w, h, map, d) {
             Sent::More(next_place, next) => {
                 written = next_place;
                 c = next;
@@ -283,7 +300,14 @@ fn run_jobs(
 
 // Lends the arrays for the cells and for the costs. The first is of 31 * 31 bytes; the packed map takes its first 121
 // at most.
-fn lend_map(input: &mut [u8], first: Reading, m: MapRecord, past: Cursor) -> Ending
+fn lend_map(
+    stdin: Stdin,
+    stdout: Stdout,
+    input: &mut [u8],
+    first: Reading,
+    m: MapRecord,
+    past: Cursor,
+) -> Ending
     requires { MapRead input.old first m past }
     ensures { Ended input.new result }
 {
@@ -291,29 +315,30 @@ fn lend_map(input: &mut [u8], first: Reading, m: MapRecord, past: Cursor) -> End
     let v = floor::vertex_count(m.wide, m.high);
     let mut map = [0u8; 961];
     let mut d = [0u32; 1024];
-    run_jobs(input, first, m, past, &mut map[..n], &mut d[..v])
+    run_jobs(stdin, stdout, input, first, m, past, &mut map[..n], &mut d[..v])
 }
 
 // Writes the line of a bad record at place k, where the map is due.
-fn write_bad(input: &[u8], first: Reading, k: usize, line: &mut [u8]) -> Ending
+fn write_bad(stdout: Stdout, input: &[u8], first: Reading, k: usize, line: &mut [u8]) -> Ending
     requires { BadRead input.now first k × (64 ≡ length line.old) }
     ensures { Ended input.now result }
 {
     let n = lines::put_bad(line, 0, k);
     let count = first.count;
-    if !write_next(&input[..count], first.over, 0, &line[..n]) {
+    if !write_next(stdout, &input[..count], first.over, 0, &line[..n]) {
         return Ending::Broken;
     }
     Ending::Whole(first, n)
 }
 
 // The whole run, with a buffer for the input. What stands first is a map or a bad record.
-fn run(input: &mut [u8]) -> Ending
+fn run(stdin: Stdin, stdout: Stdout, input: &mut [u8]) -> Ending
     requires { length input.old ≡ longest }
     ensures { Ended input.new result }
 {
     let c = Cursor::new();
     let first = read_for(
+        stdin,
         input,
         Reading {
             count: 0,
@@ -323,10 +348,10 @@ fn run(input: &mut [u8]) -> Ending
     );
     let n = first.count;
     match c.step(&input[..n]) {
-        Record::Map(m, past) => lend_map(input, first, m, past),
+        Record::Map(m, past) => lend_map(stdin, stdout, input, first, m, past),
         Record::Bad(k) => {
             let mut line = [0u8; 64];
-            write_bad(input, first, k, &mut line)
+            write_bad(stdout, input, first, k, &mut line)
         }
         Record::End => Ending::Whole(first, 0),
         Record::Job(_, _) => Ending::Whole(first, 0),
@@ -334,7 +359,7 @@ fn run(input: &mut [u8]) -> Ending
 }
 
 // The buffer holds as much of the input as can matter: the longest map, 1,000 jobs and one byte more.
-fn main() {
+fn main(rt: HostRuntime) {
     let mut input = [0u8; 7966];
-    run(&mut input);
+    run(rt.stdin(), rt.stdout(), &mut input);
 }
