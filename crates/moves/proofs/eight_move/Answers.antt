@@ -30,7 +30,7 @@ returns-in-6 c = ap (λ k. get_or moves k no_move) (sym c.in-6.is)
 
 pub returns-in_default : goal.returns-in_default
 returns-in_default c =
-    let n = c.in_default.rest in
+    let n = c.in_default-own.rest in
     let k = c.args.k in
     let p0 = past 0 k (omega arith) n.0.0.0.0.0.0.1 n.0.0.0.0.0.1 n.0.0.0.0.1 in
     let p1 = past 3 k p0 n.0.0.0.1 n.0.0.1 n.0.1 in

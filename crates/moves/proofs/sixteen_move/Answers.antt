@@ -54,7 +54,7 @@ returns-in-14 c = ap (λ k. get_or sixteen k no_move) (sym c.in-14.is)
 
 pub returns-in_default : goal.returns-in_default
 returns-in_default c =
-    let n = c.in_default.rest in
+    let n = c.in_default-own.rest in
     let k = c.args.k in
     let p0 = past 0 k (omega arith) n.0.0.0.0.0.0.0.0.0.0.0.0.0.0.1
     n.0.0.0.0.0.0.0.0.0.0.0.0.0.1 n.0.0.0.0.0.0.0.0.0.0.0.0.1 in

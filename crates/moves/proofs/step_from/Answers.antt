@@ -9,7 +9,7 @@ use Rattle.moves.specs.Table.{Reaches, spot_of}
 use Rattle.moves.proofs.Signs.{back}
 use Rattle.moves.proofs.Steps.{spot-reaches, reaches-on, step-off, step-to}
 use borrow.Author.Rules.{rules}
-use Rattle.moves.proofs.step_from.Goals.{After-far_spot, In-At-2}
+use Rattle.moves.proofs.step_from.Goals.{After-far_spot, In-At}
 use Rattle.moves.proofs.step_from.Goals as goal
 
 -- `moves::step_from` meets its contract: the vertex at the spot to which the move leads. Assumes nothing.
@@ -21,13 +21,13 @@ spot c =
     rw (back c.args.dx c.requires.1.columns, back c.args.dy c.requires.1.rows) at c.far_spot.ensures
 
 -- That spot is on the floor.
-found : (c : In-At-2)
+found : (c : In-At)
     → let a = c.args in
     Reaches a.w a.h (move_of c.args.dx c.args.dy 0) a.x a.y c.in-At.i c.in-At.j
 found c =
     let a = c.args in
     spot-reaches a.w a.h a.x a.y c.in-At.i c.in-At.j (move_of c.args.dx c.args.dy 0)
-    (sym (spot (goal.at.In-At-2 c).After-far_spot) ∙ c.in-At.is)
+    (sym (spot (goal.at.In-At c).After-far_spot) ∙ c.in-At.is)
 
 pub returns-in_default : goal.returns-in_default
 returns-in_default c =
@@ -36,9 +36,9 @@ returns-in_default c =
 
 pub vertex_at-requires : goal.vertex_at-requires
 vertex_at-requires c =
-    let p = reaches-on c.requires.0 (found (goal.at.vertex_at-requires c).In-At-2) in
+    let p = reaches-on c.requires.0 (found c) in
     omega arith
 
 pub returns : goal.returns
 returns c =
-    ap (λ n. To (record { 0 = n })) c.vertex_at.ensures.0 ∙ step-to (found (goal.at.returns c).In-At-2)
+    ap (λ n. To (record { 0 = n })) c.vertex_at.ensures.0 ∙ step-to (found (goal.at.returns c).In-At)

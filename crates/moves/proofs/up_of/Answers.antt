@@ -13,7 +13,7 @@ returns-then-d-lt0 c =
     rw (below d (rw (back d c.requires) at c.if-d-lt0.true))
 
 pub overflow_cast-result : goal.overflow_cast-result
-overflow_cast-result c = rw (back c.args.d c.requires) ((high c).sign, (high c).ranges)
+overflow_cast-result c = rw (back c.args.d c.requires) ((high c).sign, (high c).fits)
 
 pub returns : goal.returns
 returns c = rw (back c.args.d c.requires) (high c).up_is

@@ -2,12 +2,12 @@
 use Prim.Native.Nat.{suc, pred, ◌-◌}
 use mathlib.Core.Path.{sym, ap, ◌∙◌}
 use mathlib.Core.Bool.{not}
-use mathlib.Core.Logic.{⊎_elim}
 use native.Mathlib.Omega.{arith}
 use borrow.Author.Rules.{rules}
 use Rattle.floor.specs.Floor.{floor_of}
 use Rattle.thinning.specs.Thinning.{seen, sees_next, next_kept}
 use Rattle.basics.proofs.Scan.{Sought, sought-first, sought-more, sought-found, sought-done}
+use Rattle.thinning.proofs.next_kept.Goals.{then-seen_at, else-seen_at}
 use Rattle.thinning.proofs.next_kept.Goals as goal
 
 pub loop-k-init : goal.loop-k-init
@@ -19,8 +19,9 @@ pub loop-k-preserved : goal.loop-k-preserved
 loop-k-preserved c =
     let l = c.loop-k in
     let e = sym c.seen_at.ensures in
-    ⊎_elim (λ w. sought-more l.invariant (omega arith) (ap not (e ∙ w.0.taken)) (omega arith) (omega arith))
-    (λ w. sought-found l.invariant (omega arith) (ap not (e ∙ w.0.left)) (omega arith) (omega arith)) c.if-seen_at.branch-raw
+    elim c.if-seen_at.branch [
+    then-seen_at w ↦ sought-more l.invariant (omega arith) (ap not (e ∙ w.if-seen_at.true)) (omega arith) (omega arith)
+    | else-seen_at w ↦ sought-found l.invariant (omega arith) (ap not (e ∙ w.if-seen_at.false)) (omega arith) (omega arith) ]
 
 pub returns : goal.returns
 unfolding next_kept

@@ -28,5 +28,5 @@ returns-in-Refused c =
 pub returns-in-Good : goal.returns-in-Good
 returns-in-Good c =
     let a = c.args in
-    thins-kept a.w a.h a.map.now a.list.now a.out-1.now a.n (good (goal.at.returns-in-Good c).In-Good)
+    thins-kept a.w a.h a.map.now a.list.now a.out.now a.n (good (goal.at.returns-in-Good c).In-Good)
     c.record_kept.ensures
