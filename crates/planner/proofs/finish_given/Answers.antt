@@ -1,4 +1,5 @@
 -- `planner::finish_given` meets its contract: slices of the wrong lengths and false costs are refused, and otherwise
+-- the job is finished. Assumes nothing.
 use mathlib.Core.Path.{refl}
 use borrow.Author.Tests.{not-false}
 use Rattle.floor.specs.Floor.{vertices}
@@ -30,27 +31,8 @@ returns-then-not-costs_true c = job-false (lent (goal.at.returns-then-not-costs_
 
 pub finish_job-requires : goal.finish_job-requires
 finish_job-requires c =
-    let L = c in
-    job-finishable (lent L) (start L).pre c.costs_true.ensures c.if-not-costs_true.left
-
-pub shape_of-e : goal.shape_of-e
-shape_of-e c = c.finish_job.auto.1.1.1.1.1.1.1.0
-
-pub shape_of-f : goal.shape_of-f
-shape_of-f c = c.finish_job.auto.1.1.1.1.1.1.1.1.0
-
-pub shape_of-back : goal.shape_of-back
-shape_of-back c = c.finish_job.auto.1.1.1.1.1.1.1.1.1.0
-
-pub shape_of-route : goal.shape_of-route
-shape_of-route c = c.finish_job.auto.1.1.1.1.1.1.1.1.1.1.0
-
-pub shape_of-next : goal.shape_of-next
-shape_of-next c = c.finish_job.auto.1.1.1.1.1.1.1.1.1.1.1.0
-
-pub shape_of-work : goal.shape_of-work
-shape_of-work c = c.finish_job.auto.1.1.1.1.1.1.1.1.1.1.1.1.0
+    job-finishable (lent (goal.at.finish_job-requires c).Else-not-lengths_good) c.requires c.costs_true.ensures c.if-not-costs_true.false-raw
 
 pub returns : goal.returns
 returns c =
-    job-true (lent (goal.at.returns c).Else-not-lengths_good) c.costs_true.ensures c.if-not-costs_true.left c.finish_job.ensures
+    job-true (lent (goal.at.returns c).Else-not-lengths_good) c.costs_true.ensures c.if-not-costs_true.false-raw c.finish_job.ensures

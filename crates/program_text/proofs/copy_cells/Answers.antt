@@ -1,4 +1,5 @@
 -- `program_text::copy_cells` meets its contract: the part of the input that is stored is the cells of the map. Assumes
+-- nothing.
 use mathlib.Core.Path.{ap, ◌∙◌}
 use Rattle.floor.specs.Floor.{stored_cells}
 use Rattle.program_text.proofs.Cells.{part-cells}

@@ -1,4 +1,5 @@
 -- `program_text::plan_job` meets its contract: an answer other than 9 is that of the job, and so is the answer from the
+-- costs that `fill_costs` has filled. Assumes nothing.
 use mathlib.Core.Path.{◌∙◌}
 use Rattle.planner.proofs.Shaped.{full-sized}
 use Rattle.program_text.proofs.Planning.{costs-sized, full-on, planned-first, planned-again}

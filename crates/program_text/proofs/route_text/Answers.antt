@@ -1,4 +1,5 @@
 -- `program_text::route_text` meets its contract: of a joined list thinning keeps the kept positions, and a route line
+-- has at most 160 bytes, so both lines fit. Assumes nothing.
 use Prim.Native.Nat.{◌+◌, ◌*◌, ◌≤◌}
 use native.Mathlib.Omega.{arith}
 use lib.ListN.{length}

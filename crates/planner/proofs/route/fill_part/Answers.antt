@@ -47,9 +47,6 @@ loop-v-preserved c =
       omega arith,
     )
 
-pub shape_of-next : goal.shape_of-next
-shape_of-next c = c.loop-v.invariant.0.len ∙ sym c.requires.1.len
-
 pub returns : goal.returns
 returns c =
     let a = c.args in

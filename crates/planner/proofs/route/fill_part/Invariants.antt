@@ -8,7 +8,6 @@ use Rattle.planner.proofs.Numbering.{numbered_more}
 use borrow.Author.Rules.{rules}
 use Rattle.planner.proofs.route.fill_part.Given as goal
 
--- `planner::route::fill_part` meets its contract: the places before v have their next vertices. Assumes nothing.
 abbrev pub invariant-loop-v : goal.invariant-loop-v
 invariant-loop-v l =
     NumberedTo l.dirs l.shifts l.b l.d l.e l.f l.back l.work l.v l.next × (l.v ≤ l.past)

@@ -1,4 +1,5 @@
 -- `planner::route::write_route` meets its contract: the n points written are those of the route before `at`. Assumes
+-- nothing.
 use Prim.Native.Nat.{◌-◌, ◌<◌}
 use native.Mathlib.Omega.{arith}
 use borrow.Author.Rules.{rules}
@@ -68,9 +69,6 @@ bounds-route-n-2 c = fits (goal.at.bounds-route-n-2 c).At-loop-at
 
 pub overflow_add-result : goal.overflow_add-result
 overflow_add-result c = omega (arith, room (goal.at.overflow_add-result c).At-loop-at)
-
-pub shape_of-route : goal.shape_of-route
-shape_of-route c = step-len c.loop-at.invariant c.requires.0 (c.requires.1)
 
 pub returns : goal.returns
 returns c = step_end c.loop-at.invariant c.loop-at-test.false

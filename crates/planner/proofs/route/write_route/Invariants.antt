@@ -1,4 +1,5 @@
 -- `planner::route::write_route` meets its contract: the n points written are those of the route before `at`. Assumes
+-- nothing.
 use Prim.Native.Nat.{◌-◌, ◌<◌}
 use native.Mathlib.Omega.{arith}
 use borrow.Author.Rules.{rules}
@@ -17,8 +18,6 @@ use Rattle.planner.proofs.Walking.{
 }
 use Rattle.planner.proofs.route.write_route.Given as goal
 
--- `planner::route::write_route` meets its contract: the n points written are those of the route before `at`. Assumes
--- nothing.
 abbrev pub invariant-loop-at : goal.invariant-loop-at
 invariant-loop-at l = Stepping l.a l.b l.next l.initial.route l.n l.at l.route
 
