@@ -1,4 +1,5 @@
 -- `masks::clear_back` meets its contract: off the floor nothing is cleared, and of a vertex the bit of the direction
+-- that leads back. Assumes nothing.
 use Prim.Native.Nat.{◌<◌}
 use mathlib.Core.Path.{◌≡◌, sym, ap, ◌∙◌}
 use mathlib.Core.Option.{some}
@@ -14,7 +15,7 @@ use Rattle.moves.proofs.Table.{move-short, listed-lawful}
 use Rattle.masks.specs.Masks.{dir_end_at}
 use Rattle.masks.proofs.Clearing.{end-inside, move-off, move-cleared}
 use borrow.Author.Rules.{rules}
-use Rattle.masks.proofs.clear_back.Goals.{After-move_at-t, After-step_from, In-To-2}
+use Rattle.masks.proofs.clear_back.Goals.{After-move_at-t, After-step_from, In-To}
 use Rattle.masks.proofs.clear_back.Goals as goal
 
 short : (c : After-move_at-t) → Short c.move_at-t.result
@@ -37,35 +38,35 @@ far c =
     let a = c.args in
     rw (handed-back (short (goal.at.After-step_from c).After-move_at-t)) at c.step_from.ensures
     ∙ ap step_of (offsets-end a.w a.h a.x a.y c.move_at-t.result
-    ∙ ap (λ (m : Move). far_end_at a.w a.h c a.x a.y) c.move_at-t.ensures)
+    ∙ ap (λ (m : Move). far_end_at a.w a.h m a.x a.y) c.move_at-t.ensures)
 
 pub returns-in_default : goal.returns-in_default
 returns-in_default c = move-off (step-none _ (sym (far (goal.at.returns-in_default c).After-step_from) ∙ c.in_default.is))
 
 -- The move leads to the vertex u.
-found : (c : In-To-2)
+found : (c : In-To)
     → let a = c.args in
     dir_end_at a.w a.h a.x a.y (dir_at a.dirs a.m) ≡ some c.in-To.u.0
-found c = step-some _ c.in-To.u (sym (far (goal.at.In-To-2 c).After-step_from) ∙ c.in-To.is)
+found c = step-some _ c.in-To.u (sym (far (goal.at.In-To c).After-step_from) ∙ c.in-To.is)
 
-below : (c : In-To-2)
+below : (c : In-To)
     → c.in-To.u.0 < length c.args.masks.now
 below c =
     let a = c.args in
     rw c.requires.3 (end-inside a.w a.h a.x a.y (dir_at a.dirs a.m) _ (found c))
 
 pub offset_bounds-masks-at : goal.offset_bounds-masks-at
-offset_bounds-masks-at c = omega (arith, below (goal.at.offset_bounds-masks-at c).In-To-2)
+offset_bounds-masks-at c = omega (arith, below (goal.at.offset_bounds-masks-at c).In-To)
 
 pub bounds-masks-at : goal.bounds-masks-at
-bounds-masks-at c = below (goal.at.bounds-masks-at c).In-To-2
+bounds-masks-at c = below (goal.at.bounds-masks-at c).In-To
 
 pub offset_bounds-masks-at-2 : goal.offset_bounds-masks-at-2
-offset_bounds-masks-at-2 c = omega (arith, below (goal.at.offset_bounds-masks-at-2 c).In-To-2)
+offset_bounds-masks-at-2 c = omega (arith, below (goal.at.offset_bounds-masks-at-2 c).In-To)
 
 pub bounds-masks-at-2 : goal.bounds-masks-at-2
-bounds-masks-at-2 c = below (goal.at.bounds-masks-at-2 c).In-To-2
+bounds-masks-at-2 c = below (goal.at.bounds-masks-at-2 c).In-To
 
 pub returns : goal.returns
 returns c =
-    move-cleared (found (goal.at.returns c).In-To-2) (below (goal.at.returns c).In-To-2) (rw c.turned_dir.ensures.0 at c.without.ensures)
+    move-cleared (found (goal.at.returns c).In-To) (below (goal.at.returns c).In-To) (rw c.turned_dir.ensures.0 at c.without.ensures)

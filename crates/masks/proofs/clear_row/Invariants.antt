@@ -1,4 +1,3 @@
--- `masks::clear_row` meets its contract: the moves to pinches before column x of the row are cleared. Assumes nothing.
 use Prim.Native.Nat.{suc, ◌+◌, ◌-◌, ◌*◌, ◌≤◌}
 use mathlib.Core.Path.{◌≡◌, sym, ap, ◌∙◌}
 use native.Mathlib.Omega.{arith}

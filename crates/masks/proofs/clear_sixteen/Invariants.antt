@@ -1,4 +1,3 @@
--- `masks::clear_sixteen` meets its contract: the bits of the first m moves are cleared. Assumes nothing.
 use Prim.Native.Nat.{◌-◌, ◌≤◌}
 use mathlib.Core.Path.{◌≡◌, ◌∙◌}
 use native.Mathlib.Omega.{arith}

@@ -1,4 +1,5 @@
 -- `masks::dir_open` meets its contract: from its start the move has the four cells of the floor beside it. Assumes
+-- nothing.
 use Prim.Native.Nat.{◌^◌, ◌≤◌}
 use mathlib.Core.Path.{◌≡◌, ap, ◌∙◌}
 use Rattle.basics.specs.Bounded.{pick}

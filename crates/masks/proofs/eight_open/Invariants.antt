@@ -1,4 +1,3 @@
--- `masks::eight_open` meets its contract: the mask has the open directions of the moves before m. Assumes nothing.
 use Prim.Native.Nat.{◌-◌, ◌≤◌}
 use mathlib.Core.Path.{◌≡◌}
 use native.Mathlib.Omega.{arith}
@@ -11,7 +10,7 @@ use Rattle.masks.proofs.eight_open.Given as goal
 
 -- `masks::eight_open` meets its contract: the mask has the open directions of the moves before m. Assumes nothing.
 abbrev pub invariant-loop-m : goal.invariant-loop-m
-invariant-loop-m l = Gathered eight_dirs (λ m. open_by l.b (move_at eight_dirs m)) m l.mask × (m ≤ 8)
+invariant-loop-m l = Gathered eight_dirs (λ m. open_by l.b (move_at eight_dirs m)) l.m l.mask × (l.m ≤ 8)
 
 abbrev pub decreases-loop-m : goal.decreases-loop-m
 decreases-loop-m l = 8 - l.m

@@ -1,4 +1,5 @@
 -- `masks::fill_leaving` meets its contract: the masks of the rows before y are stored, and `above` and `here` are the
+-- windows of the lines above y and at y. Assumes nothing.
 use Prim.Native.Nat.{suc, ◌+◌, ◌-◌, ◌*◌, ◌≤◌}
 use mathlib.Core.Path.{◌≡◌, sym, ap, ◌∙◌}
 use native.Mathlib.Omega.{arith}

@@ -1,4 +1,3 @@
--- `masks::fill_leaving` meets its contract: the masks of the rows before y are stored, and `above` and `here` are the
 use Prim.Native.Nat.{suc, ◌+◌, ◌-◌, ◌*◌, ◌≤◌}
 use mathlib.Core.Path.{◌≡◌, sym, ap, ◌∙◌}
 use native.Mathlib.Omega.{arith}

@@ -1,4 +1,3 @@
--- `masks::fill_masks` meets its contract: the masks of the moves that leave the vertices are stored, and then the moves
 use Prim.Native.Nat.{suc, ◌+◌, ◌-◌, ◌*◌, ◌≤◌}
 use mathlib.Core.Path.{◌≡◌, sym, ap, ◌∙◌}
 use native.Mathlib.Omega.{arith}

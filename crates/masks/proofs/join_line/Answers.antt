@@ -1,4 +1,5 @@
 -- `masks::join_line` meets its contract: the masks of the vertices before column x of the row are made, the rest of the
+-- line is as it was, and `before` is the mask of the window on the left of that vertex. Assumes nothing.
 use Prim.Native.Nat.{ℕ, suc, ◌+◌, ◌-◌, ◌≤◌}
 use mathlib.Core.Path.{◌≡◌, refl, sym, ap, ◌∙◌}
 use native.Mathlib.Omega.{arith}

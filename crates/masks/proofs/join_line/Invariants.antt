@@ -1,4 +1,3 @@
--- `masks::join_line` meets its contract: the masks of the vertices before column x of the row are made, the rest of the
 use Prim.Native.Nat.{ℕ, suc, ◌+◌, ◌-◌, ◌≤◌}
 use mathlib.Core.Path.{◌≡◌, refl, sym, ap, ◌∙◌}
 use native.Mathlib.Omega.{arith}

@@ -1,4 +1,5 @@
 -- `masks::joined_row` meets its contract: the masks of the vertices before column x of the row are made, and `before`
+-- is that of the window on the left of that vertex. Assumes nothing.
 use Prim.Native.Nat.{suc, ◌-◌, ◌≤◌}
 use mathlib.Core.Path.{◌≡◌, refl, ap, ◌∙◌}
 use native.Mathlib.Omega.{arith}
@@ -64,10 +65,10 @@ loop-x-preserved c =
     let x = c.loop-x.x in
     let f = floor_of a.w a.h a.map.now in
     let L = c.requires.3 in
-    let next = ap (λ n. get_or a.t7 n 0) (add-one x) ∙ L.middle.at (suc x) (omega arith) in
+    let next = ap (λ n. get_or a.here n 0) (add-one x) ∙ L.middle.at (suc x) (omega arith) in
     let made = line-leaving c.requires.2 L c.requires.1 x (omega arith) c.loop-x.invariant.1 next in (
       rw add-one (row_more c.loop-x.invariant.0 (omega (arith, c.requires.0.wide)) (rw c.joined.ensures made)),
-      L.middle.at x (omega arith) ∙ ap (λ n. get_or a.t5 (window_at f n a.y) 0) (omega arith),
+      L.middle.at x (omega arith) ∙ ap (λ n. get_or a.windows (window_at f n a.y) 0) (omega arith),
       omega arith,
     )
 
@@ -100,8 +101,8 @@ returns c =
     let a = c.args in
     let f = floor_of a.w a.h a.map.now in
     let e : c.loop-x.x ≡ a.w = omega (arith, c.loop-x.invariant.2) in
-    let last : get_or a.t5 15 0 ≡ get_or a.t5 (window_at f (suc a.w) a.y) 0 =
-    ap (λ n. get_or a.t5 n 0) (past-right f a.y) in
-    let left = c.loop-x.invariant.1 ∙ ap (λ n. get_or a.t5 (window_at f (n - 1) a.y) 0) e in
+    let last : get_or a.windows 15 0 ≡ get_or a.windows (window_at f (suc a.w) a.y) 0 =
+    ap (λ n. get_or a.windows n 0) (past-right f a.y) in
+    let left = c.loop-x.invariant.1 ∙ ap (λ n. get_or a.windows (window_at f (n - 1) a.y) 0) e in
     row_more (rw e at c.loop-x.invariant.0) (omega (arith, c.requires.0.wide))
     (rw c.joined-2.ensures (line-leaving c.requires.2 c.requires.3 c.requires.1 a.w (omega arith) left last))

@@ -1,4 +1,3 @@
--- `masks::joined_row` meets its contract: the masks of the vertices before column x of the row are made, and `before`
 use Prim.Native.Nat.{suc, ◌-◌, ◌≤◌}
 use mathlib.Core.Path.{◌≡◌, refl, ap, ◌∙◌}
 use native.Mathlib.Omega.{arith}

@@ -1,4 +1,5 @@
 -- `masks::leaving_between` meets its contract: by the number of moves the directions are those of the sixteen, or none
+-- of them goes two columns or rows. Assumes nothing.
 use Rattle.masks.proofs.Windows.{listed-sixteen, listed-unit, unit-rows}
 use Rattle.masks.proofs.leaving_between.Goals as goal
 

@@ -1,4 +1,5 @@
 -- `masks::leaving_row` meets its contract: by the number of moves the directions are those of the sixteen, or none of
+-- them goes two columns or rows. Assumes nothing.
 use native.Mathlib.Numerals.{add-one}
 use Rattle.masks.proofs.Windows.{listed-sixteen, listed-unit, unit-rows}
 use borrow.Author.Rules.{rules}
@@ -16,7 +17,7 @@ joined_row-requires c =
       p.1,
       rw (listed-sixteen p.2 c.if-dirs-ne16.false) at p.3,
       record {
-        c = rw c.line_above.ensures.0 at c.window_row-above.ensures;
+        upper = rw c.line_above.ensures.0 at c.window_row-above.ensures;
         middle = c.window_row-here.ensures;
         lower = rw add-one at c.window_row-below.ensures;
       },

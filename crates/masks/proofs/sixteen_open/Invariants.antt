@@ -1,4 +1,3 @@
--- `masks::sixteen_open` meets its contract: the mask has the open directions of the moves before m. Assumes nothing.
 use Prim.Native.Nat.{◌-◌, ◌≤◌}
 use mathlib.Core.Path.{◌≡◌}
 use native.Mathlib.Omega.{arith}
@@ -11,7 +10,7 @@ use Rattle.masks.proofs.sixteen_open.Given as goal
 
 -- `masks::sixteen_open` meets its contract: the mask has the open directions of the moves before m. Assumes nothing.
 abbrev pub invariant-loop-m : goal.invariant-loop-m
-invariant-loop-m l = Gathered sixteen_dirs (λ m. open_by l.b (move_at sixteen_dirs m)) m l.mask × (m ≤ 16)
+invariant-loop-m l = Gathered sixteen_dirs (λ m. open_by l.b (move_at sixteen_dirs m)) l.m l.mask × (l.m ≤ 16)
 
 abbrev pub decreases-loop-m : goal.decreases-loop-m
 decreases-loop-m l = 16 - l.m

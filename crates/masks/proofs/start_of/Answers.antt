@@ -1,4 +1,5 @@
 -- `masks::start_of` meets its contract: one of the two parts of an offset is 0, and the other at most 2. Assumes
+-- nothing.
 use mathlib.Core.Path.{◌≡◌}
 use native.Mathlib.Omega.{arith}
 use Rattle.moves.specs.Steps.{up, down}

@@ -1,4 +1,5 @@
 -- `masks::store_row` meets its contract: the masks of the vertices before column x of the row are stored. Assumes
+-- nothing.
 use Prim.Native.Nat.{suc, ◌+◌, ◌-◌, ◌*◌, ◌≤◌, ◌<◌}
 use mathlib.Core.Path.{◌≡◌, sym, ap, ◌∙◌}
 use native.Mathlib.Omega.{arith}
@@ -69,7 +70,7 @@ loop-x-preserved c =
           rw add-one (leaving-more x c.args.y (c.loop-x.invariant.0 r L R) (omega arith) (place (goal.at.loop-x-preserved c).At-loop-x)
           (inside (goal.at.loop-x-preserved c).At-loop-x (omega arith))
           (R.at x (omega arith))),
-      length-set c.loop-x.masks at (get_or c.args.t6 x 0) ∙ c.loop-x.invariant.1,
+      length-set c.loop-x.masks at (get_or c.args.leaving x 0) ∙ c.loop-x.invariant.1,
       omega arith,
     )
 

@@ -1,4 +1,3 @@
--- `masks::store_row` meets its contract: the masks of the vertices before column x of the row are stored. Assumes
 use Prim.Native.Nat.{suc, ◌+◌, ◌-◌, ◌*◌, ◌≤◌, ◌<◌}
 use mathlib.Core.Path.{◌≡◌, sym, ap, ◌∙◌}
 use native.Mathlib.Omega.{arith}

@@ -1,4 +1,5 @@
 -- `masks::window_mask` meets its contract: the mask is that of a pinch, or that of the table that has the directions.
+-- Assumes nothing.
 use mathlib.Core.Path.{◌≡◌, sym, ◌∙◌}
 use mathlib.Core.Bool.{false}
 use Rattle.basics.specs.Bits.{bit}

@@ -1,4 +1,3 @@
--- `masks::window_masks` meets its contract: the masks of the windows before b are made. Assumes nothing.
 use Prim.Native.Nat.{◌-◌, ◌≤◌}
 use mathlib.Core.Path.{◌≡◌, refl}
 use native.Mathlib.Omega.{arith}

@@ -1,4 +1,5 @@
 -- `masks::window_row` meets its contract: the windows of the vertices before column x of the line are read, and `left`
+-- has the two cells on the left of that one. Assumes nothing.
 use Prim.Native.Nat.{suc, ◌+◌, ◌-◌, ◌*◌, ◌≤◌}
 use mathlib.Core.Path.{◌≡◌, refl, ap, ap₂, ◌∙◌}
 use native.Mathlib.Omega.{arith}

@@ -1,4 +1,3 @@
--- `masks::window_row` meets its contract: the windows of the vertices before column x of the line are read, and `left`
 use Prim.Native.Nat.{suc, ◌+◌, ◌-◌, ◌*◌, ◌≤◌}
 use mathlib.Core.Path.{◌≡◌, refl, ap, ap₂, ◌∙◌}
 use native.Mathlib.Omega.{arith}

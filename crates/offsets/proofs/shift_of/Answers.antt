@@ -1,4 +1,5 @@
 -- `offsets::shift_of` meets its contract: neither part of an offset is above 258, which is below SHIFT_BASE. Assumes
+-- nothing.
 use mathlib.Core.Path.{◌≡◌, ap}
 use native.Mathlib.Omega.{arith}
 use Rattle.moves.specs.declared.Offset.{Offset}

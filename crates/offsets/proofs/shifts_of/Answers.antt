@@ -1,4 +1,5 @@
 -- `offsets::shifts_of` meets its contract: the shifts of a table hold for the directions that are in it. Assumes
+-- nothing.
 use Rattle.moves.proofs.Table.{table-sixteen, table-eight, table-within}
 use Rattle.offsets.proofs.Masked.{shifts-within}
 use borrow.Author.Rules.{rules}

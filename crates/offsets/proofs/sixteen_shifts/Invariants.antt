@@ -1,4 +1,3 @@
--- `offsets::sixteen_shifts` meets its contract: the moves before m have their shifts. Assumes nothing.
 use Prim.Native.Nat.{◌-◌, ◌≤◌}
 use mathlib.Core.Path.{◌≡◌, refl}
 use native.Mathlib.Omega.{arith}
