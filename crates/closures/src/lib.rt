@@ -1,5 +1,6 @@
 // Closures of a floor: a table of sixteen slots, each a rectangle or free. Post, strike, and the working map.
 #![tactic(auto)]
+
 ghost use Rattle.std.specs.Prelude.{◌≡◌, ◌<◌, min};
 ghost use Rattle.std.proofs.Math.Option.{some};
 ghost use Rattle.floor.specs.Refusals.{floor_shape};

@@ -2,6 +2,7 @@
 // operation reads them as a table of `closures`, whose operations decide the answer; post and strike then store the
 // four numbers of a slot.
 #![tactic(auto)]
+
 ghost use Rattle.std.specs.Prelude.{◌≡◌, ◌<◌};
 ghost use Rattle.closures.specs.Table.{held_in};
 ghost use Rattle.stored_closures.specs.Stored.{rectangle_of, stored_in, with_numbers};

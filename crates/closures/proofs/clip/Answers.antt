@@ -3,7 +3,6 @@ use Prim.Native.Nat.{ℕ, ◌-◌, min}
 use mathlib.Core.Path.{◌≡◌}
 use Rattle.closures.specs.declared.Rectangle.{Rectangle}
 use Rattle.closures.specs.Known.{clipped}
-use borrow.Author.Rules.{rules}
 use Rattle.closures.proofs.clip.Goals as goal
 
 -- A rectangle with these fields is the clipped one.

@@ -1,6 +1,5 @@
 -- `closures::is_free` meets its contract: each variant of what the slot holds is one case. Assumes nothing.
 use mathlib.Core.Path.{sym, ap}
-use borrow.Author.Rules.{rules}
 use Rattle.closures.specs.Plain.{is_free}
 use Rattle.closures.specs.Table.{held_in}
 use Rattle.closures.proofs.is_free.Goals as goal

@@ -1,10 +1,7 @@
 -- `closures::lowest_free` meets its contract: no slot below `k` is free. Assumes nothing.
 use Prim.Native.Nat.{◌-◌}
-use mathlib.Core.Path.{sym, ◌∙◌}
-use native.Mathlib.Omega.{arith}
-use borrow.Author.Rules.{rules}
 use Rattle.closures.specs.Table.{held}
-use Rattle.closures.proofs.Search.{Searched, searched-none, searched-found, searched-more, searched-all}
+use Rattle.closures.proofs.Search.{Searched}
 use Rattle.closures.proofs.lowest_free.Given as goal
 
 abbrev pub invariant-loop-k : goal.invariant-loop-k

@@ -1,16 +1,7 @@
 -- `closures::mark_all` meets its contract: the closures of the slots below k are on the map. Assumes nothing.
-use Prim.Native.Nat.{◌-◌}
 use mathlib.Core.Path.{sym, ◌∙◌}
 use native.Mathlib.Omega.{arith}
-use borrow.Author.Rules.{rules}
-use Rattle.closures.proofs.Marks.{
-  Marking,
-  marking-good,
-  marking-length,
-  marking-none,
-  marking-more,
-  marking-done,
-}
+use Rattle.closures.proofs.Marks.{marking-good, marking-length, marking-none, marking-more, marking-done}
 use Rattle.closures.proofs.mark_all.Goals as goal
 
 pub loop-k-init : goal.loop-k-init

@@ -8,7 +8,6 @@ use Rattle.closures.specs.Plain.{covered_by}
 use Rattle.closures.specs.Table.{held_in, held}
 use Rattle.closures.proofs.Marks.{unmarked}
 use Rattle.closures.proofs.Rows.{clipped-on, clipped-marked}
-use borrow.Author.Rules.{rules}
 use Rattle.closures.proofs.mark_slot.Goals as goal
 
 pub mark-requires : goal.mark-requires

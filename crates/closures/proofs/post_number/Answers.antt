@@ -1,6 +1,5 @@
 -- `closures::post_number` meets its contract: a slot has the number 0, a refusal its own. Assumes nothing.
 use mathlib.Core.Path.{sym, ap, ◌∙◌}
-use borrow.Author.Rules.{rules}
 use Rattle.closures.specs.Plain.{post_number}
 use Rattle.closures.proofs.post_number.Goals as goal
 

@@ -5,7 +5,6 @@ use Rattle.floor.specs.Refusals.{sides_shape}
 use Rattle.floor.specs.declared.Shape.TheVariants.{Good}
 use Rattle.closures.specs.Table.{held}
 use Rattle.closures.proofs.Shapes.{post-sides, post-bounds, post-full, post-good}
-use borrow.Author.Rules.{rules}
 use Rattle.closures.proofs.post_shape.Goals.{In-Good}
 use Rattle.closures.proofs.post_shape.Goals as goal
 

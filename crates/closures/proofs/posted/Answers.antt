@@ -4,7 +4,6 @@ use mathlib.Core.Path.{sym, ◌∙◌}
 use Rattle.closures.specs.Table.{held}
 use Rattle.closures.proofs.Shapes.{good-post}
 use Rattle.closures.proofs.Answered.{posts-refused, posts-in}
-use borrow.Author.Rules.{rules}
 use Rattle.closures.proofs.posted.Goals as goal
 
 pub with_slot-requires : goal.with_slot-requires

@@ -5,7 +5,6 @@ use Rattle.floor.specs.Refusals.{sides_shape}
 use Rattle.floor.specs.declared.Shape.TheVariants.{Good}
 use Rattle.closures.specs.Table.{held}
 use Rattle.closures.proofs.Shapes.{strike-sides, strike-above, strike-empty, strike-good}
-use borrow.Author.Rules.{rules}
 use Rattle.closures.proofs.strike_shape.Goals.{In-Good}
 use Rattle.closures.proofs.strike_shape.Goals as goal
 

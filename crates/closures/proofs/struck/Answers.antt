@@ -5,7 +5,6 @@ use native.Mathlib.Omega.{arith}
 use Rattle.closures.specs.Table.{held}
 use Rattle.closures.proofs.Shapes.{good-strike}
 use Rattle.closures.proofs.Answered.{strikes-refused, strikes-free}
-use borrow.Author.Rules.{rules}
 use Rattle.closures.proofs.struck.Goals as goal
 
 pub with_slot-requires : goal.with_slot-requires

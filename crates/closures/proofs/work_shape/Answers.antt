@@ -3,7 +3,6 @@ use mathlib.Core.Path.{◌≡◌, sym, ◌∙◌}
 use Rattle.floor.specs.Refusals.{floor_shape}
 use Rattle.floor.specs.declared.Shape.TheVariants.{Good}
 use Rattle.closures.proofs.Shapes.{work-floor, work-other, work-same}
-use borrow.Author.Rules.{rules}
 use Rattle.closures.proofs.work_shape.Goals.{In-Good}
 use Rattle.closures.proofs.work_shape.Goals as goal
 

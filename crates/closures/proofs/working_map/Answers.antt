@@ -5,7 +5,6 @@ use lib.ListN.{length}
 use Rattle.floor.specs.declared.Shape.TheVariants.{Good}
 use Rattle.closures.specs.Plain.{work_shape}
 use Rattle.closures.proofs.Answered.{writes-refused, writes-map, good-lent}
-use borrow.Author.Rules.{rules}
 use Rattle.closures.proofs.working_map.Goals.{In-Good}
 use Rattle.closures.proofs.working_map.Goals as goal
 

@@ -3,7 +3,6 @@
 use mathlib.Core.Path.{◌≡◌, sym, ◌∙◌}
 use Rattle.closures.specs.Plain.{post_answer}
 use Rattle.closures.specs.declared.Posting.TheVariants.{In}
-use borrow.Author.Rules.{rules}
 use Rattle.stored_closures.specs.Stored.{rectangle_of, stored_in}
 use Rattle.stored_closures.proofs.Answered.{posting, posts-refused, post-slot, posts-in}
 use Rattle.stored_closures.proofs.post.Goals.{After-posted-done, In-In}

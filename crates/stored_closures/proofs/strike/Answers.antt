@@ -2,7 +2,6 @@
 -- stored in the slot. Assumes nothing.
 use mathlib.Core.Path.{◌≡◌}
 use Rattle.closures.specs.Plain.{strike_shape}
-use borrow.Author.Rules.{rules}
 use Rattle.stored_closures.specs.Stored.{stored_in}
 use Rattle.stored_closures.proofs.Answered.{striking, strikes-refused, strike-slot, strikes-set}
 use Rattle.stored_closures.proofs.strike.Goals.{After-struck-done}

@@ -1,8 +1,6 @@
 -- `stored_closures::table_of` meets its contract: the slots below k are read. Assumes nothing.
-use Prim.Native.Nat.{◌-◌}
 use native.Mathlib.Omega.{arith}
-use borrow.Author.Rules.{rules}
-use Rattle.stored_closures.proofs.Table.{Built, built-none, built-more, built-done}
+use Rattle.stored_closures.proofs.Table.{built-none, built-more, built-done}
 use Rattle.stored_closures.proofs.table_of.Goals as goal
 
 pub loop-k-init : goal.loop-k-init

@@ -1,6 +1,5 @@
 -- `stored_closures::working_map` meets its contract: what is written for the table is that for the numbers. Assumes
 -- nothing.
-use borrow.Author.Rules.{rules}
 use Rattle.stored_closures.proofs.Answered.{writing}
 use Rattle.stored_closures.proofs.working_map.Goals as goal
 
