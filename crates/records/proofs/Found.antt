@@ -13,7 +13,7 @@ use borrow.Author.Tests.{leb-true, leb-false, le-leb, lt-leb, eqb-true, eqb-fals
 use lib.Dec.{leb, eqb}
 use lib.ListN.{length}
 use Rattle.basics.specs.Bounded.{pick, every}
-use Rattle.basics.proofs.Bools.{and_intro, and_left, and_right}
+use Rattle.basics.proofs.Bools.{and_left, and_right}
 use Rattle.records.specs.Format.{
   marked_at,
   whole_at,
@@ -32,8 +32,6 @@ use Rattle.records.specs.Format.{
   record_at,
 }
 use Rattle.records.specs.declared.stream.Cursor.{Cursor}
-use Rattle.records.specs.declared.stream.MapRecord.{MapRecord}
-use Rattle.records.specs.declared.stream.JobRecord.{JobRecord}
 use Rattle.records.specs.declared.stream.Record.{Record}
 use Rattle.records.specs.declared.stream.Record.TheVariants.{Map, Job, End, Bad}
 

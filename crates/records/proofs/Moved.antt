@@ -16,7 +16,7 @@ use Rattle.records.specs.declared.stream.Cursor.{Cursor}
 use Rattle.records.specs.declared.stream.MapRecord.{MapRecord}
 use Rattle.records.specs.declared.stream.JobRecord.{JobRecord}
 use Rattle.records.specs.declared.stream.Record.{Record}
-use Rattle.records.specs.declared.stream.Record.TheVariants.{Map, Job, End, Bad}
+use Rattle.records.specs.declared.stream.Record.TheVariants.{Map, Job}
 use Rattle.records.proofs.Found.{
   side-pos,
   side-le,

@@ -29,20 +29,7 @@ use Rattle.basics.proofs.Bools.{not-both, and_intro}
 use Rattle.basics.proofs.Bounded.{every-all, every-at}
 use Rattle.basics.proofs.Lists.{length-tabulate, get_d_tabulate}
 use Rattle.basics.proofs.Order.{le-or-lt}
-use Rattle.records.specs.Format.{
-  marked_at,
-  wide_at,
-  high_at,
-  map_side,
-  cell_byte,
-  map_in,
-  past_map,
-  map_at,
-  job_in,
-  past_job,
-  job_at,
-  record_at,
-}
+use Rattle.records.specs.Format.{wide_at, high_at, map_side, cell_byte, job_in, past_job, record_at}
 use Rattle.records.specs.Settled.{MapSettled, JobSettled, Settled, Decides}
 use Rattle.records.specs.declared.stream.Cursor.{Cursor}
 use Rattle.records.specs.declared.stream.Record.{Record}

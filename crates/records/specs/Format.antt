@@ -21,7 +21,7 @@
 -- A cursor has the place of the next record, `at`, and the number of that record, `due`: 0 for the map, k for job k. A
 -- cursor past the end of the input finds what one at the end finds. A byte past the end reads as 0, which is no mark
 -- and no side.
-use Rattle.std.specs.Prelude.{ℕ, zero, suc, ◌+◌, ◌-◌, ◌*◌, Bool, true, false, ◌&&◌, List, [], ◌∷◌, leb, eqb, length, get_or, take, drop}
+use Rattle.std.specs.Prelude.{ℕ, zero, suc, ◌+◌, ◌-◌, ◌*◌, Bool, ◌&&◌, List, [], ◌∷◌, leb, eqb, length, get_or, take, drop}
 use Rattle.std.proofs.Math.Option.{Option, some, none}
 use Rattle.basics.specs.Bounded.{pick, every}
 use Rattle.records.specs.declared.stream.Cursor.{Cursor}

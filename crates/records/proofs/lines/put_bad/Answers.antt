@@ -4,11 +4,10 @@ use native.Mathlib.Omega.{arith}
 use lib.ListN.{length}
 use Rattle.records.proofs.Decimal.{decimal-u64}
 use Rattle.records.proofs.Writing.{written-more, room_after}
-use borrow.Author.Rules.{rules}
 use Rattle.records.proofs.lines.put_bad.Goals.{After-put_field-p1}
 use Rattle.records.proofs.lines.put_bad.Goals as goal
 
-room1 : (c : After-put_field-p1) → c.put_field-p1.result + 30 ≤ length c.put_field-p1.new.0
+room1 : (c : After-put_field-p1) → c.put_field-p1.result + 30 ≤ length c.put_field-p1.new.buf
 room1 c =
     room_after c.put_field-p1.ensures 34 30 (omega (arith, decimal-u64 c.args.k (omega arith)))
     c.requires

@@ -1,9 +1,7 @@
 -- `records::lines::put_field` meets its contract: the text is written, then the digits. Assumes nothing.
 use native.Mathlib.Omega.{arith}
 use lib.ListN.{length-append}
-use Rattle.records.specs.Lines.{decimal}
 use Rattle.records.proofs.Writing.{written-length, written-more}
-use borrow.Author.Rules.{rules}
 use Rattle.records.proofs.lines.put_field.Goals as goal
 
 pub put_text-next-requires : goal.put_text-next-requires

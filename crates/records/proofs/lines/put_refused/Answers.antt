@@ -5,16 +5,15 @@ use native.Mathlib.Omega.{arith}
 use lib.ListN.{length}
 use Rattle.records.proofs.Decimal.{decimal-u64}
 use Rattle.records.proofs.Writing.{written-length, written-more, room_after}
-use borrow.Author.Rules.{rules}
 use Rattle.records.proofs.lines.put_refused.Goals.{After-put_field-p1, After-put_field-p2}
 use Rattle.records.proofs.lines.put_refused.Goals as goal
 
-room1 : (c : After-put_field-p1) → c.put_field-p1.result + 40 ≤ length c.put_field-p1.new.0
+room1 : (c : After-put_field-p1) → c.put_field-p1.result + 40 ≤ length c.put_field-p1.new.buf
 room1 c =
     room_after c.put_field-p1.ensures 24 40 (omega (arith, decimal-u64 c.args.n (omega arith)))
     c.requires
 
-room2 : (c : After-put_field-p2) → c.put_field-p2.result + 10 ≤ length c.put_field-p2.new.0
+room2 : (c : After-put_field-p2) → c.put_field-p2.result + 10 ≤ length c.put_field-p2.new.buf
 room2 c =
     room_after c.put_field-p2.ensures 30 10 (omega (arith, decimal-u64 c.args.r (omega arith)))
     (room1 (goal.at.After-put_field-p2 c).After-put_field-p1)

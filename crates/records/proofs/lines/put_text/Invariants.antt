@@ -1,10 +1,6 @@
 -- `records::lines::put_text` meets its contract: the first k bytes of the text are written. Assumes nothing.
-use Prim.Native.Nat.{◌+◌, ◌-◌, ◌≤◌}
-use native.Mathlib.Omega.{arith}
-use borrow.Author.Rules.{rules}
-use lib.ListN.{length, take}
-use Rattle.records.specs.Known.{Written}
-use Rattle.records.proofs.Writing.{Copying, copying-none, copying-more, copying-done}
+use Prim.Native.Nat.{◌-◌}
+use Rattle.records.proofs.Writing.{Copying}
 use Rattle.records.proofs.lines.put_text.Given as goal
 
 abbrev pub invariant-loop-k : goal.invariant-loop-k

@@ -1,7 +1,6 @@
 -- `records::stream::byte` meets its contract: an element of a slice of bytes is below 256. Assumes nothing.
 use mathlib.Core.Path.{refl}
 use native.Mathlib.Omega.{arith}
-use borrow.Author.Rules.{rules}
 use Rattle.records.proofs.stream.byte.Goals as goal
 
 pub overflow_cast-result : goal.overflow_cast-result

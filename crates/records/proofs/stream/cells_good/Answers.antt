@@ -1,11 +1,9 @@
 -- `records::stream::cells_good` meets its contract: the cells passed are all 0 or 1. Assumes nothing.
-use Prim.Native.Nat.{◌-◌, ◌+◌}
 use mathlib.Core.Path.{refl, sym}
 use native.Mathlib.Omega.{arith}
-use borrow.Author.Rules.{rules}
 use borrow.Author.Tests.{le-leb, lt-leb}
 use Rattle.basics.proofs.Bounded.{every-fails}
-use Rattle.basics.proofs.Scan.{Passed, passed_none, passed-more, passed-all}
+use Rattle.basics.proofs.Scan.{passed_none, passed-more, passed-all}
 use Rattle.records.specs.Format.{cell_byte}
 use Rattle.records.proofs.stream.cells_good.Goals as goal
 

@@ -1,13 +1,10 @@
 -- `records::stream::map_settled` meets its contract: a wrong byte settles the map, a missing one leaves it open where
 -- those before it are right, and a whole record settles it. Assumes nothing.
-use Prim.Native.Nat.{ℕ, ◌+◌, ◌*◌, ◌≤◌}
+use Prim.Native.Nat.{◌+◌, ◌*◌, ◌≤◌}
 use mathlib.Core.Path.{◌≡◌, ap, ap₂, sym, ◌∙◌}
-use mathlib.Core.Bool.{not, true, false}
-use mathlib.Core.List.{List}
 use native.Mathlib.Omega.{arith}
 use native.Mathlib.Nat.{mul-le-mul}
 use borrow.Author.Tests.{eq-eqb, ne_eqb, not-true}
-use borrow.Author.Rules.{rules}
 use lib.Dec.{eqb}
 use lib.ListN.{get_or}
 use Rattle.basics.proofs.Bools.{and_left, and_right}
@@ -70,7 +67,7 @@ returns-then-left-lt3 c =
       second = λ l. eq-eqb _ _ c.if-s-at-ne80.false;
       wide = λ l. absurd (omega arith);
       high = λ l. absurd (omega arith);
-      cells = λ c l. absurd (omega arith);
+      cells = λ k l. absurd (omega arith);
     } (omega arith))
 
 pub returns-then-not-side_good : goal.returns-then-not-side_good
@@ -89,7 +86,7 @@ returns-then-left-lt4 c =
       wide = λ l.
           granted (c.side_good.ensures ∙ ap map_side c.byte-wide.ensures.0) c.if-not-side_good.false-raw;
       high = λ l. absurd (omega arith);
-      cells = λ c l. absurd (omega arith);
+      cells = λ k l. absurd (omega arith);
     } (omega arith))
 
 pub returns-then-not-side_good-2 : goal.returns-then-not-side_good-2

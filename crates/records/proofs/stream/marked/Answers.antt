@@ -1,7 +1,5 @@
 -- `records::stream::marked` meets its contract: the two tests are those of `marked_at`. Assumes nothing.
-use mathlib.Core.Path.{sym}
 use borrow.Author.Tests.{eq-eqb, ne_eqb}
-use borrow.Author.Rules.{rules}
 use Rattle.records.proofs.stream.marked.Goals as goal
 
 pub returns-then-s-at : goal.returns-then-s-at

@@ -2,7 +2,6 @@
 -- make it. Assumes nothing.
 use native.Mathlib.Omega.{arith}
 use Rattle.records.proofs.Found.{refuted, granted, job-found, job-bad}
-use borrow.Author.Rules.{rules}
 use Rattle.records.proofs.stream.read_job.Goals as goal
 
 -- make it. Assumes nothing.

@@ -2,13 +2,11 @@
 -- make it. Assumes nothing.
 use Prim.Native.Nat.{ℕ, ◌+◌, ◌*◌, ◌≤◌}
 use mathlib.Core.Path.{◌≡◌, ap, ap₂, ◌∙◌}
-use mathlib.Core.List.{List}
 use native.Mathlib.Omega.{arith}
 use native.Mathlib.Nat.{mul-le-mul}
 use Rattle.basics.specs.Bounded.{every}
 use Rattle.records.specs.Format.{map_side, cell_byte, wide_at, high_at}
-use Rattle.records.proofs.Found.{refuted, granted, side-le, GoodMap, map_found, map-bad}
-use borrow.Author.Rules.{rules}
+use Rattle.records.proofs.Found.{refuted, granted, side-le, map_found, map-bad}
 use Rattle.records.proofs.stream.read_map.Goals.{Else-not-side_good-2}
 use Rattle.records.proofs.stream.read_map.Goals as goal
 
@@ -75,7 +73,7 @@ pub returns-then-not-cells_good : goal.returns-then-not-cells_good
 returns-then-not-cells_good c =
     map-bad (c.args.s.now) (c.args.at)
     (λ g.
-    let e = ap (λ (n : ℕ). every n (cell_byte (c.args.s.now) (place (goal.at.returns-then-not-cells_good c).Else-not-side_good-2 + 4))) (count-is (goal.at.returns-then-not-cells_good c).Else-not-side_good-2) in
+    let e = ap (λ (n : ℕ). every n (cell_byte (c.args.s.now) (c.args.at + 4))) (count-is (goal.at.returns-then-not-cells_good c).Else-not-side_good-2) in
     refuted (c.cells_good.ensures ∙ e) c.if-not-cells_good.true-raw g.cells)
 
 pub returns : goal.returns
@@ -89,6 +87,6 @@ returns c =
       high = granted (c.side_good-2.ensures ∙ ap map_side (high_is (goal.at.returns c).Else-not-side_good-2)) c.if-not-side_good-2.false-raw;
       whole = omega (arith, count-is (goal.at.returns c).Else-not-side_good-2);
       cells =
-          let e = ap (λ (n : ℕ). every n (cell_byte (c.args.s.now) (place (goal.at.returns c).Else-not-side_good-2 + 4))) (count-is (goal.at.returns c).Else-not-side_good-2) in
+          let e = ap (λ (n : ℕ). every n (cell_byte (c.args.s.now) (c.args.at + 4))) (count-is (goal.at.returns c).Else-not-side_good-2) in
           granted (c.cells_good.ensures ∙ e) c.if-not-cells_good.false-raw;
     }

@@ -1,7 +1,6 @@
 -- `records::stream::Cursor::is_settled` meets its contract: each return is a case of what is due at the cursor. Assumes
 -- nothing.
 use native.Mathlib.Omega.{arith}
-use borrow.Author.Rules.{rules}
 use Rattle.records.proofs.Settled.{decides-yes, decides-no, settled-map, settled-end, settled-full, settled-job}
 use Rattle.records.proofs.stream.Cursor.is_settled.Goals as goal
 

@@ -2,7 +2,6 @@
 use mathlib.Core.Path.{◌∙◌}
 use native.Mathlib.Omega.{arith}
 use Rattle.records.proofs.Found.{map-due, input-ends, job-due, jobs-full}
-use borrow.Author.Rules.{rules}
 use Rattle.records.proofs.stream.Cursor.step.Goals as goal
 
 pub returns-then-due-eq0 : goal.returns-then-due-eq0
