@@ -7,7 +7,7 @@
 --   counts-fit         == where costs and counts pass the tests, the traversal counts fit 64 bits
 --   counts-lead        == where costs and counts pass the tests, a move leads on from each vertex on the way before b
 --   route-..           == `route_test` after each test that the code runs: false where it fails, the rest where it holds
---   noRoute-..         == `no_route_test` after each test that the code runs
+--   no_route-..        == `no_route_test` after each test that the code runs
 --   vertices-uncounted == `vertices_test` does not read n
 --   nexts-alone        == `nexts_test` reads neither route nor n
 --   points-alone       == `points_test` reads no costs and no counts

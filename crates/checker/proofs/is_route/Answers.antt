@@ -1,4 +1,5 @@
 -- `checker::is_route` meets its contract: each return is one case of `route_test`. Once costs and counts are right, the
+-- products of counts fit 64 bits. Assumes nothing.
 use Prim.Native.Nat.{◌<◌}
 use mathlib.Core.Path.{◌≡◌, sym, ap, ◌∙◌}
 use mathlib.Core.Bool.{true}
@@ -34,7 +35,7 @@ vertices c =
     let a = c.args in
     c.vertices_right.ensures
     ∙ vertices-uncounted a.d.now a.e.now a.f.now a.back.now a.route.now a.next.now a.n true
-    (graph (goal.at.After-vertices_right c).Start) a.a.0 a.b.0
+    (floor_graph (floor_of a.w a.h a.map.now) a.dirs) a.a.0 a.b.0
 
 pub returns-then-d-goal : goal.returns-then-d-goal
 returns-then-d-goal c =
@@ -73,7 +74,7 @@ chosen c =
           c.requires.job.start_in c.requires.job.goal_in c.requires.shape
           (omega (arith, c.type_inv.f c.args.b.0));
       pinches = pinches-far c.requires.job (sheet_of c.args.d.now c.args.e.now c.args.f.now c.args.back.now c.args.route.now c.args.next.now c.args.n) (sym (vertices (goal.at.Else-not-vertices_right c).After-vertices_right) ∙ not-false _ c.if-not-vertices_right.false-raw);
-      reached = near (goal.at.Else-not-vertices_right v).Else-d-goal;
+      reached = near (goal.at.Else-not-vertices_right c).Else-d-goal;
       leads = counts-lead (floor_graph (floor_of c.args.w c.args.h c.args.map.now) c.args.dirs) c.args.a.0 c.args.b.0 (sheet_of c.args.d.now c.args.e.now c.args.f.now c.args.back.now c.args.route.now c.args.next.now c.args.n) (near (goal.at.Else-not-vertices_right c).Else-d-goal)
           c.if-d-start-ne0.false c.if-e-goal-ne0.false (vertices (goal.at.Else-not-vertices_right c).After-vertices_right) c.if-not-vertices_right.false-raw L
           c.requires.job.start_in c.requires.job.goal_in;

@@ -1,7 +1,7 @@
 -- `checker::nexts::row_right` meets its contract: the flag says whether the next vertices of the row before column x
+-- pass. Assumes nothing.
 use Prim.Native.Nat.{suc, ◌+◌, ◌-◌, ◌*◌, ◌≤◌}
 use mathlib.Core.Path.{◌≡◌, refl, sym, ap, ◌∙◌}
-use mathlib.Core.Logic.{⊎_elim}
 use native.Mathlib.Omega.{arith}
 use native.Mathlib.Numerals.{add-one}
 use borrow.Author.Tests.{not-true}
@@ -17,7 +17,7 @@ use Rattle.grid.specs.Grid.{floor_graph}
 use Rattle.checker.specs.Tests.{chosen_of, next_column_test}
 use Rattle.checker.proofs.Choices.{next-row-blank, next-choosing, next-leads, next-stops, next-keeps}
 use borrow.Author.Rules.{rules}
-use Rattle.checker.proofs.nexts.row_right.Goals.{In-loop-x, Start}
+use Rattle.checker.proofs.nexts.row_right.Goals.{In-loop-x, Start, then-not-next_right, else-not-next_right}
 use Rattle.checker.proofs.nexts.row_right.Goals as goal
 
 -- The vertex is on the floor, and the code has its number.
@@ -88,12 +88,6 @@ pub loop-x-init : goal.loop-x-init
 unfolding every
 loop-x-init c = (refl, omega arith)
 
-pub offset_bounds-leaving-x : goal.offset_bounds-leaving-x
-offset_bounds-leaving-x c = let o = on_row (goal.at.offset_bounds-leaving-x c).In-loop-x in omega (arith, o.wide, o.column)
-
-pub bounds-leaving-x : goal.bounds-leaving-x
-bounds-leaving-x c = let o = on_row (goal.at.bounds-leaving-x c).In-loop-x in omega (arith, o.wide, o.column)
-
 -- The mask that the code reads.
 mask_is : (c : In-loop-x)
     → let a = c.args in
@@ -122,11 +116,14 @@ pub loop-x-preserved : goal.loop-x-preserved
 loop-x-preserved c =
     let p = c.requires.0 in
     let S = c.requires.3 in
-    let i = c.loop-x.invariant.0 in (
-      ⊎_elim (λ w. w.1 ∙ next-stops p S (on_row (goal.at.loop-x-preserved c).In-loop-x) (mask_is (goal.at.loop-x-preserved c).In-loop-x) (at-number (goal.at.loop-x-preserved c).In-loop-x) (small (goal.at.loop-x-preserved c).In-loop-x) i c.next_right.ensures
-          w.0.taken)
-          (λ w. w.1 ∙ next-keeps p S (on_row (goal.at.loop-x-preserved c).In-loop-x) (mask_is (goal.at.loop-x-preserved c).In-loop-x) (at-number (goal.at.loop-x-preserved c).In-loop-x) (small (goal.at.loop-x-preserved c).In-loop-x) i c.next_right.ensures
-          w.0.left) c.if-not-next_right.branch-raw,
+    let i = c.loop-x.invariant.0 in
+    let here = (goal.at.loop-x-preserved c).In-loop-x in (
+      elim c.if-not-next_right.branch [
+        then-not-next_right w ↦ w.right-is ∙ next-stops p S (on_row here) (mask_is here) (at-number here) (small here)
+            i c.next_right.ensures w.if-not-next_right.true-raw
+      | else-not-next_right w ↦ w.right-is ∙ next-keeps p S (on_row here) (mask_is here) (at-number here) (small here)
+            i c.next_right.ensures w.if-not-next_right.false-raw
+      ],
       omega arith,
     )
 

@@ -1,4 +1,5 @@
 -- `checker::nexts::row_right` meets its contract: the flag says whether the next vertices of the row before column x
+-- pass. Assumes nothing.
 use Prim.Native.Nat.{suc, ◌+◌, ◌-◌, ◌*◌, ◌≤◌}
 use mathlib.Core.Path.{◌≡◌, refl, sym, ap, ◌∙◌}
 use mathlib.Core.Logic.{⊎_elim}
@@ -19,8 +20,6 @@ use Rattle.checker.proofs.Choices.{next-row-blank, next-choosing, next-leads, ne
 use borrow.Author.Rules.{rules}
 use Rattle.checker.proofs.nexts.row_right.Given as goal
 
--- `checker::nexts::row_right` meets its contract: the flag says whether the next vertices of the row before column x
--- pass. Assumes nothing.
 abbrev pub invariant-loop-x : goal.invariant-loop-x
 invariant-loop-x l =
     (l.right ≡ every l.x (next_column_test (floor_graph (floor_of l.w l.h l.map) l.dirs) l.b (chosen_of l.d l.e l.f l.back l.next) l.w l.y))

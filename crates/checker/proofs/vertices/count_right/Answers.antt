@@ -1,4 +1,5 @@
 -- `checker::vertices::count_right` meets its contract: a sum above 2^64 - 1 equals no number of the slice. Assumes
+-- nothing.
 use mathlib.Core.Path.{sym, ◌∙◌}
 use native.Mathlib.Omega.{arith}
 use borrow.Author.Tests.{not-true, not-false}

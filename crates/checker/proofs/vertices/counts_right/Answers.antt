@@ -10,7 +10,7 @@ pub returns-then-not-count_right : goal.returns-then-not-count_right
 returns-then-not-count_right c =
     let a = c.args in
     counts_from a.dirs a.shifts.now a.mask a.a a.b a.d.now a.e.now a.f.now a.back.now
-    a.v c.is_on_way.ensures c.count_right.ensures c.if-not-count_right.true-raw
+    a.v c.on_way-on.ensures c.count_right.ensures c.if-not-count_right.true-raw
 
 -- The moves from v can be read where the number of vertices is the length of e.
 pub count_right-requires-2 : goal.count_right-requires-2
@@ -24,4 +24,4 @@ pub returns : goal.returns
 returns c =
     let a = c.args in
     counts_to a.dirs a.shifts.now a.mask a.a a.b a.d.now a.e.now a.f.now a.back.now
-    a.v c.is_on_way.ensures c.count_right.ensures c.if-not-count_right.false-raw c.count_right-2.ensures
+    a.v c.on_way-on.ensures c.count_right.ensures c.if-not-count_right.false-raw c.count_right-2.ensures

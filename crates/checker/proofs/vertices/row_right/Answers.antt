@@ -1,7 +1,7 @@
 -- `checker::vertices::row_right` meets its contract: the flag says whether the vertices of the row before column x
+-- pass. Assumes nothing.
 use Prim.Native.Nat.{◌+◌, ◌-◌, ◌*◌, ◌≤◌}
 use mathlib.Core.Path.{◌≡◌, refl, ap, ◌∙◌}
-use mathlib.Core.Logic.{⊎_elim}
 use native.Mathlib.Omega.{arith}
 use native.Mathlib.Numerals.{add-one}
 use lib.ListN.{get_or}
@@ -16,7 +16,7 @@ use Rattle.checker.specs.Tests.{column_test}
 use Rattle.checker.proofs.CheckInput.{input-shaped}
 use Rattle.checker.proofs.Passes.{column-readable, column-stops, column-keeps}
 use borrow.Author.Rules.{rules}
-use Rattle.checker.proofs.vertices.row_right.Goals.{In-loop-x}
+use Rattle.checker.proofs.vertices.row_right.Goals.{In-loop-x, then-not-vertex_right, else-not-vertex_right}
 use Rattle.checker.proofs.vertices.row_right.Goals as goal
 
 -- The vertex is on the floor, and the code has its number.
@@ -45,12 +45,6 @@ pub loop-x-init : goal.loop-x-init
 unfolding every
 loop-x-init c = (refl, omega arith)
 
-pub offset_bounds-leaving-x : goal.offset_bounds-leaving-x
-offset_bounds-leaving-x c = let o = on_row (goal.at.offset_bounds-leaving-x c).In-loop-x in omega (arith, o.wide, o.column)
-
-pub bounds-leaving-x : goal.bounds-leaving-x
-bounds-leaving-x c = let o = on_row (goal.at.bounds-leaving-x c).In-loop-x in omega (arith, o.wide, o.column)
-
 -- The mask that the code reads.
 mask_is : (c : In-loop-x)
     → let a = c.args in
@@ -77,12 +71,16 @@ overflow_step-x c = let o = on_row (goal.at.overflow_step-x c).In-loop-x in omeg
 
 pub loop-x-preserved : goal.loop-x-preserved
 loop-x-preserved c =
+    let p = c.requires.0 in
     let S = c.requires.3 in
-    let i = c.loop-x.invariant.0 in (
-      ⊎_elim (λ w. w.1 ∙ column-stops c.requires.0 S (on_row (goal.at.loop-x-preserved c).In-loop-x) (mask_is (goal.at.loop-x-preserved c).In-loop-x) (at-number (goal.at.loop-x-preserved c).In-loop-x) c.args.joined
-          i c.vertex_right.ensures w.0.taken)
-          (λ w. w.1 ∙ column-keeps c.requires.0 S (on_row (goal.at.loop-x-preserved c).In-loop-x) (mask_is (goal.at.loop-x-preserved c).In-loop-x) (at-number (goal.at.loop-x-preserved c).In-loop-x) c.args.joined i
-          c.vertex_right.ensures w.0.left) c.if-not-vertex_right.branch-raw,
+    let i = c.loop-x.invariant.0 in
+    let here = (goal.at.loop-x-preserved c).In-loop-x in (
+      elim c.if-not-vertex_right.branch [
+        then-not-vertex_right w ↦ w.right-is ∙ column-stops p S (on_row here) (mask_is here) (at-number here) c.args.joined
+            i c.vertex_right.ensures w.if-not-vertex_right.true-raw
+      | else-not-vertex_right w ↦ w.right-is ∙ column-keeps p S (on_row here) (mask_is here) (at-number here) c.args.joined
+            i c.vertex_right.ensures w.if-not-vertex_right.false-raw
+      ],
       omega arith,
     )
 

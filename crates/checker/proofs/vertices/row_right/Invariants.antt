@@ -1,4 +1,5 @@
 -- `checker::vertices::row_right` meets its contract: the flag says whether the vertices of the row before column x
+-- pass. Assumes nothing.
 use Prim.Native.Nat.{◌+◌, ◌-◌, ◌*◌, ◌≤◌}
 use mathlib.Core.Path.{◌≡◌, refl, ap, ◌∙◌}
 use mathlib.Core.Logic.{⊎_elim}
@@ -18,8 +19,6 @@ use Rattle.checker.proofs.Passes.{column-readable, column-stops, column-keeps}
 use borrow.Author.Rules.{rules}
 use Rattle.checker.proofs.vertices.row_right.Given as goal
 
--- `checker::vertices::row_right` meets its contract: the flag says whether the vertices of the row before column x
--- pass. Assumes nothing.
 abbrev pub invariant-loop-x : goal.invariant-loop-x
 invariant-loop-x l =
     (l.right ≡ every l.x (column_test l.joined (leaving_graph (floor_of l.w l.h l.map) l.dirs) l.a l.b
