@@ -108,7 +108,7 @@ module _ {g : Graph} {dirs : Directions} {shifts : List ℕ} {a b n k : ℕ} {d 
   work_len = omega (arith, R.len, A.work_len, sized)
 
   masks : Masked g dirs shifts work'
-  masks = masked-kept K.masked (λ u h. R.rest (2 * g.size + u) (omega (arith, A.short, sized)))
+  masks = masked-kept K.masked (λ i h. R.rest i (omega (arith, A.short, sized)))
 
   pub passable-back : Passable g dirs shifts b a k false e work'
   passable-back = record {

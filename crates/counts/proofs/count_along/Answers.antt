@@ -65,9 +65,8 @@ bounds-f-u c =
 
 pub loop-i-preserved : goal.loop-i-preserved
 loop-i-preserved c =
-    let x = c.x-1.given in
     turn_more c.loop-i.invariant (omega arith) c.vertex_of_turn-u.result c.vertex_of_turn-u.ensures
-    c.count_of.result (counted (goal.at.loop-i-preserved c).After-count_of) x.0.0 x.1
+    c.count_of.result (counted (goal.at.loop-i-preserved c).After-count_of) c.in-Is.x c.in-Is.is
 
 pub shape_of-f : goal.shape_of-f
 shape_of-f c = turn-len c.loop-i.invariant c.requires.1

@@ -40,7 +40,7 @@ returns c =
     λ g K.
     let A = c.requires.0 in
     let R = c.keep_on_way-kept.ensures in
-    let same = c.count_along.auto.1.1.1.1.1.1.1.0 in
+    let same = c.count_along.auto.f in
     filled_none K A R
     (subst (Summed g c.args.b c.args.a _) c.if-count_along.false
     (c.count_along.ensures g c.args.a (passable-back K A R)))

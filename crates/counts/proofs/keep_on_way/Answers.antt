@@ -32,7 +32,7 @@ loop-i-preserved c =
     let one = c.one_if-kept.ensures.0 ∙ ap (λ b. pick b 1 0) test in (
       omega arith,
       rw c.copy_settled-u.ensures.1
-          (kept_more c.loop-i.invariant.1 (omega (arith, c.requires.0)) (ap (λ x. c.loop-i.auto + x) one)),
+          (kept_more c.loop-i.invariant.1 (omega (arith, c.requires.0)) (ap (λ x. c.loop-i.kept + x) one)),
     )
 
 pub shape_of-work : goal.shape_of-work

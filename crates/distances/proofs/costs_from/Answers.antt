@@ -5,7 +5,10 @@ use Rattle.distances.proofs.costs_from.Goals as goal
 
 pub costs_over_masks-requires : goal.costs_over_masks-requires
 costs_over_masks-requires c =
-    (costing-on c.requires c.store_masks.ensures.len, c.store_masks.ensures.masks)
+    record {
+      costing = costing-on c.requires c.store_masks.ensures.len;
+      masks_in = c.store_masks.ensures.masks;
+    }
 
 pub returns : goal.returns
 returns c =

@@ -6,23 +6,23 @@ use Rattle.grid.specs.Grid.{floor_graph}
 use Rattle.distances.specs.Dijkstra.{Runnable}
 use Rattle.distances.proofs.Operations.{runnable, ordered-costs}
 use borrow.Author.Rules.{rules}
-use Rattle.distances.proofs.costs_over_masks.Goals.{After-settle-arg-2-1}
+use Rattle.distances.proofs.costs_over_masks.Goals.{After-classes_of-classes}
 use Rattle.distances.proofs.costs_over_masks.Goals as goal
 
 -- The algorithm runs on the floor's graph, from any vertex of it.
-runs : (c : After-settle-arg-2-1) {x : ℕ}
+runs : (c : After-classes_of-classes) {x : ℕ}
     → let a = c.args in
     x < vertices a.w a.h
     → Runnable (floor_graph (floor_of a.w a.h a.map.now) a.dirs) a.dirs c.shifts_of-shifts.result
     c.classes_of-classes.result x a.d.now a.work.now
 runs c inside =
-    runnable c.requires.0 c.requires.1 c.shifts_of-shifts.ensures c.classes_of-classes.ensures inside
+    runnable c.requires.costing c.requires.masks_in c.shifts_of-shifts.ensures c.classes_of-classes.ensures.0 inside
 
 pub settle-requires : goal.settle-requires
 settle-requires c =
-    (_, _, runs c (omega (arith, c.requires.0.job.start_in)))
+    (_, _, runs c (omega (arith, c.requires.costing.job.start_in)))
 
 pub returns : goal.returns
 returns c =
-    let S = c.settle.ensures _ _ (runs (goal.at.returns c).After-settle-arg-2-1 (omega (arith, c.requires.0.job.start_in))) in
-    ordered-costs c.requires.0 c.requires.1 S S.costs
+    let S = c.settle.ensures _ _ (runs (goal.at.returns c).After-classes_of-classes (omega (arith, c.requires.costing.job.start_in))) in
+    ordered-costs c.requires.costing c.requires.masks_in S S.costs

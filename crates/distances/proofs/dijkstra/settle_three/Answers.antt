@@ -84,8 +84,8 @@ turn-3 : (c : After-relax_unsettled-n-in-loop-c0)
     → let a = c.args in
     let out = c.relax_unsettled-n-in-loop-c0.new in
     TurnOn a.shifts.now c.relax_unsettled-n-in-loop-c0.result 3 (c.key_at-k2.result) (let a = c.args in four_classes a.c0 a.c1 a.c2 a.c3)
-    (c.loop-c0.p0 ∷ c.loop-c0.p1 ∷ (c.loop-c0.p2 + 1) ∷ c.loop-c0.p2 ∷ []) a.d.now out.1.1.1.1.1.0 a.work.now
-    out.1.1.1.1.1.1.0
+    (c.loop-c0.p0 ∷ c.loop-c0.p1 ∷ (c.loop-c0.p2 + 1) ∷ c.loop-c0.p2 ∷ []) a.d.now out.d a.work.now
+    out.work
 turn-3 c g r a B =
     let M = B.runs in
     let K = c.loop-c0.invariant g r a B in

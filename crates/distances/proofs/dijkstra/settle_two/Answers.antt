@@ -14,14 +14,8 @@ use Rattle.distances.proofs.Turn.{key-out, keyed, key-most, Keys, Lowest, least-
 use Rattle.distances.proofs.Turn.{RunningOn, TurnOn, turn_on, filled_on}
 use Rattle.distances.proofs.Start.{running-start, four-first}
 use Rattle.distances.proofs.dijkstra.settle_two.Goals.{After-key_at-k1, At-loop-c0, Else-k0, Else-k0-k1, Then-k0-k1}
+use Rattle.distances.proofs.dijkstra.settle_two.Invariants.{places}
 use Rattle.distances.proofs.dijkstra.settle_two.Goals as goal
-
--- `distances::dijkstra::settle_two` meets its contract: at each turn `Running` holds of the two classes and their
--- positions, and of two classes of no move, whose position is past all vertices, on any graph that the algorithm can
--- run on. Assumes nothing.
--- The positions, with those of the classes of no move.
-abbrev places : ℕ → ℕ → List ℕ → List ℕ
-places p0 p1 d = p0 ∷ p1 ∷ length d ∷ length d ∷ []
 
 -- What holds on the graph that the contract names.
 running : (l : At-loop-c0)
