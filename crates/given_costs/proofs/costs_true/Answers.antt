@@ -1,6 +1,7 @@
 -- `given_costs::costs_true` meets its contract: the start costs 0, and the rows passed are right; `above` and `here`
 use Prim.Native.Nat.{suc, ◌+◌, ◌-◌, ◌<◌}
-use mathlib.Core.Path.{◌≡◌, ◌∙◌}
+use mathlib.Core.Path.{◌≡◌, ap, ◌∙◌}
+use mathlib.Core.Bool.{not}
 use native.Mathlib.Omega.{arith}
 use native.Mathlib.Numerals.{add-one}
 use Rattle.basics.proofs.Scan.{Passed, passed_none, passed-stop, passed-more, passed-all}
@@ -61,7 +62,7 @@ row_right-requires c =
 
 pub returns-then-not-row_right : goal.returns-then-not-row_right
 returns-then-not-row_right c =
-    passed-stop c.row_right.result c.loop-y.invariant.0 (row_in (goal.at.returns-then-not-row_right c).In-loop-y) c.row_right.ensures c.if-not-row_right.true-raw
+    passed-stop c.row_right.result c.loop-y.invariant.0 (row_in (goal.at.returns-then-not-row_right c).In-loop-y) c.row_right.ensures (ap not c.if-not-row_right.true)
     ∙ rows_true c.requires.0 _ c.requires.1 c.if-d-start-ne0.false
 
 pub overflow_step-y : goal.overflow_step-y
@@ -71,7 +72,7 @@ overflow_step-y c =
 pub loop-y-preserved : goal.loop-y-preserved
 loop-y-preserved c =
     let back : c.loop-y.y ≡ c.loop-y.y + 1 - 1 = omega arith in (
-      passed-more c.row_right.result c.loop-y.invariant.0 (row_in (goal.at.loop-y-preserved c).In-loop-y) c.row_right.ensures c.if-not-row_right.false-raw,
+      passed-more c.row_right.result c.loop-y.invariant.0 (row_in (goal.at.loop-y-preserved c).In-loop-y) c.row_right.ensures (ap not c.if-not-row_right.false),
       rw back at c.loop-y.invariant.2,
       c.window_row-below.ensures,
     )

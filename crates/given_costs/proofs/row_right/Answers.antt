@@ -1,7 +1,7 @@
 -- `given_costs::row_right` meets its contract: the flag says whether the costs of the row before column x pass. Assumes
 use Prim.Native.Nat.{◌+◌, ◌-◌, ◌*◌, ◌≤◌}
 use mathlib.Core.Path.{◌≡◌, refl, ap, ◌∙◌}
-use mathlib.Core.Logic.{⊎_elim}
+use mathlib.Core.Bool.{not}
 use native.Mathlib.Omega.{arith}
 use native.Mathlib.Numerals.{add-one}
 use lib.ListN.{get_or}
@@ -15,7 +15,7 @@ use Rattle.neighbours.proofs.Columns.{flag-stops, flag-keeps}
 use Rattle.given_costs.specs.Tests.{column_test}
 use Rattle.given_costs.proofs.Tested.{column-readable, column-right}
 use borrow.Author.Rules.{rules}
-use Rattle.given_costs.proofs.row_right.Goals.{In-loop-x}
+use Rattle.given_costs.proofs.row_right.Goals.{In-loop-x, then-not-vertex_right, else-not-vertex_right}
 use Rattle.given_costs.proofs.row_right.Goals as goal
 
 -- The vertex is on the floor, and the code has its number.
@@ -34,7 +34,7 @@ at-number c = let a = c.args in ap (λ z. a.y * z + c.loop-x.x) (add-one a.w)
 mask-of : (c : In-loop-x)
     → let a = c.args in
     let x = c.loop-x.x in
-    Leaving (floor_of a.w a.h a.map.now) a.dirs x a.y (get_or a.t7 x 0)
+    Leaving (floor_of a.w a.h a.map.now) a.dirs x a.y (get_or a.leaving x 0)
 mask-of c = c.requires.3.at _ (omega (arith, (on_row c).column))
 
 pub overflow_mul-first : goal.overflow_mul-first
@@ -62,7 +62,7 @@ pub vertex_right-requires : goal.vertex_right-requires
 vertex_right-requires c =
     let p = c.requires in (
       column-readable p.0 c.shifts_of-shifts.ensures (on_row (goal.at.vertex_right-requires c).In-loop-x) (mask-of (goal.at.vertex_right-requires c).In-loop-x) (at-number (goal.at.vertex_right-requires c).In-loop-x) p.1,
-      c.classes_of-classes.ensures,
+      c.classes_of-classes.ensures.0,
     )
 
 pub overflow_step-x : goal.overflow_step-x
@@ -74,8 +74,10 @@ loop-x-preserved c =
     let i = c.loop-x.invariant.0 in
     let is = column-right p.0 c.shifts_of-shifts.ensures (on_row (goal.at.loop-x-preserved c).In-loop-x) (mask-of (goal.at.loop-x-preserved c).In-loop-x)
     (at-number (goal.at.loop-x-preserved c).In-loop-x) c.args.d.now p.1 c.vertex_right.ensures in (
-      ⊎_elim (λ w. w.1 ∙ flag-stops _ _ is w.0.taken) (λ w. w.1 ∙ flag-keeps _ _ is i w.0.left)
-          c.if-not-vertex_right.branch-raw,
+      elim c.if-not-vertex_right.branch [
+        then-not-vertex_right w ↦ w.right-is ∙ flag-stops _ _ is (ap not w.if-not-vertex_right.true)
+      | else-not-vertex_right w ↦ w.right-is ∙ flag-keeps _ _ is i (ap not w.if-not-vertex_right.false)
+      ],
       omega arith,
     )
 
