@@ -11,7 +11,7 @@ use mathlib.Core.Bool.{Bool, true, false, ◌&&◌, not}
 use mathlib.Core.Logic.{◌≢◌, ⊎_elim}
 use native.Mathlib.Omega.{arith}
 use native.Mathlib.Nat.{lt_of_mul-lt-mul_left, mul-le-mul}
-use borrow.Author.Tests.{eq-eqb, ne_eqb, ltb-true, not-true, not-false}
+use borrow.Author.Tests.{eq-eqb, ne_eqb, ltb-true, not-false}
 use lib.Dec.{ltb, eqb}
 use Rattle.basics.specs.Bounded.{pick, every}
 use Rattle.basics.proofs.Order.{eq-or-ne}

@@ -6,7 +6,7 @@
 --                       lines from a
 --   passes_on        == the vertex c columns and r rows from the first end is passed exactly where dy * c ≡ dx * r
 --   passed-column, passed-row == a vertex that is passed is between the ends, in columns and in rows
-use Prim.Native.Nat.{ℕ, suc, ◌-◌, ◌*◌, ◌≤◌, ◌<◌, min, max}
+use Prim.Native.Nat.{ℕ, suc, ◌*◌, ◌≤◌, ◌<◌, min, max}
 use mathlib.Core.Path.{◌≡◌, sym, ◌∙◌}
 use mathlib.Core.Bool.{true, ◌&&◌, not}
 use mathlib.Core.Logic.{⊎_elim}

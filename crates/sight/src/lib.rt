@@ -1,5 +1,6 @@
 // Line of sight between two vertices of a floor, and the sight question.
 #![tactic(auto)]
+
 ghost use Rattle.std.specs.Prelude.{◌≡◌, ◌+◌, ◌<◌, ◌≤◌, max};
 ghost use Rattle.floor.specs.Floor.{floor_of, vertices};
 ghost use Rattle.floor.specs.Known.{Sized};

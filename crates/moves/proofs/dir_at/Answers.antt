@@ -5,7 +5,6 @@ use Rattle.moves.proofs.Table.{LawfulMove, lawful-move}
 use Rattle.moves.proofs.dir_at.Goals.{Start}
 use Rattle.moves.proofs.dir_at.Goals as goal
 
--- `moves::dir_at` meets its contract: the directions that pass the test are in the table. Assumes nothing.
 lawful : (s : Start) → LawfulMove s.args.dirs s.args.m
 lawful s = lawful-move s.args.dirs s.args.m s.requires.0 s.requires.1
 

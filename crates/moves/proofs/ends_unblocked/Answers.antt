@@ -1,4 +1,5 @@
 -- `moves::ends_unblocked` meets its contract: the span of an axis is the length of its offset, and one of the two is 1.
+-- Assumes nothing.
 use mathlib.Core.Path.{◌∙◌}
 use mathlib.Core.Logic.{inl, inr, ⊎_elim}
 use Rattle.moves.specs.Moves.{move_of}

@@ -8,7 +8,6 @@ use borrow.Author.Rules.{rules}
 use Rattle.moves.proofs.far_spot.Goals.{After-shifted_by, After-shifted_by-2}
 use Rattle.moves.proofs.far_spot.Goals as goal
 
--- `moves::far_spot` meets its contract: the spot is outside where either coordinate is past the floor. Assumes nothing.
 -- What the two calls answer.
 columns : (c : After-shifted_by)
     → let a = c.args in c.shifted_by.result ≡ place_of (shifted a.w a.x a.dx)

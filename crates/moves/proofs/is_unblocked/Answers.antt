@@ -1,4 +1,5 @@
 -- `moves::is_unblocked` meets its contract: the answer is no for a move that leads off the floor, and otherwise that of
+-- `ends_unblocked`. Assumes nothing.
 use mathlib.Core.Path.{◌≡◌, sym, ap₂, ◌∙◌}
 use Prim.Native.Nat.{ℕ, ◌+◌, ◌-◌}
 use native.Mathlib.Omega.{arith}

@@ -7,7 +7,6 @@ use borrow.Author.Rules.{rules}
 use Rattle.moves.proofs.length_of.Goals.{After-parts_of-o}
 use Rattle.moves.proofs.length_of.Goals as goal
 
--- `moves::length_of` meets its contract: of an offset's two parts one is 0. Assumes nothing.
 -- The two parts of the offset.
 parts : (c : After-parts_of-o)
     → let o = c.parts_of-o.result in let d = c.args.d in (o.up ≡ up d) × (o.down ≡ down d)

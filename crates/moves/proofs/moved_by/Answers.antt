@@ -7,7 +7,6 @@ use borrow.Author.Rules.{rules}
 use Rattle.moves.proofs.moved_by.Goals.{After-parts_of-o}
 use Rattle.moves.proofs.moved_by.Goals as goal
 
--- `moves::moved_by` meets its contract: the coordinate moved by the parts of the offset. Assumes nothing.
 -- The two parts of the offset.
 parts : (c : After-parts_of-o)
     → let o = c.parts_of-o.result in let d = c.args.d in (o.up ≡ up d) × (o.down ≡ down d)

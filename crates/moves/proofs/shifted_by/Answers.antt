@@ -8,7 +8,6 @@ use borrow.Author.Rules.{rules}
 use Rattle.moves.proofs.shifted_by.Goals.{After-parts_of-o}
 use Rattle.moves.proofs.shifted_by.Goals as goal
 
--- `moves::shifted_by` meets its contract: its two tests are those of `shifted`. Assumes nothing.
 -- The two parts of the offset.
 parts : (c : After-parts_of-o)
     → let o = c.parts_of-o.result in let d = c.args.d in (o.up ≡ up d) × (o.down ≡ down d)

@@ -12,7 +12,6 @@ use borrow.Author.Rules.{rules}
 use Rattle.moves.proofs.step_from.Goals.{After-far_spot, In-At}
 use Rattle.moves.proofs.step_from.Goals as goal
 
--- `moves::step_from` meets its contract: the vertex at the spot to which the move leads. Assumes nothing.
 -- The spot to which the move leads.
 spot : (c : After-far_spot)
     → let a = c.args in

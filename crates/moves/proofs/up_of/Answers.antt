@@ -3,7 +3,6 @@ use Rattle.moves.proofs.Signs.{back, below, Above, above}
 use Rattle.moves.proofs.up_of.Goals.{Else-d-lt0}
 use Rattle.moves.proofs.up_of.Goals as goal
 
--- `moves::up_of` meets its contract: an offset below 0 does not go up. Assumes nothing.
 high : (c : Else-d-lt0) → Above c.args.d
 high c = above c.args.d c.requires (rw (back c.args.d c.requires) at c.if-d-lt0.false)
 

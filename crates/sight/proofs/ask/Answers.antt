@@ -1,6 +1,5 @@
 -- `sight::ask` meets its contract: each return is one case of the answer. Assumes nothing.
 use mathlib.Core.Path.{◌≡◌, sym, ap, ◌∙◌}
-use Rattle.floor.specs.declared.Shape.{Shape}
 use Rattle.floor.specs.declared.Shape.TheVariants.{Good}
 use Rattle.sight.specs.declared.Sight.TheVariants.{Answered}
 use Rattle.sight.proofs.Question.{question, asked, answer-refused, answer-good}

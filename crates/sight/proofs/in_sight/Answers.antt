@@ -3,7 +3,6 @@ use mathlib.Core.Path.{ap, ◌∙◌}
 use Rattle.floor.specs.Floor.{floor_of}
 use Rattle.sight.specs.Obstacle.{is_clear}
 use Rattle.sight.proofs.Passed.{obstacle-sees-segment}
-use borrow.Author.Rules.{rules}
 use Rattle.sight.proofs.in_sight.Goals as goal
 
 pub returns : goal.returns

@@ -1,6 +1,5 @@
 -- `sight::look` meets its contract: the columns and rows are those of the two vertices. Assumes nothing.
 use Rattle.sight.specs.Sight.{segment}
-use borrow.Author.Rules.{rules}
 use Rattle.sight.proofs.look.Goals as goal
 
 pub returns : goal.returns

@@ -1,11 +1,10 @@
 -- `sight::look_along` meets its contract: the cell or the step that is found, else the nearest pinch. Assumes nothing.
 use Prim.Native.Nat.{◌+◌, ◌≤◌}
 use mathlib.Core.Path.{◌≡◌, sym, ap, ◌∙◌}
-use mathlib.Core.Bool.{true, false}
+use mathlib.Core.Bool.{true}
 use native.Mathlib.Omega.{arith}
-use borrow.Author.Tests.{not-true, not-false}
-use Rattle.floor.specs.Floor.{Floor, floor_of}
-use Rattle.sight.specs.Sight.{Segment, segment_of}
+use Rattle.floor.specs.Floor.{floor_of}
+use Rattle.sight.specs.Sight.{segment_of}
 use Rattle.sight.specs.Obstacle.{is_clear, span, blockage, nearest_pinch, obstacle}
 use Rattle.sight.proofs.Travel.{span-le}
 use Rattle.sight.proofs.Passed.{
@@ -16,7 +15,6 @@ use Rattle.sight.proofs.Passed.{
   still-apart,
   unit-nearest,
 }
-use borrow.Author.Rules.{rules}
 use Rattle.sight.proofs.look_along.Goals.{Else-apart-eq0, Else-not-is_clear}
 use Rattle.sight.proofs.look_along.Goals as goal
 
@@ -25,13 +23,13 @@ returns-then-not-is_clear c =
     let e = c.blockage_along-found.ensures in
     e
     ∙ obstacle-blocked (floor_of c.args.w c.args.h c.args.map.now) (segment_of c.args.x0 c.args.y0 c.args.x1 c.args.y1)
-    (sym (ap is_clear e) ∙ sym c.is_clear.ensures ∙ not-true c.is_clear.result c.if-not-is_clear.true-raw)
+    (sym (ap is_clear e) ∙ sym c.is_clear.ensures ∙ c.if-not-is_clear.true)
 
 -- No cell and no step is in the way.
 clear : (c : Else-not-is_clear) → is_clear (blockage (floor_of c.args.w c.args.h c.args.map.now) (segment_of c.args.x0 c.args.y0 c.args.x1 c.args.y1)) ≡ true
 clear c =
     sym (ap is_clear c.blockage_along-found.ensures) ∙ sym c.is_clear.ensures
-    ∙ not-false c.is_clear.result c.if-not-is_clear.false-raw
+    ∙ c.if-not-is_clear.false
 
 pub overflow_add-apart : goal.overflow_add-apart
 overflow_add-apart c =

@@ -2,10 +2,8 @@
 use Prim.Native.Nat.{◌≤◌}
 use mathlib.Core.Path.{◌≡◌, sym, ◌∙◌}
 use Rattle.floor.specs.Refusals.{floor_shape, end_shape, and_then}
-use Rattle.floor.specs.declared.Shape.{Shape}
 use Rattle.floor.specs.declared.Shape.TheVariants.{Good}
 use Rattle.floor.proofs.Shapes.{then-refused, then-good, good-floor}
-use borrow.Author.Rules.{rules}
 use Rattle.sight.proofs.question_shape.Goals.{In-Good, Start}
 use Rattle.sight.proofs.question_shape.Goals as goal
 

@@ -1,6 +1,5 @@
 -- `sight::sight_number` meets its contract: clear is 0, an obstacle 100, a refusal has its own number. Assumes nothing.
 use mathlib.Core.Path.{sym, ap, ◌∙◌}
-use borrow.Author.Rules.{rules}
 use Rattle.sight.specs.Question.{sight_number}
 use Rattle.sight.proofs.sight_number.Goals as goal
 

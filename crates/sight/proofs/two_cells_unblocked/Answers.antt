@@ -1,9 +1,10 @@
 -- `sight::two_cells_unblocked` meets its contract: the cells that it reads are the two that the segment enters. Assumes
+-- nothing.
 use Prim.Native.Nat.{ℕ, ◌+◌, ◌-◌}
 use mathlib.Core.Path.{◌≡◌, sym, ap₂, ◌∙◌}
 use mathlib.Core.Bool.{◌||◌, not}
 use native.Mathlib.Omega.{arith}
-use Rattle.floor.specs.Floor.{Floor, floor_of, blocked}
+use Rattle.floor.specs.Floor.{floor_of, blocked}
 use Rattle.sight.specs.Sight.{segment_of, unblocked}
 use Rattle.sight.specs.Obstacle.{span}
 use Rattle.sight.proofs.Unit.{two_cells}

@@ -1,8 +1,9 @@
 -- `sight::unit_blockage` meets its contract: where something is in the way, it is the one step of the
+-- segment or the one cell that it enters. Assumes nothing.
 use Prim.Native.Nat.{◌-◌}
 use mathlib.Core.Path.{sym, ap, ap₂, ◌∙◌}
 use native.Mathlib.Omega.{arith}
-use Rattle.floor.specs.Floor.{Floor, floor_of}
+use Rattle.floor.specs.Floor.{floor_of}
 use Rattle.sight.specs.Obstacle.{cell_at, span}
 use Rattle.sight.specs.declared.Obstacle.TheVariants.{Cell, Step}
 use Rattle.sight.proofs.Unit.{unit-clear, upright-step, level-step, slanted-cell}

@@ -1,11 +1,11 @@
 -- `sight::unit_unblocked` meets its contract: each return is one of the laws `unit-still`, `-upright`, `-level` and
+-- `-slanted`. Assumes nothing.
 use mathlib.Core.Path.{sym, ap, ap₂, ◌∙◌}
 use mathlib.Core.Bool.{not}
 use native.Mathlib.Omega.{arith}
-use Rattle.floor.specs.Floor.{Floor, floor_of, blocked}
+use Rattle.floor.specs.Floor.{floor_of, blocked}
 use Rattle.sight.specs.Travel.{upright_to, level_to}
 use Rattle.sight.proofs.Unit.{unit-still, unit-upright, unit-level, unit-slanted}
-use borrow.Author.Rules.{rules}
 use Rattle.sight.proofs.unit_unblocked.Goals as goal
 
 pub returns-then-rows-eq0 : goal.returns-then-rows-eq0

@@ -9,7 +9,6 @@ use Rattle.thinning.specs.Thinning.{is_vertex}
 use Rattle.thinning.proofs.Shapes.{vertex-yes, vertex-no}
 use Rattle.thinning.proofs.all_vertices.Given as goal
 
--- `thinning::all_vertices` meets its contract: the numbers passed are all vertices. Assumes nothing.
 abbrev pub invariant-loop-k : goal.invariant-loop-k
 invariant-loop-k l = Passed l.n l.k (is_vertex l.w l.h l.list)
 

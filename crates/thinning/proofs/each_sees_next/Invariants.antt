@@ -8,7 +8,6 @@ use Rattle.floor.specs.Floor.{floor_of}
 use Rattle.thinning.specs.Thinning.{sees_next}
 use Rattle.thinning.proofs.each_sees_next.Given as goal
 
--- `thinning::each_sees_next` meets its contract: each vertex passed sees the next. Assumes nothing.
 abbrev pub invariant-loop-k : goal.invariant-loop-k
 invariant-loop-k l = Passed (pred l.n) l.k (sees_next (floor_of l.w l.h l.map) l.list)
 

@@ -10,7 +10,6 @@ use Rattle.thinning.specs.Thinning.{seen, sees_next, next_kept}
 use Rattle.basics.proofs.Scan.{Sought, sought-first, sought-more, sought-found, sought-done}
 use Rattle.thinning.proofs.next_kept.Given as goal
 
--- `thinning::next_kept` meets its contract: the loop stops at the first position that is not seen. Assumes nothing.
 abbrev pub invariant-loop-k : goal.invariant-loop-k
 invariant-loop-k l =
     Sought l.n (suc l.i) l.last l.end l.k (λ j. not (seen (floor_of l.w l.h l.map) l.list l.i j))

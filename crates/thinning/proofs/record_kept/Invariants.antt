@@ -18,7 +18,6 @@ use Rattle.thinning.proofs.Recording.{
 }
 use Rattle.thinning.proofs.record_kept.Given as goal
 
--- `thinning::record_kept` meets its contract: `Recording` says what the loop has recorded. Assumes nothing.
 abbrev pub invariant-loop-i : goal.invariant-loop-i
 invariant-loop-i l =
     Recording (next_kept (seen (floor_of l.w l.h l.map) l.list) l.n) l.n (length l.list) l.m l.i l.out

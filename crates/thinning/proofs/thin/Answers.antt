@@ -1,4 +1,5 @@
 -- `thinning::thin` meets its contract: a refusal leaves the output as it was lent, and a good list is recorded.
+-- Assumes nothing.
 use mathlib.Core.Path.{◌≡◌, sym, ◌∙◌}
 use lib.ListN.{length}
 use Rattle.floor.specs.declared.Shape.{Shape}

@@ -1,8 +1,7 @@
 -- `sight::pinches::common` meets its contract, by Euclid's argument. Assumes nothing.
-use Prim.Native.Nat.{ℕ}
 use native.Mathlib.Omega.{arith}
 use native.Mathlib.Nat.{mod-lt}
-use Rattle.sight.proofs.Common.{Euclid, euclid-start, euclid-turn, euclid-end}
+use Rattle.sight.proofs.Common.{euclid-start, euclid-turn, euclid-end}
 use Rattle.sight.proofs.pinches.common.Goals as goal
 
 pub loop-m-init : goal.loop-m-init

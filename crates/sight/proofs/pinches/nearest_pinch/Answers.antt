@@ -1,16 +1,15 @@
 -- `sight::pinches::nearest_pinch` meets its contract: the vertices looked at are those passed, and each so far is no
-use Prim.Native.Nat.{ℕ, suc, ◌+◌, ◌-◌, ◌*◌, ◌/◌, ◌≤◌}
+-- pinch. Assumes nothing.
+use Prim.Native.Nat.{ℕ, suc, ◌+◌, ◌*◌, ◌/◌, ◌≤◌}
 use mathlib.Core.Path.{◌≡◌, sym, ap₂, ◌∙◌}
 use native.Mathlib.Omega.{arith}
 use native.Mathlib.Nat.{div-le_self}
-use borrow.Author.Rules.{rules}
-use borrow.Author.Tests.{not-true, not-false}
-use Rattle.floor.specs.Floor.{Floor, floor_of}
+use Rattle.floor.specs.Floor.{floor_of}
 use Rattle.sight.specs.Sight.{segment_of}
 use Rattle.sight.specs.Obstacle.{first, nearest_pinch}
 use Rattle.sight.specs.Travel.{pinch_there}
 use Rattle.sight.proofs.Travel.{span-le}
-use Rattle.sight.proofs.First.{clear-is, Looked, looked-none, looked-more, looked-all, looked-stop}
+use Rattle.sight.proofs.First.{clear-is, looked-none, looked-more, looked-all, looked-stop}
 use Rattle.sight.proofs.Common.{common-some, common-le, parts-le}
 use Rattle.sight.proofs.Nearest.{common-nearest}
 use Rattle.sight.proofs.pinches.nearest_pinch.Goals.{After-common-n, After-is_clear}
@@ -73,6 +72,7 @@ pinch_there-found-requires c =
       omega (arith, l.invariant.2, c.requires.2.rows_are, parts-le l.k n a.rows k),
     )
 
+-- What is found at a vertex.
 there : (c : After-is_clear)
     → let l = c.loop-k in
     let a = c.args in
@@ -89,7 +89,7 @@ pub returns-then-not-is_clear : goal.returns-then-not-is_clear
 returns-then-not-is_clear c =
     let l = c.loop-k in
     looked-stop l.invariant.0 (omega arith) (there (goal.at.returns-then-not-is_clear c).After-is_clear)
-    (sym c.is_clear.ensures ∙ not-true c.is_clear.result c.if-not-is_clear.true-raw)
+    (sym c.is_clear.ensures ∙ c.if-not-is_clear.true)
     ∙ sym (nearest (goal.at.returns-then-not-is_clear c).After-common-n)
 
 -- The numbers stay small.
@@ -121,7 +121,7 @@ loop-k-preserved c =
     let n = c.common-n.result in
     let o = c.pinch_there-found.result in (
       looked-more l.invariant.0 (omega arith)
-          (there (goal.at.loop-k-preserved c).After-is_clear ∙ clear-is o (sym c.is_clear.ensures ∙ not-false c.is_clear.result c.if-not-is_clear.false-raw)),
+          (there (goal.at.loop-k-preserved c).After-is_clear ∙ clear-is o (sym c.is_clear.ensures ∙ c.if-not-is_clear.false)),
       one_on l.k (a.columns / n) l.invariant.1,
       one_on l.k (a.rows / n) l.invariant.2,
     )

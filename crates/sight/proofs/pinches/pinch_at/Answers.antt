@@ -1,8 +1,8 @@
 -- `sight::pinches::pinch_at` meets its contract: on the edge by the law of the edge, elsewhere by the four cells that
+-- are read. Assumes nothing.
 use mathlib.Core.Path.{◌≡◌, sym}
 use mathlib.Core.Bool.{Bool}
-use native.Mathlib.Omega.{arith}
-use Rattle.floor.specs.Floor.{Floor, floor_of}
+use Rattle.floor.specs.Floor.{floor_of}
 use Rattle.sight.specs.Sight.{pinch}
 use Rattle.sight.proofs.Passed.{
   edge-left,
@@ -15,7 +15,6 @@ use Rattle.sight.proofs.Passed.{
   pairs-differ,
   pinch-read,
 }
-use borrow.Author.Rules.{rules}
 use Rattle.sight.proofs.pinches.pinch_at.Goals.{After-blocked_at-d}
 use Rattle.sight.proofs.pinches.pinch_at.Goals as goal
 
@@ -35,6 +34,7 @@ pub returns-then-h-y : goal.returns-then-h-y
 returns-then-h-y c =
     sym (edge-below (floor_of c.args.w c.args.h c.args.map.now) c.args.x c.args.y c.if-h-y.true)
 
+-- The four cells, read.
 read : (c : After-blocked_at-d) {r : Bool} → r ≡ (pinch_of c.blocked_at-a.result c.blocked_at-b.result c.blocked_at-c.result c.blocked_at-d.result) → r ≡ pinch (floor_of c.args.w c.args.h c.args.map.now) c.args.x c.args.y
 read c e =
     pinch-read (floor_of c.args.w c.args.h c.args.map.now) c.args.x c.args.y c.blocked_at-a.ensures

@@ -1,12 +1,11 @@
 -- `sight::pinches::pinch_here` meets its contract, by whether the vertex is a pinch. Assumes nothing.
 use mathlib.Core.Path.{sym, ap, ◌∙◌}
 use Rattle.basics.proofs.Bounded.{pick_yes, pick_no}
-use Rattle.floor.specs.Floor.{Floor, floor_of}
+use Rattle.floor.specs.Floor.{floor_of}
 use Rattle.sight.specs.Sight.{pinch}
 use Rattle.sight.specs.Obstacle.{pinch_at}
 use Rattle.sight.specs.Travel.{pinch_here}
 use Rattle.sight.specs.declared.Obstacle.TheVariants.{Clear, Pinch}
-use borrow.Author.Rules.{rules}
 use Rattle.sight.proofs.pinches.pinch_here.Goals as goal
 
 pub returns-then-pinch_at : goal.returns-then-pinch_at

@@ -4,7 +4,6 @@ use native.Mathlib.Omega.{arith}
 use Rattle.floor.specs.Floor.{floor_of}
 use Rattle.sight.specs.Travel.{pinch_here, pinch_there}
 use Rattle.sight.proofs.Vertices.{point-le}
-use borrow.Author.Rules.{rules}
 use Rattle.sight.proofs.pinches.pinch_there.Goals as goal
 
 pub pinch_here-requires : goal.pinch_here-requires

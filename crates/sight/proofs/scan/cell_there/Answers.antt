@@ -1,15 +1,13 @@
 -- `sight::scan::cell_there` meets its contract: what it reads is the cell before the two far lines. Assumes nothing.
 use Prim.Native.Nat.{ℕ, suc, ◌+◌, ◌-◌, ◌*◌}
 use mathlib.Core.Path.{◌≡◌, sym, ap, ap₂, ◌∙◌}
-use mathlib.Core.Bool.{true, false}
 use native.Mathlib.Omega.{arith}
 use Rattle.basics.proofs.Bounded.{pick_yes, pick_no}
-use Rattle.floor.specs.Floor.{Floor, floor_of, blocked}
+use Rattle.floor.specs.Floor.{floor_of, blocked}
 use Rattle.sight.specs.Obstacle.{cell_at, cell_on}
 use Rattle.sight.specs.Travel.{cell_there}
 use Rattle.sight.specs.declared.Obstacle.TheVariants.{Clear, Cell}
 use Rattle.sight.proofs.Travel.{cell_on-lt}
-use borrow.Author.Rules.{rules}
 use Rattle.sight.proofs.scan.cell_there.Goals.{After-blocked_at}
 use Rattle.sight.proofs.scan.cell_there.Goals as goal
 

@@ -2,13 +2,12 @@
 use mathlib.Core.Path.{◌≡◌, sym, ◌∙◌}
 use mathlib.Core.Bool.{true≢false}
 use native.Mathlib.Omega.{arith}
-use Rattle.floor.specs.Floor.{Floor, floor_of}
+use Rattle.floor.specs.Floor.{floor_of}
 use Rattle.sight.specs.Sight.{segment_of}
 use Rattle.sight.specs.Obstacle.{span, first, blockage}
 use Rattle.sight.specs.Travel.{row_obstacle}
 use Rattle.sight.proofs.Travel.{span-apart}
 use Rattle.sight.proofs.Obstacles.{upright-obstacle, level-obstacle, slanted-obstacle}
-use borrow.Author.Rules.{rules}
 use Rattle.sight.proofs.scan.far_blockage.Goals.{After-span_of-2}
 use Rattle.sight.proofs.scan.far_blockage.Goals as goal
 
@@ -47,6 +46,7 @@ returns-then-y0-y1 c =
     ∙ sym
     (level-obstacle (floor_of c.args.w c.args.h c.args.map.now) a.x0 a.y0 a.x1 a.y1 c.if-x0-x1.false c.if-y0-y1.true)
 
+-- After both tests the segment is slanted.
 by_rows : (c : After-span_of-2) → let a = c.args in
     blockage (floor_of c.args.w c.args.h c.args.map.now) (segment_of a.x0 a.y0 a.x1 a.y1)
     ≡ first (span a.y0 a.y1) (row_obstacle (floor_of c.args.w c.args.h c.args.map.now) (segment_of a.x0 a.y0 a.x1 a.y1))

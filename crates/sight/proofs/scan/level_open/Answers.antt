@@ -3,9 +3,8 @@ use Prim.Native.Nat.{suc}
 use mathlib.Core.Path.{sym, ap, ◌∙◌}
 use mathlib.Core.Bool.{not}
 use native.Mathlib.Numerals.{add-one}
-use Rattle.floor.specs.Floor.{Floor, floor_of, blocked}
+use Rattle.floor.specs.Floor.{floor_of, blocked}
 use Rattle.sight.proofs.Sees.{not-and-first, not-and-second}
-use borrow.Author.Rules.{rules}
 use Rattle.sight.proofs.scan.level_open.Goals as goal
 
 pub returns-then-above : goal.returns-then-above

@@ -1,13 +1,7 @@
 -- `sight::scan::line_obstacle` meets its contract: the steps passed are not shut. Assumes nothing.
-use Prim.Native.Nat.{◌-◌}
-use mathlib.Core.Path.{◌≡◌, sym, ◌∙◌}
+use mathlib.Core.Path.{sym, ◌∙◌}
 use native.Mathlib.Omega.{arith}
-use borrow.Author.Rules.{rules}
-use borrow.Author.Tests.{not-true, not-false}
-use Rattle.floor.specs.Floor.{floor_of}
-use Rattle.sight.specs.Obstacle.{span}
-use Rattle.sight.specs.Travel.{line_step}
-use Rattle.sight.proofs.First.{Looked, clear-is, looked-none, looked-more, looked-all, looked-stop}
+use Rattle.sight.proofs.First.{clear-is, looked-none, looked-more, looked-all, looked-stop}
 use Rattle.sight.proofs.scan.line_obstacle.Goals as goal
 
 pub loop-k-init : goal.loop-k-init
@@ -17,7 +11,7 @@ pub returns-then-not-is_clear : goal.returns-then-not-is_clear
 returns-then-not-is_clear c =
     let l = c.loop-k in
     looked-stop l.invariant (omega arith) (sym c.step_there-found.ensures)
-    (sym c.is_clear.ensures ∙ not-true c.is_clear.result c.if-not-is_clear.true-raw)
+    (sym c.is_clear.ensures ∙ c.if-not-is_clear.true)
 
 pub loop-k-preserved : goal.loop-k-preserved
 loop-k-preserved c =
@@ -25,7 +19,7 @@ loop-k-preserved c =
     looked-more l.invariant (omega arith)
     (sym c.step_there-found.ensures
     ∙ clear-is c.step_there-found.result
-    (sym c.is_clear.ensures ∙ not-false c.is_clear.result c.if-not-is_clear.false-raw))
+    (sym c.is_clear.ensures ∙ c.if-not-is_clear.false))
 
 pub returns : goal.returns
 returns c = looked-all c.loop-k.invariant (omega arith)

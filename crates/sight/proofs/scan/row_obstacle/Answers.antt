@@ -1,12 +1,9 @@
 -- `sight::scan::row_obstacle` meets its contract: no cell of the row outside its run is entered, and the cells of the
-use Prim.Native.Nat.{◌-◌}
+-- run that are passed are open. Assumes nothing.
 use mathlib.Core.Path.{sym, ◌∙◌}
 use native.Mathlib.Omega.{arith}
-use borrow.Author.Rules.{rules}
-use borrow.Author.Tests.{not-true, not-false}
-use Rattle.floor.specs.Floor.{Floor, floor_of}
-use Rattle.sight.specs.Sight.{segment_of}
-use Rattle.sight.proofs.Runs.{Along, along-start, along-more, along-stop, along-done}
+use Rattle.floor.specs.Floor.{floor_of}
+use Rattle.sight.proofs.Runs.{along-start, along-more, along-stop, along-done}
 use Rattle.sight.proofs.scan.row_obstacle.Goals as goal
 
 pub loop-c-init : goal.loop-c-init
@@ -22,13 +19,13 @@ pub returns-then-not-is_clear : goal.returns-then-not-is_clear
 returns-then-not-is_clear c =
     let a = c.args in
     along-stop (floor_of c.args.w c.args.h c.args.map.now) a.x0 a.y0 a.x1 a.y1 a.r c.requires.2 c.requires.3 c.loop-c.invariant (omega arith)
-    c.cell_there-found.ensures (sym c.is_clear.ensures ∙ not-true c.is_clear.result c.if-not-is_clear.true-raw)
+    c.cell_there-found.ensures (sym c.is_clear.ensures ∙ c.if-not-is_clear.true)
 
 pub loop-c-preserved : goal.loop-c-preserved
 loop-c-preserved c =
     let a = c.args in
     along-more (floor_of c.args.w c.args.h c.args.map.now) a.x0 a.y0 a.x1 a.y1 a.r c.requires.2 c.requires.3 c.loop-c.invariant (omega arith)
-    c.cell_there-found.ensures (sym c.is_clear.ensures ∙ not-false c.is_clear.result c.if-not-is_clear.false-raw)
+    c.cell_there-found.ensures (sym c.is_clear.ensures ∙ c.if-not-is_clear.false)
 
 pub returns : goal.returns
 returns c =

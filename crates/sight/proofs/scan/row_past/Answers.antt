@@ -1,6 +1,5 @@
 -- `sight::scan::row_past` meets its contract, by whether the second crossing is a vertex. Assumes nothing.
 use Rattle.sight.proofs.Runs.{run-corner, run-across}
-use borrow.Author.Rules.{rules}
 use Rattle.sight.proofs.scan.row_past.Goals as goal
 
 pub returns-then-to-eq0 : goal.returns-then-to-eq0

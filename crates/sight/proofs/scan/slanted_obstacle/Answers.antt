@@ -1,16 +1,13 @@
 -- `sight::scan::slanted_obstacle` meets its contract: the rows passed have nothing in the way, and the crossing of the
-use Prim.Native.Nat.{◌+◌, ◌-◌, ◌≤◌, ◌<◌}
+-- next row line is known. Assumes nothing.
+use Prim.Native.Nat.{◌+◌, ◌≤◌, ◌<◌}
 use mathlib.Core.Path.{sym, ◌∙◌}
 use native.Mathlib.Omega.{arith}
 use native.Mathlib.Nat.{mod-lt, div-le_self}
-use borrow.Author.Rules.{rules}
-use borrow.Author.Tests.{not-true, not-false}
-use Rattle.floor.specs.Floor.{floor_of}
-use Rattle.sight.specs.Sight.{segment_of}
 use Rattle.sight.specs.Obstacle.{span}
-use Rattle.sight.specs.Travel.{row_obstacle, Crosses}
+use Rattle.sight.specs.Travel.{Crosses}
 use Rattle.sight.proofs.Travel.{span-le}
-use Rattle.sight.proofs.First.{clear-is, Looked, looked-none, looked-more, looked-all, looked-stop}
+use Rattle.sight.proofs.First.{clear-is, looked-none, looked-more, looked-all, looked-stop}
 use Rattle.sight.proofs.Runs.{crosses-first, crosses-next, crosses-inside}
 use Rattle.sight.proofs.scan.slanted_obstacle.Goals.{After-next_crossing-next, After-span_of-dy}
 use Rattle.sight.proofs.scan.slanted_obstacle.Goals as goal
@@ -91,7 +88,7 @@ pub returns-then-not-is_clear : goal.returns-then-not-is_clear
 returns-then-not-is_clear c =
     let g = c.span_of-dy.ensures in
     looked-stop c.loop-r.invariant.0 (omega arith) (sym c.row_obstacle-found.ensures)
-    (sym c.is_clear.ensures ∙ not-true c.is_clear.result c.if-not-is_clear.true-raw)
+    (sym c.is_clear.ensures ∙ c.if-not-is_clear.true)
 
 pub overflow_add-r : goal.overflow_add-r
 overflow_add-r c = omega (arith, height (goal.at.overflow_add-r c).After-span_of-dy)
@@ -102,7 +99,7 @@ loop-r-preserved c =
     let found = c.row_obstacle-found in (
       looked-more c.loop-r.invariant.0 (omega arith)
           (sym found.ensures
-          ∙ clear-is found.result (sym c.is_clear.ensures ∙ not-false c.is_clear.result c.if-not-is_clear.false-raw)),
+          ∙ clear-is found.result (sym c.is_clear.ensures ∙ c.if-not-is_clear.false)),
       crossed (goal.at.loop-r-preserved c).After-next_crossing-next,
     )
 

@@ -1,20 +1,13 @@
 -- `sight::scan::slanted_obstacle` meets its contract: the rows passed have nothing in the way, and the crossing of the
-use Prim.Native.Nat.{◌+◌, ◌-◌, ◌≤◌, ◌<◌}
-use mathlib.Core.Path.{sym, ◌∙◌}
-use native.Mathlib.Omega.{arith}
-use native.Mathlib.Nat.{mod-lt, div-le_self}
-use borrow.Author.Rules.{rules}
-use borrow.Author.Tests.{not-true, not-false}
+-- next row line is known. Assumes nothing.
+use Prim.Native.Nat.{◌-◌}
 use Rattle.floor.specs.Floor.{floor_of}
 use Rattle.sight.specs.Sight.{segment_of}
 use Rattle.sight.specs.Obstacle.{span}
 use Rattle.sight.specs.Travel.{row_obstacle, Crosses}
-use Rattle.sight.proofs.Travel.{span-le}
-use Rattle.sight.proofs.First.{clear-is, Looked, looked-none, looked-more, looked-all, looked-stop}
-use Rattle.sight.proofs.Runs.{crosses-first, crosses-next, crosses-inside}
+use Rattle.sight.proofs.First.{Looked}
 use Rattle.sight.proofs.scan.slanted_obstacle.Given as goal
 
--- `sight::scan::slanted_obstacle` meets its contract: the rows passed have nothing in the way, and the crossing of the
 -- next row line is known. Assumes nothing.
 abbrev pub invariant-loop-r : goal.invariant-loop-r
 invariant-loop-r l =

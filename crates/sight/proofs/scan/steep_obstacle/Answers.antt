@@ -1,15 +1,14 @@
 -- `sight::scan::steep_obstacle` meets its contract: the rows passed have nothing in the way, the crossing of the next
+-- row line is known, and a row's run is one cell or two. Assumes nothing.
 use Prim.Native.Nat.{◌+◌, ◌-◌, ◌≤◌, ◌<◌}
-use mathlib.Core.Path.{◌≡◌, sym, ◌∙◌}
+use mathlib.Core.Path.{sym, ◌∙◌}
 use native.Mathlib.Omega.{arith}
-use borrow.Author.Rules.{rules}
-use borrow.Author.Tests.{not-true, not-false}
-use Rattle.floor.specs.Floor.{Floor, floor_of}
-use Rattle.sight.specs.Sight.{Segment, segment_of}
+use Rattle.floor.specs.Floor.{floor_of}
+use Rattle.sight.specs.Sight.{segment_of}
 use Rattle.sight.specs.Obstacle.{span}
-use Rattle.sight.specs.Travel.{row_obstacle, RowRun, Crosses}
+use Rattle.sight.specs.Travel.{RowRun, Crosses}
 use Rattle.sight.proofs.Travel.{span-le}
-use Rattle.sight.proofs.First.{Looked, looked-none, looked-more, looked-all, looked-stop}
+use Rattle.sight.proofs.First.{looked-none, looked-more, looked-all, looked-stop}
 use Rattle.sight.proofs.Runs.{
   crosses-first,
   crosses-inside,
@@ -24,7 +23,7 @@ use Rattle.sight.proofs.Runs.{
   steep-same,
   steep-next,
 }
-use Rattle.sight.proofs.scan.steep_obstacle.Goals.{After-row_past, After-struct_known-1, Else-reach-dy, In-loop-r}
+use Rattle.sight.proofs.scan.steep_obstacle.Goals.{After-row_past, Else-not-is_clear, Else-reach-dy, In-loop-r}
 use Rattle.sight.proofs.scan.steep_obstacle.Goals as goal
 
 height : (c : In-loop-r) → c.span_of-dy.result ≤ 127
@@ -64,19 +63,20 @@ returns-then-not-is_clear c =
     (sym
     (along-stop (floor_of c.args.w c.args.h c.args.map.now) a.x0 a.y0 a.x1 a.y1 c.loop-r.r (in_row (goal.at.returns-then-not-is_clear c).In-loop-r) b.run
     (along-start (floor_of c.args.w c.args.h c.args.map.now) a.x0 a.y0 a.x1 a.y1 c.loop-r.r (in_row (goal.at.returns-then-not-is_clear c).In-loop-r) b.run) b.some
-    c.cell_there-found.ensures (sym c.is_clear.ensures ∙ not-true c.is_clear.result c.if-not-is_clear.true-raw)))
-    (sym c.is_clear.ensures ∙ not-true c.is_clear.result c.if-not-is_clear.true-raw)
+    c.cell_there-found.ensures (sym c.is_clear.ensures ∙ c.if-not-is_clear.true)))
+    (sym c.is_clear.ensures ∙ c.if-not-is_clear.true)
 
-passed : (c : After-struct_known-1)
+-- The first cell of the row is passed.
+passed : (c : Else-not-is_clear)
     → let l = c.loop-r in
     Along (floor_of c.args.w c.args.h c.args.map.now) (segment_of c.args.x0 c.args.y0 c.args.x1 c.args.y1) l.r l.at.column (l.at.column + 1)
 passed c =
     let a = c.args in
-    let b = begun (goal.at.After-struct_known-1 c).In-loop-r in
-    along-more (floor_of c.args.w c.args.h c.args.map.now) a.x0 a.y0 a.x1 a.y1 c.loop-r.r (in_row (goal.at.After-struct_known-1 c).In-loop-r) b.run
-    (along-start (floor_of c.args.w c.args.h c.args.map.now) a.x0 a.y0 a.x1 a.y1 c.loop-r.r (in_row (goal.at.After-struct_known-1 c).In-loop-r) b.run) b.some
+    let b = begun (goal.at.Else-not-is_clear c).In-loop-r in
+    along-more (floor_of c.args.w c.args.h c.args.map.now) a.x0 a.y0 a.x1 a.y1 c.loop-r.r (in_row (goal.at.Else-not-is_clear c).In-loop-r) b.run
+    (along-start (floor_of c.args.w c.args.h c.args.map.now) a.x0 a.y0 a.x1 a.y1 c.loop-r.r (in_row (goal.at.Else-not-is_clear c).In-loop-r) b.run) b.some
     c.cell_there-found.ensures
-    (sym c.is_clear.ensures ∙ not-false c.is_clear.result c.if-not-is_clear.false-raw)
+    (sym c.is_clear.ensures ∙ c.if-not-is_clear.false)
 
 pub overflow_add-reach : goal.overflow_add-reach
 overflow_add-reach c =
@@ -98,7 +98,7 @@ loop-r-preserved-then-reach-dy c =
     let run = run-across (λ z. omega (arith, c.requires.2)) a.x0 a.y0 a.x1 a.y1 l.r i l.invariant.1 to in (
       looked-more l.invariant.0 (in_row (goal.at.loop-r-preserved-then-reach-dy c).In-loop-r)
           (sym
-          (along-done (floor_of c.args.w c.args.h c.args.map.now) a.x0 a.y0 a.x1 a.y1 l.r (in_row (goal.at.loop-r-preserved-then-reach-dy c).In-loop-r) run (passed (goal.at.loop-r-preserved-then-reach-dy c).After-struct_known-1)
+          (along-done (floor_of c.args.w c.args.h c.args.map.now) a.x0 a.y0 a.x1 a.y1 l.r (in_row (goal.at.loop-r-preserved-then-reach-dy c).In-loop-r) run (passed (goal.at.loop-r-preserved-then-reach-dy c).Else-not-is_clear)
           (omega arith))),
       to,
     )
@@ -143,10 +143,10 @@ returns-then-not-is_clear-2 c =
     let a = c.args in
     looked-stop l.invariant.0 (in_row (goal.at.returns-then-not-is_clear-2 c).In-loop-r)
     (sym
-    (along-stop (floor_of c.args.w c.args.h c.args.map.now) a.x0 a.y0 a.x1 a.y1 l.r (in_row (goal.at.returns-then-not-is_clear-2 c).In-loop-r) (run (goal.at.returns-then-not-is_clear-2 c).After-row_past) (passed (goal.at.returns-then-not-is_clear-2 c).After-struct_known-1)
+    (along-stop (floor_of c.args.w c.args.h c.args.map.now) a.x0 a.y0 a.x1 a.y1 l.r (in_row (goal.at.returns-then-not-is_clear-2 c).In-loop-r) (run (goal.at.returns-then-not-is_clear-2 c).After-row_past) (passed (goal.at.returns-then-not-is_clear-2 c).Else-not-is_clear)
     c.if-next-row_past.true c.cell_there-last.ensures
-    (sym c.is_clear-then-next-row_past.ensures ∙ not-true c.is_clear-then-next-row_past.result c.if-not-is_clear-2.true-raw)))
-    (sym c.is_clear-then-next-row_past.ensures ∙ not-true c.is_clear-then-next-row_past.result c.if-not-is_clear-2.true-raw)
+    (sym c.is_clear-then-next-row_past.ensures ∙ c.if-not-is_clear-2.true)))
+    (sym c.is_clear-then-next-row_past.ensures ∙ c.if-not-is_clear-2.true)
 
 pub loop-r-preserved-else-not-is_clear-2 : goal.loop-r-preserved-else-not-is_clear-2
 loop-r-preserved-else-not-is_clear-2 c =
@@ -155,9 +155,9 @@ loop-r-preserved-else-not-is_clear-2 c =
       looked-more l.invariant.0 (in_row (goal.at.loop-r-preserved-else-not-is_clear-2 c).In-loop-r)
           (sym
           (along-done (floor_of c.args.w c.args.h c.args.map.now) a.x0 a.y0 a.x1 a.y1 l.r (in_row (goal.at.loop-r-preserved-else-not-is_clear-2 c).In-loop-r) (begun (goal.at.loop-r-preserved-else-not-is_clear-2 c).In-loop-r).run
-          (along-more (floor_of c.args.w c.args.h c.args.map.now) a.x0 a.y0 a.x1 a.y1 l.r (in_row (goal.at.loop-r-preserved-else-not-is_clear-2 c).In-loop-r) (run (goal.at.loop-r-preserved-else-not-is_clear-2 c).After-row_past) (passed (goal.at.loop-r-preserved-else-not-is_clear-2 c).After-struct_known-1)
+          (along-more (floor_of c.args.w c.args.h c.args.map.now) a.x0 a.y0 a.x1 a.y1 l.r (in_row (goal.at.loop-r-preserved-else-not-is_clear-2 c).In-loop-r) (run (goal.at.loop-r-preserved-else-not-is_clear-2 c).After-row_past) (passed (goal.at.loop-r-preserved-else-not-is_clear-2 c).Else-not-is_clear)
           c.if-next-row_past.true c.cell_there-last.ensures
-          (sym c.is_clear-then-next-row_past.ensures ∙ not-false c.is_clear-then-next-row_past.result c.if-not-is_clear-2.false-raw)) (begun (goal.at.loop-r-preserved-else-not-is_clear-2 c).In-loop-r).few)),
+          (sym c.is_clear-then-next-row_past.ensures ∙ c.if-not-is_clear-2.false)) (begun (goal.at.loop-r-preserved-else-not-is_clear-2 c).In-loop-r).few)),
       over (goal.at.loop-r-preserved-else-not-is_clear-2 c).Else-reach-dy,
     )
 
@@ -167,7 +167,7 @@ loop-r-preserved c =
     let a = c.args in (
       looked-more l.invariant.0 (in_row (goal.at.loop-r-preserved c).In-loop-r)
           (sym
-          (along-done (floor_of c.args.w c.args.h c.args.map.now) a.x0 a.y0 a.x1 a.y1 l.r (in_row (goal.at.loop-r-preserved c).In-loop-r) (run (goal.at.loop-r-preserved c).After-row_past) (passed (goal.at.loop-r-preserved c).After-struct_known-1)
+          (along-done (floor_of c.args.w c.args.h c.args.map.now) a.x0 a.y0 a.x1 a.y1 l.r (in_row (goal.at.loop-r-preserved c).In-loop-r) (run (goal.at.loop-r-preserved c).After-row_past) (passed (goal.at.loop-r-preserved c).Else-not-is_clear)
           c.if-next-row_past.false)),
       over (goal.at.loop-r-preserved c).Else-reach-dy,
     )

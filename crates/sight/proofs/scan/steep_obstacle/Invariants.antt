@@ -1,32 +1,13 @@
 -- `sight::scan::steep_obstacle` meets its contract: the rows passed have nothing in the way, the crossing of the next
-use Prim.Native.Nat.{◌+◌, ◌-◌, ◌≤◌, ◌<◌}
-use mathlib.Core.Path.{◌≡◌, sym, ◌∙◌}
-use native.Mathlib.Omega.{arith}
-use borrow.Author.Rules.{rules}
-use borrow.Author.Tests.{not-true, not-false}
-use Rattle.floor.specs.Floor.{Floor, floor_of}
-use Rattle.sight.specs.Sight.{Segment, segment_of}
+-- row line is known, and a row's run is one cell or two. Assumes nothing.
+use Prim.Native.Nat.{◌-◌}
+use Rattle.floor.specs.Floor.{floor_of}
+use Rattle.sight.specs.Sight.{segment_of}
 use Rattle.sight.specs.Obstacle.{span}
-use Rattle.sight.specs.Travel.{row_obstacle, RowRun, Crosses}
-use Rattle.sight.proofs.Travel.{span-le}
-use Rattle.sight.proofs.First.{Looked, looked-none, looked-more, looked-all, looked-stop}
-use Rattle.sight.proofs.Runs.{
-  crosses-first,
-  crosses-inside,
-  run-across,
-  Along,
-  along-start,
-  along-more,
-  along-stop,
-  along-done,
-  Begun,
-  steep-begun,
-  steep-same,
-  steep-next,
-}
+use Rattle.sight.specs.Travel.{row_obstacle, Crosses}
+use Rattle.sight.proofs.First.{Looked}
 use Rattle.sight.proofs.scan.steep_obstacle.Given as goal
 
--- `sight::scan::steep_obstacle` meets its contract: the rows passed have nothing in the way, the crossing of the next
 -- row line is known, and a row's run is one cell or two. Assumes nothing.
 abbrev pub invariant-loop-r : goal.invariant-loop-r
 invariant-loop-r l =

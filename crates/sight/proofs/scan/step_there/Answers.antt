@@ -1,11 +1,10 @@
 -- `sight::scan::step_there` meets its contract: the step is that of the line, by the cells beside it. Assumes nothing.
-use mathlib.Core.Path.{◌≡◌, ap, ◌∙◌}
+use mathlib.Core.Path.{ap, ◌∙◌}
 use native.Mathlib.Omega.{arith}
-use Rattle.floor.specs.Floor.{Floor, floor_of, number}
+use Rattle.floor.specs.Floor.{floor_of}
 use Rattle.sight.specs.declared.Obstacle.TheVariants.{Step}
 use Rattle.sight.proofs.Travel.{start-le}
 use Rattle.sight.proofs.Obstacles.{upright-tested, level-tested}
-use borrow.Author.Rules.{rules}
 use Rattle.sight.proofs.scan.step_there.Goals as goal
 
 pub upright_open-requires : goal.upright_open-requires
