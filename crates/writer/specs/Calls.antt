@@ -25,7 +25,7 @@
 --   WrittenBack s buf == the calls that write what is read of the stream s into buf, from a fresh writer on: none is
 --                        refused, they write the same bytes, and the rest of buf is unchanged
 use Rattle.std.specs.Prelude.{ℕ, suc, ◌<◌, ◌≡◌, length, get_or, take, drop}
-use mathlib.Core.List.{List, [], ◌∷◌, ◌++◌, map, Memᴰ}
+use mathlib.Core.List.{List, [], ◌∷◌, map, Memᴰ}
 use Rattle.std.proofs.Math.Option.{Option, some, none}
 use Rattle.floor.specs.Floor.{floor_of, stored_cells, cell_bytes}
 use Rattle.floor.specs.Refusals.{left_by}

@@ -19,7 +19,7 @@
 use Rattle.std.specs.Prelude.{ℕ, ◌+◌, ◌≡◌, Bool, ◌&&◌, List, ◌++◌, leb, eqb, length, take, drop}
 use Rattle.basics.specs.Bounded.{pick}
 use Rattle.floor.specs.Floor.{floor_of, cell_bytes}
-use Rattle.floor.specs.Refusals.{refusal_number, floor_shape, and_then, left_by}
+use Rattle.floor.specs.Refusals.{floor_shape, and_then, left_by}
 use Rattle.floor.specs.declared.Refusal.TheVariants.{Size, NoRoom, OutOfTurn}
 use Rattle.floor.specs.declared.Shape.{Shape}
 use Rattle.floor.specs.declared.Shape.TheVariants.{Good, Refused}

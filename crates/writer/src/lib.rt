@@ -1,6 +1,7 @@
 // Writing the program's input: one map record and job records into a lent buffer, with a writer that is passed by value
 // and answered by each call.
 #![tactic(auto)]
+
 ghost use Rattle.std.specs.Prelude.{◌≡◌, ◌+◌, ◌*◌, ◌/◌, ◌%◌, ◌≤◌, ◌<◌, length};
 ghost use Rattle.basics.specs.Lists.{tabulate};
 ghost use Rattle.floor.specs.Floor.{floor_of, cell_bytes};

@@ -1,6 +1,5 @@
 -- `writer::cell_byte` meets its contract: each return is one case of the cell. Assumes nothing.
 use mathlib.Core.Path.{sym, ◌∙◌}
-use borrow.Author.Rules.{rules}
 use Rattle.writer.proofs.cell_byte.Goals as goal
 
 pub returns-then-is_blocked : goal.returns-then-is_blocked

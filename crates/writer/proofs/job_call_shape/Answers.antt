@@ -1,6 +1,5 @@
 -- `writer::job_call_shape` meets its contract: each return is one case of `call_shape`. Assumes nothing.
 use mathlib.Core.Path.{◌∙◌}
-use borrow.Author.Rules.{rules}
 use Rattle.writer.proofs.Shapes.{job-early, job-late, job-in-turn}
 use Rattle.writer.proofs.job_call_shape.Goals as goal
 

@@ -1,7 +1,6 @@
 -- `writer::map_call_shape` meets its contract: each return is one case of `call_shape`. Assumes nothing.
 use mathlib.Core.Path.{◌≡◌, sym, ◌∙◌}
 use native.Mathlib.Omega.{arith}
-use borrow.Author.Rules.{rules}
 use Rattle.floor.specs.declared.Shape.TheVariants.{Good}
 use Rattle.writer.specs.Writing.{map_shape}
 use Rattle.writer.proofs.Shapes.{good-map, cells-few, map-refused, map-out-of-turn, map-in-turn}

@@ -1,7 +1,6 @@
 -- `writer::map_shape` meets its contract: a side above 31 is refused, and smaller ones are decided by `floor_shape`.
 -- Assumes nothing.
 use mathlib.Core.Path.{◌∙◌}
-use borrow.Author.Rules.{rules}
 use Rattle.writer.proofs.Shapes.{wide-refused, high-refused, floor-decides}
 use Rattle.writer.proofs.map_shape.Goals as goal
 

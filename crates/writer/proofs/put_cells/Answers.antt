@@ -1,8 +1,6 @@
 -- `writer::put_cells` meets its contract: the bytes of the first c cells are written. Assumes nothing.
-use Prim.Native.Nat.{◌-◌}
 use native.Mathlib.Omega.{arith}
-use Rattle.basics.specs.Lists.{tabulate}
-use Rattle.records.proofs.Writing.{Copying, copying-done}
+use Rattle.records.proofs.Writing.{copying-done}
 use Rattle.writer.specs.Known.{cell_byte}
 use Rattle.writer.proofs.Cells.{cells-none, cells-more}
 use Rattle.writer.proofs.put_cells.Goals as goal

@@ -1,10 +1,8 @@
 -- `writer::put_cells` meets its contract: the bytes of the first c cells are written. Assumes nothing.
 use Prim.Native.Nat.{◌-◌}
-use native.Mathlib.Omega.{arith}
 use Rattle.basics.specs.Lists.{tabulate}
-use Rattle.records.proofs.Writing.{Copying, copying-done}
+use Rattle.records.proofs.Writing.{Copying}
 use Rattle.writer.specs.Known.{cell_byte}
-use Rattle.writer.proofs.Cells.{cells-none, cells-more}
 use Rattle.writer.proofs.put_cells.Given as goal
 
 abbrev pub invariant-loop-c : goal.invariant-loop-c

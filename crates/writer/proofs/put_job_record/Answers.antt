@@ -1,5 +1,4 @@
 -- `writer::put_job_record` meets its contract: it writes the seven bytes of the record. Assumes nothing.
-use borrow.Author.Rules.{rules}
 use Rattle.writer.proofs.put_job_record.Goals as goal
 
 pub returns : goal.returns

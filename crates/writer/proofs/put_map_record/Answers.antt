@@ -1,7 +1,6 @@
 -- `writer::put_map_record` meets its contract: the mark and the sides, then the cells. Assumes nothing.
 use mathlib.Core.Path.{ap}
 use native.Mathlib.Omega.{arith}
-use borrow.Author.Rules.{rules}
 use Rattle.records.proofs.Found.{side-le}
 use Rattle.records.proofs.Writing.{written-length, written-more, written_as}
 use Rattle.writer.specs.Records.{map_bytes}

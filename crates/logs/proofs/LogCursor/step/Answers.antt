@@ -2,7 +2,6 @@
 use native.Mathlib.Omega.{arith}
 use Rattle.records.proofs.Found.{refuted, granted}
 use Rattle.logs.proofs.Steps.{is-end, is_cut, is-unmarked, is-off, is_stop}
-use borrow.Author.Rules.{rules}
 use Rattle.logs.proofs.LogCursor.step.Goals as goal
 
 pub returns-then-log-at : goal.returns-then-log-at

@@ -4,10 +4,9 @@ use mathlib.Core.Path.{◌≡◌, sym, ◌∙◌}
 use lib.ListN.{length}
 use Rattle.floor.specs.declared.Shape.TheVariants.{Good}
 use Rattle.writer.specs.Records.{job_of}
-use Rattle.writer.specs.Writing.{Call, put_job, call_shape}
+use Rattle.writer.specs.Writing.{put_job, call_shape}
 use Rattle.writer.proofs.Shapes.{accepted, due-few}
 use Rattle.writer.proofs.Outcome.{refused-writes, record-writes}
-use borrow.Author.Rules.{rules}
 use Rattle.writer.proofs.Writer.put_job.Goals.{In-Good}
 use Rattle.writer.proofs.Writer.put_job.Goals as goal
 

@@ -3,10 +3,9 @@
 use mathlib.Core.Path.{◌≡◌, sym, ◌∙◌}
 use lib.ListN.{length}
 use Rattle.floor.specs.declared.Shape.TheVariants.{Good}
-use Rattle.writer.specs.Writing.{Call, put_map, call_shape}
+use Rattle.writer.specs.Writing.{put_map, call_shape}
 use Rattle.writer.proofs.Shapes.{map-fits, due-few}
 use Rattle.writer.proofs.Outcome.{refused-writes, record-writes}
-use borrow.Author.Rules.{rules}
 use Rattle.writer.proofs.Writer.put_map.Goals.{In-Good}
 use Rattle.writer.proofs.Writer.put_map.Goals as goal
 
