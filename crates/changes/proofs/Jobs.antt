@@ -13,7 +13,7 @@ use borrow.Author.Tests.{eqb-true, eq-eqb, ne_eqb}
 use lib.Dec.{eqb}
 use lib.ListN.{length}
 use Rattle.basics.proofs.Bools.{and_left, and_right}
-use Rattle.floor.specs.Floor.{floor_of, vertices}
+use Rattle.floor.specs.Floor.{Floor, floor_of, vertices}
 use Rattle.floor.specs.Refusals.{end_shape, and_then}
 use Rattle.floor.specs.declared.Refusal.{Refusal}
 use Rattle.floor.specs.declared.Refusal.TheVariants.{SliceLength}
@@ -270,4 +270,7 @@ module _ {p q : GivenFloor} {nb a : ℕ} {s : ReportSlices} {j : JobShape} (told
       let G = fit-floors p q nb a s e in
       let same : floor_of p.wide p.high q.map ≡ floor_in q =
       ap₂ (λ w h. floor_of w h q.map) G.wide G.high in
-      record { answer = rw e; left = rw e (rw same at left) }
+      record {
+        answer = rw e;
+        left = rw e (left ∙ ap (λ (f : Floor). costs_on (floor_graph (floor_in p) dirs) (floor_graph f dirs) a) same);
+      }

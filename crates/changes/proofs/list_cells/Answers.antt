@@ -11,8 +11,8 @@ use Rattle.changes.proofs.list_cells.Goals as goal
 
 -- Clearing keeps the length.
 kept : (c : After-slice_known-2-1)
-    → length c.clear_u16.new.0
-    ≡ length c.args.cells-1.now
+    → length c.clear_u16.new.s
+    ≡ length c.args.cells.now
 kept c = ap length c.clear_u16.ensures ∙ length-replicate _ _
 
 pub loop-c-init : goal.loop-c-init
@@ -34,5 +34,5 @@ shape_of-cells c = c.loop-c.invariant.1.len ∙ kept (goal.at.shape_of-cells c).
 pub returns : goal.returns
 returns c =
     let i = c.loop-c.invariant in
-    let e : c.loop-c.c ≡ length c.clear_u16.new.0 = omega (arith, i.0, i.1.within) in
+    let e : c.loop-c.c ≡ length c.clear_u16.new.s = omega (arith, i.0, i.1.within) in
     rw (← kept (goal.at.returns c).After-slice_known-2-1) (rw e at i.1)

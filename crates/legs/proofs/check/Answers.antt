@@ -28,7 +28,7 @@ pub returns-then-true_choice : goal.returns-then-true_choice
 returns-then-true_choice c =
     let a = c.args in
     check-true a.w a.h a.map.now a.list.now a.n a.kept.now a.count a.legs.now (good (goal.at.returns-then-true_choice c).In-Good)
-    (sym c.true_choice.ensures ∙ c.if-true_choice.taken)
+    (sym c.true_choice.ensures ∙ c.if-true_choice.true)
 
 pub returns-in-Refused : goal.returns-in-Refused
 returns-in-Refused c =
@@ -40,4 +40,4 @@ pub returns-else-true_choice : goal.returns-else-true_choice
 returns-else-true_choice c =
     let a = c.args in
     check-false a.w a.h a.map.now a.list.now a.n a.kept.now a.count a.legs.now (good (goal.at.returns-else-true_choice c).In-Good)
-    (sym c.true_choice.ensures ∙ c.if-true_choice.left)
+    (sym c.true_choice.ensures ∙ c.if-true_choice.false)

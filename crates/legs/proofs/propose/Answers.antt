@@ -36,7 +36,7 @@ record_kept-requires c =
     let g = given (goal.at.record_kept-requires c).In-Good in
     let j = joined-on _ _ _ _ _ _ _ g in
     let a = c.args in
-    let room : a.n ≤ length a.legs-1.now = omega (arith, j.listed.within, g.legs-same) in (
+    let room : a.n ≤ length a.legs.now = omega (arith, j.listed.within, g.legs-same) in (
       j,
       omega (arith, j.listed.within, g.kept_same),
       omega (arith, filled-length c.fill_legs.ensures room),
@@ -52,5 +52,5 @@ returns-in-Refused c =
 pub returns-in-Good : goal.returns-in-Good
 returns-in-Good c =
     let a = c.args in
-    propose-kept a.w a.h a.map.now a.list.now a.kept-1.now a.legs-1.now a.n (good (goal.at.returns-in-Good c).In-Good)
+    propose-kept a.w a.h a.map.now a.list.now a.kept.now a.legs.now a.n (good (goal.at.returns-in-Good c).In-Good)
     c.fill_legs.ensures c.record_kept.ensures

@@ -5,17 +5,17 @@ use Rattle.replay.proofs.judge.Goals as goal
 
 pub returns-then-not-is_faultless : goal.returns-then-not-is_faultless
 returns-then-not-is_faultless c =
-    faulty-judged c.requires.1 c.args.costs-1.now c.args.work-1.now c.is_faultless.ensures
-    c.if-not-is_faultless.true-raw c.requires.0 c.fill_u32.ensures c.fill_u32-then-not-is_faultless.ensures
+    faulty-judged c.requires.log_read c.args.costs.now c.args.work.now c.is_faultless.ensures
+    c.if-not-is_faultless.true-raw c.requires.replayable c.fill_u32.ensures c.fill_u32-then-not-is_faultless.ensures
 
 pub costs_from-requires : goal.costs_from-requires
 costs_from-requires c =
     record {
-      job = start-good c.requires.1 c.is_faultless.ensures c.if-not-is_faultless.false-raw c.requires.0.good;
-      d_len = c.requires.0.costs_len;
-      work_len = c.requires.0.work_len;
+      job = start-good c.requires.log_read c.is_faultless.ensures c.if-not-is_faultless.false-raw c.requires.replayable.good;
+      d_len = c.requires.replayable.costs_len;
+      work_len = c.requires.replayable.work_len;
     }
 
 pub returns : goal.returns
 returns c =
-    faultless-judged c.requires.1 c.is_faultless.ensures c.if-not-is_faultless.false-raw c.costs_from.ensures
+    faultless-judged c.requires.log_read c.is_faultless.ensures c.if-not-is_faultless.false-raw c.costs_from.ensures

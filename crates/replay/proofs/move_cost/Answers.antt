@@ -67,7 +67,7 @@ returns-then-leads_to c =
     ap (λ (m : Move). At m.cost) c.move_at-step.ensures
     ∙ first-leads (floor_of a.w a.h a.map.now) a.u.0 a.v.0 a.dirs c.column_of-x.result
     c.row_of-y.result c.column_of-x.ensures.0 c.row_of-y.ensures.0
-    (sym c.in_sight.ensures ∙ not-false c.in_sight.result c.if-not-in_sight.left) c.loop-m.m
+    (sym c.in_sight.ensures ∙ not-false c.in_sight.result c.if-not-in_sight.false-raw) c.loop-m.m
     (omega arith) c.loop-m.invariant.1 (leads (goal.at.returns-then-leads_to c).After-leads_to ∙ c.if-leads_to.true)
 
 pub loop-m-preserved : goal.loop-m-preserved

@@ -10,12 +10,9 @@ use lib.ListN.{get_or}
 use Rattle.basics.proofs.Scan.{Passed, passed_none, passed-stop, passed-more, passed-all}
 use Rattle.legs.specs.Choices.{is_leg}
 use Rattle.legs.specs.Known.{sight_on}
+use Rattle.legs.proofs.checking.legs_open.Invariants.{leg_at}
 use Rattle.legs.proofs.checking.legs_open.Goals.{After-is_leg}
 use Rattle.legs.proofs.checking.legs_open.Goals as goal
-
--- `legs::checking::legs_open` meets its contract: the legs passed are legs. Assumes nothing.
-abbrev leg_at : (ℕ → ℕ → Bool) → ℕ → List ℕ → ℕ → Bool
-leg_at s n l k = is_leg s n (get_or l k 0) (get_or l (suc k) 0)
 
 pub loop-k-init : goal.loop-k-init
 loop-k-init c = passed_none _ _

@@ -14,7 +14,7 @@ use Rattle.legs.proofs.proposing.fill_legs.Goals as goal
 
 -- The cleared slice is as long as the one that was lent.
 cleared : (l : At-loop-i)
-    → length l.clear_u16.new.0 ≡ length l.args.legs-1.now
+    → length l.clear_u16.new.s ≡ length l.args.legs.now
 cleared l = cleared-length _ _ l.clear_u16.ensures
 
 filled-small : (c : After-least_ahead-least) → c.least_ahead-least.result ≤ 16384
@@ -23,7 +23,7 @@ filled-small c = omega (arith, c.least_ahead-least.ensures.capped, joined-few c.
 pub loop-i-init : goal.loop-i-init
 loop-i-init c =
     let cleared = c.clear_u16 in
-    filling-first (sight_on c.args.w c.args.h c.args.map.now c.args.list.now) c.args.n _ c.requires.0.sees cleared.new.0 cleared.ensures c.requires.1
+    filling-first (sight_on c.args.w c.args.h c.args.map.now c.args.list.now) c.args.n _ c.requires.0.sees cleared.new.s cleared.ensures c.requires.1
     (c.args.n - 1) (omega arith)
 
 pub least_ahead-least-requires : goal.least_ahead-least-requires

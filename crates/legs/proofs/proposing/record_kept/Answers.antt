@@ -17,7 +17,7 @@ use Rattle.legs.proofs.proposing.record_kept.Goals as goal
 
 -- The cleared slice is as long as the one that was lent.
 cleared : (l : At-loop-i)
-    → length l.clear_u16.new.0 ≡ length l.args.kept-1.now
+    → length l.clear_u16.new.s ≡ length l.args.kept.now
 cleared l = cleared-length _ _ l.clear_u16.ensures
 
 -- The position that the loop goes on to.
@@ -29,7 +29,7 @@ moved c =
 
 pub loop-i-init : goal.loop-i-init
 loop-i-init c =
-    let k = length c.args.kept-1.now in
+    let k = length c.args.kept.now in
     rw (c.clear_u16.ensures, length-replicate {A = ℕ} k 0)
     (recording-first (farthest_next (sight_on c.args.w c.args.h c.args.map.now c.args.list.now) c.args.n) c.args.n k c.requires.0.some c.requires.1)
 
