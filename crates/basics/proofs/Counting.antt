@@ -28,7 +28,7 @@ use lib.Seq.{ext_get_or, get_or_at}
 use Rattle.basics.specs.Bounded.{pick, sum, count}
 use Rattle.basics.specs.Lists.{chosen, differences}
 use Rattle.basics.proofs.Order.{le-or-lt}
-use Rattle.basics.proofs.Bools.{true-or-false, not-both}
+use Rattle.basics.proofs.Bools.{true-or-false}
 use Rattle.basics.proofs.Sums.{sum-cong, sum-le, sum_ones, sum-add, sum-zero, sum-next}
 
 -- ---- count

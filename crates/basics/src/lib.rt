@@ -1,5 +1,6 @@
 // Slices filled with one number, at how many places two of them differ, and a cost in 64 bits.
 #![tactic(auto)]
+
 ghost use Rattle.std.specs.Prelude.{◌≡◌, ◌<◌, length, replicate};
 ghost use Rattle.basics.specs.Lists.{differences};
 

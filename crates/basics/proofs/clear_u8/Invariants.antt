@@ -1,7 +1,5 @@
 -- `basics::clear_u8` meets its contract: the places before `i` are filled. Assumes nothing.
-use Prim.Native.Nat.{◌-◌}
-use native.Mathlib.Omega.{arith}
-use Rattle.basics.proofs.Fill.{Filling, filling-none, filling-more, filling-done}
+use Rattle.basics.proofs.Fill.{Filling}
 use Rattle.basics.proofs.clear_u8.Given as goal
 
 abbrev pub invariant-loop-i : goal.invariant-loop-i

@@ -1,15 +1,6 @@
 -- `basics::differences_u16` meets its contract: `n` counts the places before `i` where the slices differ. Assumes
-use Prim.Native.Nat.{◌-◌}
-use mathlib.Core.Logic.{⊎_elim}
-use native.Mathlib.Omega.{arith}
-use Rattle.basics.proofs.Counting.{
-  Differing,
-  differing-none,
-  differing-few,
-  differing-no,
-  differing-yes,
-  differing-all,
-}
+-- nothing.
+use Rattle.basics.proofs.Counting.{Differing}
 use Rattle.basics.proofs.differences_u16.Given as goal
 
 -- nothing.

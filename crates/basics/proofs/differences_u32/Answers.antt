@@ -1,15 +1,8 @@
 -- `basics::differences_u32` meets its contract: `n` counts the places before `i` where the slices differ. Assumes
-use Prim.Native.Nat.{◌-◌}
+-- nothing.
 use mathlib.Core.Logic.{⊎_elim}
 use native.Mathlib.Omega.{arith}
-use Rattle.basics.proofs.Counting.{
-  Differing,
-  differing-none,
-  differing-few,
-  differing-no,
-  differing-yes,
-  differing-all,
-}
+use Rattle.basics.proofs.Counting.{differing-none, differing-few, differing-no, differing-yes, differing-all}
 use Rattle.basics.proofs.differences_u32.Goals as goal
 
 pub loop-i-init : goal.loop-i-init

@@ -1,8 +1,6 @@
 -- `basics::fill_u32` meets its contract: the places before `i` are filled. Assumes nothing.
-use Prim.Native.Nat.{◌-◌}
 use native.Mathlib.Omega.{arith}
-use borrow.Author.Rules.{rules}
-use Rattle.basics.proofs.Fill.{Filling, filling-none, filling-more, filling-done}
+use Rattle.basics.proofs.Fill.{filling-none, filling-more, filling-done}
 use Rattle.basics.proofs.fill_u32.Goals as goal
 
 pub loop-i-init : goal.loop-i-init
