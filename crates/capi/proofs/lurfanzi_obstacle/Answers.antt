@@ -1,4 +1,6 @@
 -- `capi::lurfanzi_obstacle` meets its contract: it hands its numbers on to `sight::ask`, and the place answered, the
+-- number of a cell or vertex of the floor, fits in 32 bits. Assumes nothing.
+-- What is in the way, where the question was not refused.
 use mathlib.Core.Path.{◌≡◌, sym, ◌∙◌}
 use native.Mathlib.Omega.{arith}
 use Rattle.sight.specs.Question.{sight_answer}
@@ -9,9 +11,6 @@ use borrow.Author.Rules.{rules}
 use Rattle.capi.proofs.lurfanzi_obstacle.Goals.{In-Answered-2}
 use Rattle.capi.proofs.lurfanzi_obstacle.Goals as goal
 
--- `capi::lurfanzi_obstacle` meets its contract: it hands its numbers on to `sight::ask`, and the place answered, the
--- number of a cell or vertex of the floor, fits in 32 bits. Assumes nothing.
--- What is in the way, where the question was not refused.
 named : (t : In-Answered-2)
     → let a = t.args in
     sight_answer a.width a.height a.map.now a.a a.b ≡ Answered t.in-Answered.o

@@ -1,4 +1,5 @@
 -- `capi::lurfanzi_post` meets its contract: it hands its numbers on to `stored_closures::post`, and the slot answered,
+-- at most 15, fits in 32 bits. Assumes nothing.
 use mathlib.Core.Path.{ap}
 use native.Mathlib.Omega.{arith}
 use Rattle.closures.specs.Plain.{post_slot}

@@ -1,4 +1,6 @@
 -- `route::lend_map` meets its contract: a map has at most 961 cells, so at most 121 bytes, and at most 1,024 vertices.
+-- Depends on libc's read and write, on errno
+-- and on sched_yield.
 use mathlib.Core.Path.{sym, ◌∙◌}
 use Prim.Native.Nat.{◌≤◌}
 use native.Mathlib.Omega.{arith}
@@ -8,9 +10,6 @@ use borrow.Author.Rules.{rules}
 use Rattle.route.proofs.lend_map.Goals.{After-map_length-n, After-vertex_count-v}
 use Rattle.route.proofs.lend_map.Goals as goal
 
--- `route::lend_map` meets its contract: a map has at most 961 cells, so at most 121 bytes, and at most 1,024 vertices.
--- Depends on libc's read and write, on errno
--- and on sched_yield.
 few : (c : After-map_length-n) → c.map_length-n.result ≤ 961
 few c = omega (arith, few_bytes _ _ _ c.requires.found, c.map_length-n.ensures.0)
 

@@ -1,4 +1,6 @@
 -- `route::lend_turn` meets its contract: a floor of at most 31 by 31 cells has at most 1,024 vertices, so each array
+-- has the part that is lent. Depends on libc's write, on errno and on
+-- sched_yield.
 use Prim.Native.Nat.{◌≤◌}
 use native.Mathlib.Omega.{arith}
 use Rattle.route.proofs.Sizes.{few-vertices, taken, lent}
@@ -6,9 +8,6 @@ use borrow.Author.Rules.{rules}
 use Rattle.route.proofs.lend_turn.Goals.{After-vertex_count-v}
 use Rattle.route.proofs.lend_turn.Goals as goal
 
--- `route::lend_turn` meets its contract: a floor of at most 31 by 31 cells has at most 1,024 vertices, so each array
--- has the part that is lent. Depends on libc's write, on errno and on
--- sched_yield.
 few : (c : After-vertex_count-v) → c.vertex_count-v.result ≤ 1024
 few c = omega (arith, few-vertices c.requires.2, c.vertex_count-v.ensures.0)
 

@@ -1,4 +1,5 @@
 -- `route::read_for` meets its contract: each read leaves what is read before it, and the loop ends where the input is
+-- over or what is read settles what stands at the cursor. Depends on libc's read, on errno and on sched_yield.
 use Prim.Native.Nat.{◌+◌, ◌-◌}
 use mathlib.Core.Path.{◌≡◌, refl, ◌∙◌}
 use mathlib.Core.Bool.{false}
@@ -10,8 +11,6 @@ use Rattle.route.proofs.Settling.{room-left}
 use borrow.Author.Rules.{rules}
 use Rattle.route.proofs.read_for.Given as goal
 
--- `route::read_for` meets its contract: each read leaves what is read before it, and the loop ends where the input is
--- over or what is read settles what stands at the cursor. Depends on libc's read, on errno and on sched_yield.
 abbrev pub invariant-loop-r : goal.invariant-loop-r
 invariant-loop-r l = ReadOn l.initial.input l.initial.r l.input l.r × (length l.input ≡ length l.initial.input)
 

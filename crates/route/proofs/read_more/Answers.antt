@@ -1,4 +1,5 @@
 -- `route::read_more` meets its contract: what is read stands past the first n bytes, which are left. Depends on libc's
+-- read, on errno and on sched_yield.
 use Prim.Native.Nat.{◌-◌}
 use native.Mathlib.Omega.{arith}
 use lib.ListN.{length}
@@ -9,5 +10,5 @@ use Rattle.route.proofs.read_more.Goals as goal
 pub returns : goal.returns
 returns c =
     let a = c.args in
-    read_more a.input-1.now c.read_some-got.new.0 a.n (length a.input-1.now - a.n) c.read_some-got.result
+    read_more a.input.now c.read_some-got.new.buf a.n (length a.input.now - a.n) c.read_some-got.result
     (omega (arith, c.requires)) c.read_some-got.ensures

@@ -1,12 +1,11 @@
 -- `route::read_some` meets its contract: a read puts no more into the buffer than it holds, and each turn of the loop
+-- is one try more. Depends on libc's read, on errno and on sched_yield.
 use Prim.Native.Nat.{◌-◌}
 use mathlib.Core.Path.{◌≡◌}
 use lib.ListN.{length}
 use borrow.Author.Rules.{rules}
 use Rattle.route.proofs.read_some.Given as goal
 
--- `route::read_some` meets its contract: a read puts no more into the buffer than it holds, and each turn of the loop
--- is one try more. Depends on libc's read, on errno and on sched_yield.
 abbrev pub invariant-loop-tries : goal.invariant-loop-tries
 invariant-loop-tries l = length l.buf ≡ length l.initial.buf
 

@@ -1,4 +1,5 @@
 -- `route::run` meets its contract: what the first step finds is handed on as such. Depends on libc's read and write, on
+-- errno and on sched_yield.
 use mathlib.Core.Path.{refl, ◌∙◌}
 use native.Mathlib.Omega.{arith}
 use Rattle.route.proofs.Sizes.{taken}

@@ -1,4 +1,6 @@
 -- `route::run_jobs` meets its contract: before each turn the text from its cursor on is due, and each turn but the last
+-- moves the cursor on, so that less of the input is left; the costs keep their length. Depends on libc's read and
+-- write, on errno and on sched_yield.
 use Prim.Native.Nat.{◌-◌, ◌≤◌}
 use mathlib.Core.Path.{◌≡◌, refl, ◌∙◌}
 use borrow.Author.Rules.{rules}
@@ -12,9 +14,6 @@ use Rattle.route.proofs.Sizes.{taken}
 use Rattle.route.proofs.Running.{cells-lent, jobs-small, jobs-due, due-on, sent-more, sent-last}
 use Rattle.route.proofs.run_jobs.Given as goal
 
--- `route::run_jobs` meets its contract: before each turn the text from its cursor on is due, and each turn but the last
--- moves the cursor on, so that less of the input is left; the costs keep their length. Depends on libc's read and
--- write, on errno and on sched_yield.
 abbrev pub invariant-loop-next_place : goal.invariant-loop-next_place
 invariant-loop-next_place l =
     Due (take l.r.count l.input) l.r.over l.w l.h l.map l.c l.written × SmallFloor l.w l.h l.map × (length l.d ≡ vertices l.w l.h)

@@ -1,4 +1,6 @@
 -- `route::write_next` meets its contract: what is left of the part stands at the place that it is written to, and in
+-- each turn of the loop some of it is written, or there is one try more. Depends on libc's write, on errno and on
+-- sched_yield.
 use Prim.Native.Nat.{◌+◌, ◌-◌, ◌≤◌}
 use native.Mathlib.Omega.{arith}
 use lib.ListN.{length}
@@ -6,6 +8,6 @@ use Rattle.route.proofs.Sending.{next-rest}
 use borrow.Author.Rules.{rules}
 use Rattle.route.proofs.write_next.Goals as goal
 
-pub write_some-put-requires : goal.write_some-put-requires
-write_some-put-requires c =
+pub write_some-requires : goal.write_some-requires
+write_some-requires c =
     next-rest c.loop-done.done c.loop-done.invariant.0 c.requires

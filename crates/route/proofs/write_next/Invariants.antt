@@ -1,4 +1,6 @@
 -- `route::write_next` meets its contract: what is left of the part stands at the place that it is written to, and in
+-- each turn of the loop some of it is written, or there is one try more. Depends on libc's write, on errno and on
+-- sched_yield.
 use Prim.Native.Nat.{◌+◌, ◌-◌, ◌≤◌}
 use native.Mathlib.Omega.{arith}
 use lib.ListN.{length}
@@ -6,9 +8,6 @@ use Rattle.route.proofs.Sending.{next-rest}
 use borrow.Author.Rules.{rules}
 use Rattle.route.proofs.write_next.Given as goal
 
--- `route::write_next` meets its contract: what is left of the part stands at the place that it is written to, and in
--- each turn of the loop some of it is written, or there is one try more. Depends on libc's write, on errno and on
--- sched_yield.
 abbrev pub invariant-loop-done : goal.invariant-loop-done
 invariant-loop-done l = (l.done ≤ length l.part) × (l.tries ≤ 1000000000000000)
 

@@ -1,4 +1,5 @@
 -- `capi::mend::lurfanzi_mend` meets its contract: it hands its numbers and slices on to `mending::mend`. Assumes
+-- nothing.
 use Rattle.capi.proofs.Mending.{mends-to}
 use borrow.Author.Rules.{rules}
 use Rattle.capi.proofs.mend.lurfanzi_mend.Goals as goal

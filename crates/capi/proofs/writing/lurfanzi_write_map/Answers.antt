@@ -1,4 +1,5 @@
 -- `capi::writing::lurfanzi_write_map` meets its contract: it hands its numbers and slices on to
+-- `writer::Writer::put_map`. Assumes nothing.
 use Rattle.capi.proofs.WriterAnswers.{record-to}
 use borrow.Author.Rules.{rules}
 use Rattle.capi.proofs.writing.lurfanzi_write_map.Goals as goal
