@@ -46,8 +46,8 @@ read_more-r-requires c =
 
 pub loop-r-smaller : goal.loop-r-smaller
 loop-r-smaller c =
-    read-less c.loop-r.invariant.0 (closed c) c.read_more-r.ensures c.read_more-r.auto.0
+    read-less c.loop-r.invariant.0 (closed c) c.read_more-r.ensures c.read_more-r.auto.input
 
 pub loop-r-preserved : goal.loop-r-preserved
 loop-r-preserved c =
-    (read-then c.loop-r.invariant.0 (closed c) c.read_more-r.ensures, c.read_more-r.auto.0 ∙ c.loop-r.invariant.1)
+    (read-then c.loop-r.invariant.0 (closed c) c.read_more-r.ensures, c.read_more-r.auto.input ∙ c.loop-r.invariant.1)

@@ -21,7 +21,7 @@ slice_bounds-step-end-2 c = taken _ _ c.read_for-first.ensures.within
 pub lend_map-requires : goal.lend_map-requires
 lend_map-requires c =
     record {
-      room = c.read_for-first.auto.0 ∙ c.requires;
+      room = c.read_for-first.auto.input ∙ c.requires;
       within = c.read_for-first.ensures.within;
       found = first_step _ c.new-c.ensures c.step.ensures c.in-Map.is;
       sure = first-sure c.new-c.ensures c.read_for-first.ensures.sure;

@@ -50,7 +50,7 @@ slice_bounds-lend_turn-end-in-loop-next_place c = taken _ _ c.read_for-r.ensures
 pub lend_turn-requires : goal.lend_turn-requires
 lend_turn-requires c =
     let i = c.loop-next_place.invariant in
-    let d = due-on i.0 c.read_for-r.ensures (omega (arith, i.3, c.read_for-r.auto.0)) in
+    let d = due-on i.0 c.read_for-r.ensures (omega (arith, i.3, c.read_for-r.auto.input)) in
     (d, c.read_for-r.ensures.sure, i.1, i.2)
 
 pub loop-next_place-smaller : goal.loop-next_place-smaller
@@ -64,10 +64,10 @@ loop-next_place-preserved c =
     let g = sent-more c.lend_turn.ensures c.in-More.is in (
       g.1,
       i.1,
-      c.lend_turn.kept.1.1.1.1.1.1.1.0 ∙ i.2,
-      c.read_for-r.kept.0 ∙ i.3,
+      c.lend_turn.auto.d ∙ i.2,
+      c.read_for-r.auto.input ∙ i.3,
       c.read_for-r.ensures.within,
-      c.read_for-r.kept.0 ∙ i.5,
+      c.read_for-r.auto.input ∙ i.5,
     )
 
 pub returns-in-Last : goal.returns-in-Last

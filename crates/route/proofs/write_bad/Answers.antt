@@ -13,7 +13,7 @@ slice_bounds-write_next-end c =
 
 pub slice_bounds-write_next-end-3 : goal.slice_bounds-write_next-end-3
 slice_bounds-write_next-end-3 c =
-    taken _ c.put_bad-n.new.0 (omega (arith, written-within c.put_bad-n.ensures, c.put_bad-n.auto.0, c.requires.1))
+    taken _ c.put_bad-n.new.buf (omega (arith, written-within c.put_bad-n.ensures, c.put_bad-n.auto.buf, c.requires.1))
 
 pub write_next-requires : goal.write_next-requires
 write_next-requires c =
