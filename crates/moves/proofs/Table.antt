@@ -15,7 +15,7 @@
 --   dearest, listed-cost == no move of a neighbourhood costs more than 577, or with sixteen 2,236
 --   dir_cost, dir-cost    == the cost of a direction, by where it is in a quarter turn
 --   offset-eq            == offsets a and b that lead from the same line to the same line are equal
-use Prim.Native.Nat.{ℕ, zero, suc, ◌+◌, ◌*◌, ◌%◌, ◌≤◌, ◌<◌}
+use Prim.Native.Nat.{ℕ, zero, suc, ◌+◌, ◌%◌, ◌≤◌, ◌<◌}
 use mathlib.Core.Path.{◌≡◌, refl, sym, ap, ap₂, subst}
 use mathlib.Core.Logic.{⊎_elim}
 use mathlib.Core.Bool.{Bool, true, false, ◌&&◌, ◌||◌, not}

@@ -1,6 +1,7 @@
 // The moves: the two tables, the directions of a neighbourhood, the far end of a move, and whether a cell or a step is
 // in its way.
 #![tactic(auto)]
+
 ghost use Rattle.std.specs.Prelude.{◌≡◌, true, ◌+◌, ◌-◌, ◌<◌, ◌≤◌, nat_abs, get_or};
 ghost use Rattle.floor.specs.Floor.{floor_of};
 ghost use Rattle.floor.specs.Known.{Sized};

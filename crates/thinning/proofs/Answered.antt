@@ -2,8 +2,8 @@
 --
 --   Answered ..  == the first k places of the output slice `left` have the kept positions, and the others 0
 use Prim.Native.Nat.{ℕ, ◌-◌, ◌≤◌, ◌<◌}
-use mathlib.Core.Path.{◌≡◌, refl, sym, ap, ◌∙◌}
-use mathlib.Core.List.{List, ◌++◌}
+use mathlib.Core.Path.{◌≡◌, refl, ap, ◌∙◌}
+use mathlib.Core.List.{List}
 use native.Mathlib.Omega.{arith}
 use lib.ListN.{length, get_or, take, drop, get_or-append}
 use lib.Seq.{take_at, drop_at}
@@ -14,8 +14,7 @@ use Rattle.floor.specs.declared.Shape.TheVariants.{Good, Refused as BadShape}
 use Rattle.thinning.specs.Thinning.{seen, kept_positions}
 use Rattle.floor.specs.Refusals.{left_by}
 use Rattle.thinning.specs.Answer.{list_shape, shape_answer, thin_answer, thin_output}
-use Rattle.thinning.specs.declared.Thinned.{Thinned}
-use Rattle.thinning.specs.declared.Thinned.TheVariants.{Kept, Refused}
+use Rattle.thinning.specs.declared.Thinned.TheVariants.{Kept}
 use Rattle.thinning.proofs.Shapes.{GoodList, good-list, joined-list}
 use Rattle.thinning.proofs.Kept.{KeptLaws, kept_laws}
 

@@ -1,6 +1,6 @@
 -- Places from n on are not read: two lists of one length that agree on their first n places give the same answer
 -- (`answer-same`) and leave the same output (`output-same`).
-use Prim.Native.Nat.{ℕ, zero, suc, ◌+◌, ◌-◌, ◌≤◌, ◌<◌, pred}
+use Prim.Native.Nat.{ℕ, zero, suc, ◌-◌, ◌<◌, pred}
 use mathlib.Core.Path.{◌≡◌, refl, ap, ap₂}
 use mathlib.Core.Bool.{Bool, true, false, ◌&&◌, not}
 use mathlib.Core.List.{List, [], ◌∷◌}
@@ -8,7 +8,6 @@ use native.Mathlib.Omega.{arith}
 use borrow.Author.Tests.{ltb-true}
 use lib.Dec.{leb, ltb}
 use lib.ListN.{length, get_or}
-use Rattle.basics.specs.Bounded.{every, seek}
 use Rattle.basics.proofs.Bounded.{every-cong, seek-cong}
 use Rattle.floor.specs.Floor.{Floor, floor_of, vertices}
 use Rattle.sight.specs.Sight.{segment, sees}

@@ -1,5 +1,6 @@
 // Thinning: the positions of a list of vertices that a cart needs.
 #![tactic(auto)]
+
 ghost use Rattle.std.specs.Prelude.{◌≡◌, pred, ◌<◌, ◌≤◌, length, get_or};
 ghost use Rattle.basics.specs.Bounded.{every};
 ghost use Rattle.floor.specs.Floor.{floor_of, vertices};

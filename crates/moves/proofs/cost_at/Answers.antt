@@ -2,7 +2,6 @@
 use Prim.Native.Nat.{ℕ}
 use mathlib.Core.Path.{ap, ◌∙◌}
 use Rattle.moves.specs.Moves.{dir_move}
-use borrow.Author.Rules.{rules}
 use Rattle.moves.proofs.cost_at.Goals as goal
 
 pub returns : goal.returns

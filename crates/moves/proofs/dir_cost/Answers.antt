@@ -4,7 +4,6 @@ use mathlib.Core.Path.{sym, ◌∙◌}
 use native.Mathlib.Omega.{arith}
 use borrow.Author.Tests.{lt-ltb, le-ltb, eq-eqb, ne_eqb}
 use Rattle.moves.proofs.Table.{dir-cost}
-use borrow.Author.Rules.{rules}
 use Rattle.moves.proofs.dir_cost.Goals as goal
 
 pub returns-then-k-lt2 : goal.returns-then-k-lt2

@@ -4,7 +4,6 @@ use Rattle.moves.specs.Steps.{shifted}
 use Rattle.moves.specs.Table.{place_of}
 use Rattle.moves.proofs.Signs.{back}
 use Rattle.moves.proofs.Steps.{place-past, place-there, spot-past-column, spot-past-row, spot-at}
-use borrow.Author.Rules.{rules}
 use Rattle.moves.proofs.far_spot.Goals.{After-shifted_by, After-shifted_by-2}
 use Rattle.moves.proofs.far_spot.Goals as goal
 

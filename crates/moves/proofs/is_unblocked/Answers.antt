@@ -1,17 +1,15 @@
 -- `moves::is_unblocked` meets its contract: the answer is no for a move that leads off the floor, and otherwise that of
 -- `ends_unblocked`. Assumes nothing.
 use mathlib.Core.Path.{◌≡◌, sym, ap₂, ◌∙◌}
-use Prim.Native.Nat.{ℕ, ◌+◌, ◌-◌}
+use Prim.Native.Nat.{◌+◌, ◌-◌}
 use native.Mathlib.Omega.{arith}
-use Rattle.floor.specs.Floor.{Floor, floor_of}
+use Rattle.floor.specs.Floor.{floor_of}
 use Rattle.sight.specs.Sight.{segment_of, unblocked}
-use Rattle.moves.specs.declared.Move.{Move}
 use Rattle.moves.specs.Moves.{move_of}
 use Rattle.moves.specs.Steps.{up, down, far_end_at, step_of}
 use Rattle.moves.specs.Table.{Reaches}
 use Rattle.moves.proofs.Signs.{back}
 use Rattle.moves.proofs.Steps.{shifted-is, far-reaches, end-off, end-there}
-use borrow.Author.Rules.{rules}
 use Rattle.moves.proofs.is_unblocked.Goals.{After-moved_by, After-moved_by-2, After-step_from, In-To}
 use Rattle.moves.proofs.is_unblocked.Goals as goal
 

@@ -3,7 +3,6 @@ use mathlib.Core.Path.{◌≡◌}
 use native.Mathlib.Omega.{arith}
 use Rattle.moves.specs.Steps.{up, down}
 use Rattle.moves.proofs.Signs.{parts-back, parts-abs}
-use borrow.Author.Rules.{rules}
 use Rattle.moves.proofs.length_of.Goals.{After-parts_of-o}
 use Rattle.moves.proofs.length_of.Goals as goal
 

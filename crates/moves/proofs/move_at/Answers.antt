@@ -1,7 +1,6 @@
 -- `moves::move_at` meets its contract: it reads the direction of the move. Assumes nothing.
 use mathlib.Core.Path.{ap, ◌∙◌}
 use Rattle.moves.specs.Moves.{dir_move}
-use borrow.Author.Rules.{rules}
 use Rattle.moves.proofs.move_at.Goals as goal
 
 pub dir_move-requires : goal.dir_move-requires

@@ -2,8 +2,7 @@
 use mathlib.Core.Path.{◌≡◌}
 use native.Mathlib.Omega.{arith}
 use Rattle.moves.specs.Steps.{up, down}
-use Rattle.moves.proofs.Signs.{parts-back, up_le, down_le}
-use borrow.Author.Rules.{rules}
+use Rattle.moves.proofs.Signs.{parts-back, up_le}
 use Rattle.moves.proofs.moved_by.Goals.{After-parts_of-o}
 use Rattle.moves.proofs.moved_by.Goals as goal
 

@@ -1,9 +1,7 @@
 -- `moves::parts_of` meets its contract: an offset goes as far down as its negation goes up. Assumes nothing.
 use mathlib.Core.Path.{ap₂, ◌∙◌}
 use native.Mathlib.Omega.{arith}
-use Rattle.moves.specs.declared.Offset.{Offset}
 use Rattle.moves.proofs.Signs.{back, neg-abs, neg-fits, back-neg, neg-up}
-use borrow.Author.Rules.{rules}
 use Rattle.moves.proofs.parts_of.Goals as goal
 
 pub overflow_sub-d : goal.overflow_sub-d

@@ -4,7 +4,6 @@ use native.Mathlib.Omega.{arith}
 use Rattle.moves.specs.Steps.{up, down}
 use Rattle.moves.proofs.Signs.{parts-back, up_le, down_le}
 use Rattle.moves.proofs.Steps.{place-low, place-high, place_is, place-stays}
-use borrow.Author.Rules.{rules}
 use Rattle.moves.proofs.shifted_by.Goals.{After-parts_of-o}
 use Rattle.moves.proofs.shifted_by.Goals as goal
 

@@ -2,13 +2,11 @@
 use mathlib.Core.Path.{◌≡◌, sym, ap, ◌∙◌}
 use native.Mathlib.Omega.{arith}
 use Rattle.moves.specs.declared.Step.TheVariants.{To}
-use Rattle.moves.specs.declared.Move.{Move}
 use Rattle.moves.specs.Moves.{move_of}
 use Rattle.moves.specs.Steps.{shifted}
 use Rattle.moves.specs.Table.{Reaches, spot_of}
 use Rattle.moves.proofs.Signs.{back}
 use Rattle.moves.proofs.Steps.{spot-reaches, reaches-on, step-off, step-to}
-use borrow.Author.Rules.{rules}
 use Rattle.moves.proofs.step_from.Goals.{After-far_spot, In-At}
 use Rattle.moves.proofs.step_from.Goals as goal
 

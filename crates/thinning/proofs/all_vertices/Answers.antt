@@ -1,10 +1,8 @@
 -- `thinning::all_vertices` meets its contract: the numbers passed are all vertices. Assumes nothing.
-use Prim.Native.Nat.{◌-◌}
 use mathlib.Core.Path.{refl, ap}
 use mathlib.Core.Bool.{not}
 use native.Mathlib.Omega.{arith}
-use borrow.Author.Rules.{rules}
-use Rattle.basics.proofs.Scan.{Passed, passed_none, passed-stop, passed-more, passed-all}
+use Rattle.basics.proofs.Scan.{passed_none, passed-stop, passed-more, passed-all}
 use Rattle.thinning.specs.Thinning.{is_vertex}
 use Rattle.thinning.proofs.Shapes.{vertex-yes, vertex-no}
 use Rattle.thinning.proofs.all_vertices.Goals as goal

@@ -1,12 +1,9 @@
 -- `thinning::each_sees_next` meets its contract: each vertex passed sees the next. Assumes nothing.
-use Prim.Native.Nat.{suc, pred, ◌-◌}
 use mathlib.Core.Path.{ap}
 use mathlib.Core.Bool.{not}
 use native.Mathlib.Omega.{arith}
 use native.Mathlib.Numerals.{add-one}
-use borrow.Author.Rules.{rules}
-use Rattle.basics.proofs.Scan.{Passed, passed_none, passed-stop, passed-more, passed-all}
-use Rattle.floor.specs.Floor.{floor_of}
+use Rattle.basics.proofs.Scan.{passed_none, passed-stop, passed-more, passed-all}
 use Rattle.thinning.specs.Thinning.{sees_next}
 use Rattle.thinning.proofs.each_sees_next.Goals as goal
 

@@ -1,9 +1,6 @@
 -- `thinning::each_sees_next` meets its contract: each vertex passed sees the next. Assumes nothing.
-use Prim.Native.Nat.{suc, pred, ◌-◌}
-use native.Mathlib.Omega.{arith}
-use native.Mathlib.Numerals.{add-one}
-use borrow.Author.Rules.{rules}
-use Rattle.basics.proofs.Scan.{Passed, passed_none, passed-stop, passed-more, passed-all}
+use Prim.Native.Nat.{pred, ◌-◌}
+use Rattle.basics.proofs.Scan.{Passed}
 use Rattle.floor.specs.Floor.{floor_of}
 use Rattle.thinning.specs.Thinning.{sees_next}
 use Rattle.thinning.proofs.each_sees_next.Given as goal

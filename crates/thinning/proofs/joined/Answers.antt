@@ -1,7 +1,7 @@
 -- `thinning::joined` meets its contract: each return is one case of `joined_list`. Assumes nothing.
 use mathlib.Core.Path.{sym, ◌∙◌}
 use native.Mathlib.Omega.{arith}
-use Rattle.floor.specs.Floor.{Floor, floor_of}
+use Rattle.floor.specs.Floor.{floor_of}
 use Rattle.thinning.specs.Known.{VertexList}
 use Rattle.thinning.proofs.Shapes.{joined-empty, joined-beyond, joined-off, joined-on}
 use borrow.Author.Rules.{rules}

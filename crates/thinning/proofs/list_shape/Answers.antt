@@ -4,7 +4,6 @@ use Rattle.floor.specs.Refusals.{floor_shape}
 use Rattle.floor.specs.declared.Shape.TheVariants.{Good}
 use Rattle.floor.proofs.Shapes.{good-floor}
 use Rattle.thinning.proofs.Shapes.{shape-floor, shape-long, shape-other, shape-unjoined, shape_good}
-use borrow.Author.Rules.{rules}
 use Rattle.thinning.proofs.list_shape.Goals.{In-Good}
 use Rattle.thinning.proofs.list_shape.Goals as goal
 

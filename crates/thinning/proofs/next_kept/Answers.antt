@@ -1,12 +1,10 @@
 -- `thinning::next_kept` meets its contract: the loop stops at the first position that is not seen. Assumes nothing.
-use Prim.Native.Nat.{suc, pred, ◌-◌}
+use Prim.Native.Nat.{pred}
 use mathlib.Core.Path.{sym, ap, ◌∙◌}
 use mathlib.Core.Bool.{not}
 use native.Mathlib.Omega.{arith}
-use borrow.Author.Rules.{rules}
-use Rattle.floor.specs.Floor.{floor_of}
-use Rattle.thinning.specs.Thinning.{seen, sees_next, next_kept}
-use Rattle.basics.proofs.Scan.{Sought, sought-first, sought-more, sought-found, sought-done}
+use Rattle.thinning.specs.Thinning.{sees_next, next_kept}
+use Rattle.basics.proofs.Scan.{sought-first, sought-more, sought-found, sought-done}
 use Rattle.thinning.proofs.next_kept.Goals.{then-seen_at, else-seen_at}
 use Rattle.thinning.proofs.next_kept.Goals as goal
 
@@ -20,8 +18,9 @@ loop-k-preserved c =
     let l = c.loop-k in
     let e = sym c.seen_at.ensures in
     elim c.if-seen_at.branch [
-    then-seen_at w ↦ sought-more l.invariant (omega arith) (ap not (e ∙ w.if-seen_at.true)) (omega arith) (omega arith)
-    | else-seen_at w ↦ sought-found l.invariant (omega arith) (ap not (e ∙ w.if-seen_at.false)) (omega arith) (omega arith) ]
+      | then-seen_at w ↦ sought-more l.invariant (omega arith) (ap not (e ∙ w.if-seen_at.true)) (omega arith) (omega arith)
+      | else-seen_at w ↦ sought-found l.invariant (omega arith) (ap not (e ∙ w.if-seen_at.false)) (omega arith) (omega arith)
+    ]
 
 pub returns : goal.returns
 unfolding next_kept

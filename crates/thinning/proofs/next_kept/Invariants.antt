@@ -1,13 +1,9 @@
 -- `thinning::next_kept` meets its contract: the loop stops at the first position that is not seen. Assumes nothing.
-use Prim.Native.Nat.{suc, pred, ◌-◌}
-use mathlib.Core.Path.{sym, ap, ◌∙◌}
+use Prim.Native.Nat.{suc, ◌-◌}
 use mathlib.Core.Bool.{not}
-use mathlib.Core.Logic.{⊎_elim}
-use native.Mathlib.Omega.{arith}
-use borrow.Author.Rules.{rules}
 use Rattle.floor.specs.Floor.{floor_of}
-use Rattle.thinning.specs.Thinning.{seen, sees_next, next_kept}
-use Rattle.basics.proofs.Scan.{Sought, sought-first, sought-more, sought-found, sought-done}
+use Rattle.thinning.specs.Thinning.{seen}
+use Rattle.basics.proofs.Scan.{Sought}
 use Rattle.thinning.proofs.next_kept.Given as goal
 
 abbrev pub invariant-loop-k : goal.invariant-loop-k

@@ -1,21 +1,9 @@
 -- `thinning::record_kept` meets its contract: `Recording` says what the loop has recorded. Assumes nothing.
-use Prim.Native.Nat.{suc, ◌-◌, ◌<◌}
-use mathlib.Core.Path.{sym, ap, ◌∙◌}
-use native.Mathlib.Omega.{arith}
-use borrow.Author.Rules.{rules}
+use Prim.Native.Nat.{◌-◌}
 use lib.ListN.{length}
-use Rattle.basics.specs.Lists.{padded}
-use Rattle.floor.specs.Floor.{Floor, floor_of}
-use Rattle.thinning.specs.Thinning.{seen, sees_next, next_kept}
-use Rattle.thinning.proofs.Shapes.{Joined, joined-list, joined-sees}
-use Rattle.thinning.proofs.Kept.{Next, next-kept, kept-chain}
-use Rattle.thinning.proofs.Recording.{
-  Recording,
-  recording-first,
-  recording-more,
-  recording-count,
-  recording-done,
-}
+use Rattle.floor.specs.Floor.{floor_of}
+use Rattle.thinning.specs.Thinning.{seen, next_kept}
+use Rattle.thinning.proofs.Recording.{Recording}
 use Rattle.thinning.proofs.record_kept.Given as goal
 
 abbrev pub invariant-loop-i : goal.invariant-loop-i

@@ -3,7 +3,6 @@ use mathlib.Core.Path.{ap₂, ◌∙◌}
 use Rattle.floor.specs.Floor.{floor_of}
 use Rattle.sight.specs.Sight.{segment, sees}
 use Rattle.thinning.specs.Thinning.{seen}
-use borrow.Author.Rules.{rules}
 use Rattle.thinning.proofs.seen_at.Goals as goal
 
 pub returns : goal.returns

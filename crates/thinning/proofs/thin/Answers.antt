@@ -2,11 +2,9 @@
 -- Assumes nothing.
 use mathlib.Core.Path.{◌≡◌, sym, ◌∙◌}
 use lib.ListN.{length}
-use Rattle.floor.specs.declared.Shape.{Shape}
 use Rattle.floor.specs.declared.Shape.TheVariants.{Good}
 use Rattle.thinning.specs.Answer.{list_shape}
 use Rattle.thinning.proofs.Shapes.{good-list, thins-refused, thins-kept}
-use borrow.Author.Rules.{rules}
 use Rattle.thinning.proofs.thin.Goals.{In-Good}
 use Rattle.thinning.proofs.thin.Goals as goal
 

@@ -1,6 +1,5 @@
 -- `thinning::thin_number` meets its contract: kept positions have the number 0, a refusal its own. Assumes nothing.
 use mathlib.Core.Path.{sym, ap, ◌∙◌}
-use borrow.Author.Rules.{rules}
 use Rattle.thinning.specs.Answer.{thin_number}
 use Rattle.thinning.proofs.thin_number.Goals as goal
 

@@ -2,7 +2,6 @@
 use mathlib.Core.Path.{refl}
 use native.Mathlib.Omega.{arith}
 use Rattle.thinning.proofs.Shapes.{listed-vertex}
-use borrow.Author.Rules.{rules}
 use Rattle.thinning.proofs.vertex_in.Goals as goal
 
 pub overflow_cast-result : goal.overflow_cast-result
