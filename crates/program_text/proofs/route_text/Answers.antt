@@ -10,22 +10,25 @@ use borrow.Author.Rules.{rules}
 use Rattle.program_text.proofs.route_text.Goals.{After-kept_count-k, After-put_route-next}
 use Rattle.program_text.proofs.route_text.Goals as goal
 
-thinned-to : (c : After-kept_count-k) → (KeptOf (floor_of c.args.w c.args.h c.args.map.now) c.args.points.now c.args.n c.args.kept-1.now c.kept_count-k.result c.thin.new.1.1.1.1.0)
+thinned-to : (c : After-kept_count-k) → (KeptOf (floor_of c.args.w c.args.h c.args.map.now) c.args.points.now c.args.n c.args.kept.now c.kept_count-k.result c.thin.new.out)
 thinned-to c = thinned c.requires c.thin.ensures c.kept_count-k.ensures
 
 -- The room that is left after the first line.
 room : (c : After-put_route-next)
-    → c.put_route-next.result + (3 + 6 * c.kept_count-k.result) ≤ length c.put_route-next.new.0
+    → c.put_route-next.result + (3 + 6 * c.kept_count-k.result) ≤ length c.put_route-next.new.buf
 room c =
     let line = route-line-le c.args.number c.args.cost c.args.total c.args.n c.kept_count-k.result
-    (omega (arith, c.fits.number)) (omega (arith, c.fits.cost)) (omega (arith, c.fits.total))
-    (omega (arith, c.fits.n)) (omega (arith, (thinned-to (goal.at.After-put_route-next c).After-kept_count-k).few, c.requires.short)) in
+    (omega (arith, c.ranges.number)) (omega (arith, c.ranges.cost)) (omega (arith, c.ranges.total))
+    (omega (arith, c.ranges.n)) (omega (arith, (thinned-to (goal.at.After-put_route-next c).After-kept_count-k).few, c.requires.short)) in
     room_after c.put_route-next.ensures 160 (3 + 6 * c.kept_count-k.result) line
     (omega (arith, c.requires.room, (thinned-to (goal.at.After-put_route-next c).After-kept_count-k).few))
 
 pub put_at-requires : goal.put_at-requires
 put_at-requires c =
-    ((thinned-to (goal.at.put_at-requires c).After-kept_count-k).inside, room (goal.at.put_at-requires c).After-put_route-next)
+    record {
+      kept = (thinned-to (goal.at.put_at-requires c).After-kept_count-k).inside;
+      k_in_bounds = room (goal.at.put_at-requires c).After-put_route-next;
+    }
 
 pub returns : goal.returns
 returns c =
