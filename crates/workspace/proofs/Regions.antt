@@ -22,7 +22,7 @@ use Rattle.paths.specs.Graph.{Graph}
 use Rattle.paths.specs.Local.{entry}
 use Rattle.grid.specs.Grid.{floor_graph}
 use Rattle.neighbours.proofs.Shown.{Shows, mask-shows}
-use Rattle.workspace.specs.Regions.{mask_at, mask_on, MasksIn, MasksFilled, Masked}
+use Rattle.workspace.specs.Regions.{mask_on, MasksIn, MasksFilled, Masked}
 
 -- The masks, put into their place in a working slice of 4 * V places.
 module _ (f : Floor) (r : Directions) (n : ℕ) (work masks : List ℕ) (count : n ≡ vertices f.wide f.high)

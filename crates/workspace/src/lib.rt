@@ -2,6 +2,7 @@
 // in which they were settled, V + 1 places at most; from place 2 * V on the mask of the open moves of each vertex. Two
 // parts of one lent slice cannot be lent at once, so these are regions of one list. This crate alone knows where they are.
 #![tactic(auto)]
+
 ghost use Rattle.std.specs.Prelude.{◌≡◌, ◌*◌, ◌<◌, ◌≤◌, length, set};
 ghost use Rattle.floor.specs.Floor.{floor_of, vertices};
 ghost use Rattle.floor.specs.Known.{Sized};

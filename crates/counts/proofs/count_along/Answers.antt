@@ -1,4 +1,5 @@
 -- `counts::count_along` meets its contract: at each turn a vertex on the way gets its count, since the cheaper vertices
+-- on the way have theirs. Assumes nothing.
 use Prim.Native.Nat.{◌-◌, ◌<◌}
 use mathlib.Core.Path.{◌≡◌}
 use native.Mathlib.Omega.{arith}

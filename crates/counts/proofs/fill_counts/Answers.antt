@@ -1,4 +1,6 @@
 -- `counts::fill_counts` meets its contract: the vertices kept are those on the way; the pass from b goes along them
+-- from the front and the pass from a from the back; and where the first pass answers true, the total fits. Assumes
+-- nothing.
 use mathlib.Core.Path.{sym, ap, ◌∙◌, subst}
 use native.Mathlib.Omega.{arith}
 use lib.ListN.{length, length-replicate}

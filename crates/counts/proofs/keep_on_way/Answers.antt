@@ -1,4 +1,5 @@
 -- `counts::keep_on_way` meets its contract: after i turns the vertices on the way among the first i are kept, and from
+-- place i on the slice is as it was. Assumes nothing.
 use Prim.Native.Nat.{◌+◌, ◌-◌, ◌≤◌}
 use mathlib.Core.Path.{◌≡◌, ap, ◌∙◌, subst}
 use native.Mathlib.Omega.{arith}

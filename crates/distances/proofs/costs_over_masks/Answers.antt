@@ -1,4 +1,5 @@
 -- `distances::costs_over_masks` meets its contract: the algorithm runs on the floor's graph, as its masks and shifts
+-- give it. Assumes nothing.
 use Prim.Native.Nat.{ℕ, ◌<◌}
 use native.Mathlib.Omega.{arith}
 use Rattle.floor.specs.Floor.{floor_of, vertices}

@@ -1,4 +1,5 @@
 -- `given_costs::costs_true` meets its contract: the start costs 0, and the rows passed are right; `above` and `here`
+-- are the windows of the lines above y and at y. Assumes nothing.
 use Prim.Native.Nat.{suc, ◌+◌, ◌-◌, ◌<◌}
 use mathlib.Core.Path.{◌≡◌, ap, ◌∙◌}
 use mathlib.Core.Bool.{not}

@@ -1,4 +1,5 @@
 -- `given_costs::costs_true` meets its contract: the start costs 0, and the rows passed are right; `above` and `here`
+-- are the windows of the lines above y and at y. Assumes nothing.
 use Prim.Native.Nat.{suc, ◌+◌, ◌-◌, ◌<◌}
 use mathlib.Core.Path.{◌≡◌, ◌∙◌}
 use native.Mathlib.Omega.{arith}
@@ -13,8 +14,6 @@ use Rattle.given_costs.proofs.Tested.{start-false, rows_true}
 use borrow.Author.Rules.{rules}
 use Rattle.given_costs.proofs.costs_true.Given as goal
 
--- `given_costs::costs_true` meets its contract: the start costs 0, and the rows passed are right; `above` and `here`
--- are the windows of the lines above y and at y. Assumes nothing.
 abbrev pub invariant-loop-y : goal.invariant-loop-y
 invariant-loop-y l =
     Passed (suc l.h) l.y (row_test (leaving_graph (floor_of l.w l.h l.map) l.dirs) l.start l.d l.w)

@@ -1,4 +1,5 @@
 -- `given_costs::row_right` meets its contract: the flag says whether the costs of the row before column x pass. Assumes
+-- nothing.
 use Prim.Native.Nat.{◌+◌, ◌-◌, ◌*◌, ◌≤◌}
 use mathlib.Core.Path.{◌≡◌, refl, ap, ◌∙◌}
 use mathlib.Core.Bool.{not}

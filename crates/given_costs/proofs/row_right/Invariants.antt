@@ -1,4 +1,5 @@
 -- `given_costs::row_right` meets its contract: the flag says whether the costs of the row before column x pass. Assumes
+-- nothing.
 use Prim.Native.Nat.{◌+◌, ◌-◌, ◌*◌, ◌≤◌}
 use mathlib.Core.Path.{◌≡◌, refl, ap, ◌∙◌}
 use mathlib.Core.Logic.{⊎_elim}
@@ -17,8 +18,6 @@ use Rattle.given_costs.proofs.Tested.{column-readable, column-right}
 use borrow.Author.Rules.{rules}
 use Rattle.given_costs.proofs.row_right.Given as goal
 
--- `given_costs::row_right` meets its contract: the flag says whether the costs of the row before column x pass. Assumes
--- nothing.
 abbrev pub invariant-loop-x : goal.invariant-loop-x
 invariant-loop-x l =
     (l.right ≡ every l.x (column_test (leaving_graph (floor_of l.w l.h l.map) l.dirs) l.a l.d l.w l.y)) × (l.x ≤ l.w + 1)

@@ -1,7 +1,6 @@
 -- `workspace::store_masks` meets its contract: the masks are filled in a part of the working slice. Assumes nothing.
 use Rattle.floor.specs.Floor.{floor_of}
 use Rattle.workspace.proofs.Regions.{masks-filled}
-use borrow.Author.Rules.{rules}
 use Rattle.workspace.proofs.store_masks.Goals as goal
 
 pub returns : goal.returns

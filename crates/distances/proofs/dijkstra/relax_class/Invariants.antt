@@ -1,4 +1,5 @@
 -- `distances::dijkstra::relax_class` meets its contract: on any graph that it can run on, the far ends of the moves of
+-- the first j directions of the class were offered the key. Assumes nothing.
 use borrow.Author.Rules.{rules}
 use native.Mathlib.Omega.{arith}
 use mathlib.Core.Path.{◌≡◌, sym, ◌∙◌}
@@ -11,8 +12,6 @@ use Rattle.distances.proofs.Relax.{RelaxedOn, far_at, far_at-is, vertex-in, rela
 use Rattle.distances.proofs.Relax.{reaching, offering, relaxed-more, relaxed-all}
 use Rattle.distances.proofs.dijkstra.relax_class.Given as goal
 
--- `distances::dijkstra::relax_class` meets its contract: on any graph that it can run on, the far ends of the moves of
--- the first j directions of the class were offered the key. Assumes nothing.
 abbrev pub invariant-loop-j : goal.invariant-loop-j
 invariant-loop-j l =
     RelaxedOn l.shifts l.class l.p l.j l.key l.n l.k l.initial.d l.d l.initial.work l.work × (l.j ≤ 4)

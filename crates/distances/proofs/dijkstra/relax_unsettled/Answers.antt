@@ -1,4 +1,5 @@
 -- `distances::dijkstra::relax_unsettled` meets its contract: on any graph that it can run on, the far ends of the moves
+-- of the first j directions of the class were offered the key. Assumes nothing.
 use borrow.Author.Rules.{rules}
 use native.Mathlib.Omega.{arith}
 use mathlib.Core.Path.{◌≡◌, sym, ◌∙◌}

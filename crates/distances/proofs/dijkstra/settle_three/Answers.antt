@@ -1,4 +1,6 @@
 -- `distances::dijkstra::settle_three` meets its contract: at each turn `Running` holds of the four classes and their
+-- three positions, on any graph that the algorithm can run on. A turn of the last position is two turns of the law.
+-- Assumes nothing.
 use borrow.Author.Rules.{rules}
 use native.Mathlib.Omega.{arith}
 use mathlib.Core.Path.{◌≡◌, refl, sym, ap, ◌∙◌}
@@ -80,6 +82,7 @@ turn-1 c =
 turn-2 : (c : Else-k1-k2) → TurnOf (goal.at.Else-k1-k2 c).After-key_at-k2 2 (c.key_at-k2.result)
 turn-2 c = turn_on c.loop-c0.invariant (chosen-2 c) (low-2 c) refl
 
+-- The second half of a turn of the last position: the same key, for the other class at its place.
 turn-3 : (c : After-relax_unsettled-n-in-loop-c0)
     → let a = c.args in
     let out = c.relax_unsettled-n-in-loop-c0.new in

@@ -1,4 +1,6 @@
 -- `distances::dijkstra::settle_three` meets its contract: at each turn `Running` holds of the four classes and their
+-- three positions, on any graph that the algorithm can run on. A turn of the last position is two turns of the law.
+-- Assumes nothing.
 use borrow.Author.Rules.{rules}
 use native.Mathlib.Omega.{arith}
 use mathlib.Core.Path.{◌≡◌, refl, sym, ap, ◌∙◌}
@@ -13,9 +15,6 @@ use Rattle.distances.proofs.Turn.{RunningOn, TurnOn, turn_on, filled_on}
 use Rattle.distances.proofs.Start.{running-start, four-first}
 use Rattle.distances.proofs.dijkstra.settle_three.Given as goal
 
--- `distances::dijkstra::settle_three` meets its contract: at each turn `Running` holds of the four classes and their
--- three positions, on any graph that the algorithm can run on. A turn of the last position is two turns of the law.
--- Assumes nothing.
 abbrev pub invariant-loop-c0 : goal.invariant-loop-c0
 invariant-loop-c0 l =
     RunningOn l.shifts l.n (four_classes l.c0 l.c1 l.c2 l.c3) (l.p0 ∷ l.p1 ∷ l.p2 ∷ l.p2 ∷ []) l.initial.d l.d l.initial.work l.work

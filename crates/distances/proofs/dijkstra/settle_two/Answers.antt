@@ -1,4 +1,6 @@
 -- `distances::dijkstra::settle_two` meets its contract: at each turn `Running` holds of the two classes and their
+-- positions, and of two classes of no move, whose position is past all vertices, on any graph that the algorithm can
+-- run on. Assumes nothing.
 use borrow.Author.Rules.{rules}
 use native.Mathlib.Omega.{arith}
 use mathlib.Core.Path.{◌≡◌, refl, sym, ◌∙◌}

@@ -1,4 +1,6 @@
 -- `distances::dijkstra::settle_two` meets its contract: at each turn `Running` holds of the two classes and their
+-- positions, and of two classes of no move, whose position is past all vertices, on any graph that the algorithm can
+-- run on. Assumes nothing.
 use borrow.Author.Rules.{rules}
 use native.Mathlib.Omega.{arith}
 use mathlib.Core.Path.{◌≡◌, refl, sym, ◌∙◌}
@@ -15,9 +17,6 @@ use Rattle.distances.proofs.Turn.{RunningOn, TurnOn, turn_on, filled_on}
 use Rattle.distances.proofs.Start.{running-start, four-first}
 use Rattle.distances.proofs.dijkstra.settle_two.Given as goal
 
--- `distances::dijkstra::settle_two` meets its contract: at each turn `Running` holds of the two classes and their
--- positions, and of two classes of no move, whose position is past all vertices, on any graph that the algorithm can
--- run on. Assumes nothing.
 -- The positions, with those of the classes of no move.
 abbrev pub places : ℕ → ℕ → List ℕ → List ℕ
 places p0 p1 d = p0 ∷ p1 ∷ length d ∷ length d ∷ []
