@@ -1,6 +1,7 @@
 // A floor with a neighbourhood as a graph, and the shape of a job. The graph is defined in specs/Grid.antt; that it is
 // lawful is proved in proofs/Lawful.antt.
 #![tactic(auto)]
+
 ghost use Rattle.std.specs.Prelude.{◌≡◌, ◌<◌};
 ghost use Rattle.floor.specs.Floor.{floor_of, vertices};
 ghost use Rattle.floor.specs.Known.{Sized};

@@ -21,7 +21,7 @@
 --                       the left, right, up and down
 --   joined_mask here left right upper lower == the mask with the unit directions of here, and the directions of the
 --                       other four to their sides, unless here marks a pinch
-use Rattle.std.specs.Prelude.{ℕ, suc, ◌+◌, ◌-◌, ◌*◌, ◌/◌, ◌≤◌, ◌<◌, ◌≡◌, Bool, ◌&&◌, ◌||◌, not, List, leb, ℤ, nat_abs, length, get_or}
+use Rattle.std.specs.Prelude.{ℕ, suc, ◌+◌, ◌-◌, ◌*◌, ◌/◌, ◌<◌, ◌≡◌, Bool, ◌&&◌, ◌||◌, not, List, leb, ℤ, nat_abs, length, get_or}
 use Rattle.std.specs.Int.Bits.{bit_or, bit_and}
 use Rattle.basics.specs.Bounded.{pick, every}
 use Rattle.basics.specs.Bits.{bit}

@@ -3,6 +3,7 @@
 // A window is the four cells at a vertex. The tests of a move and of a pinch are called for the sixteen windows only,
 // each as a floor of 2 by 2 cells; the mask of a vertex is then read by its cells.
 #![tactic(auto)]
+
 ghost use Rattle.std.specs.Prelude.{◌≡◌, true, false, suc, ◌+◌, ◌-◌, ◌^◌, ◌<◌, ◌≤◌, nat_abs, length};
 ghost use Rattle.basics.specs.Bounded.{pick};
 ghost use Rattle.basics.specs.Bits.{bit};

@@ -1,6 +1,7 @@
 // The moves as changes of a vertex number: the far end of an open move by the mask of its vertex, and the classes of
 // moves of one cost.
 #![tactic(auto)]
+
 ghost use Rattle.std.specs.Prelude.{◌≡◌, true, ◌+◌, ◌<◌, ◌≤◌};
 ghost use Rattle.moves.specs.Moves.{move_at};
 ghost use Rattle.moves.specs.Table.{Listed, eight_dirs, sixteen_dirs, lawful_dirs};

@@ -3,7 +3,6 @@ use mathlib.Core.Path.{◌≡◌, sym, ◌∙◌}
 use Rattle.floor.specs.Refusals.{floor_shape}
 use Rattle.floor.specs.declared.Shape.TheVariants.{Good}
 use Rattle.grid.proofs.Jobs.{refused-floor, refused-neighbourhood, known-dirs}
-use borrow.Author.Rules.{rules}
 use Rattle.grid.proofs.dirs_shape.Goals.{In_default}
 use Rattle.grid.proofs.dirs_shape.Goals as goal
 

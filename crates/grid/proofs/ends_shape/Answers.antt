@@ -8,7 +8,6 @@ use Rattle.floor.specs.declared.Shape.TheVariants.{Good}
 use Rattle.floor.proofs.Shapes.{good-end}
 use Rattle.grid.specs.Grid.{pinch_shape}
 use Rattle.grid.proofs.Jobs.{first-refused, last-refused, first-pinched, last-pinched}
-use borrow.Author.Rules.{rules}
 use Rattle.grid.proofs.ends_shape.Goals.{In-Good, In-Good-last, In-Good-start}
 use Rattle.grid.proofs.ends_shape.Goals as goal
 

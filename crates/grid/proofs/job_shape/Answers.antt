@@ -4,7 +4,6 @@ use mathlib.Core.Path.{ap, ◌∙◌}
 use Rattle.grid.specs.Grid.{or_refused}
 use Rattle.grid.specs.declared.JobShape.TheVariants.{Fit}
 use Rattle.grid.proofs.Jobs.{job-refused, job-rest, dirs-floor}
-use borrow.Author.Rules.{rules}
 use Rattle.grid.proofs.job_shape.Goals as goal
 
 pub returns-in_default : goal.returns-in_default

@@ -1,5 +1,4 @@
 -- `grid::or_refused` meets its contract: the two arms are the cases of `or_refused`. Assumes nothing.
-use borrow.Author.Rules.{rules}
 use Rattle.grid.proofs.or_refused.Goals as goal
 
 pub returns-in-Good : goal.returns-in-Good

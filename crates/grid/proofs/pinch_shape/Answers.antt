@@ -3,7 +3,6 @@ use mathlib.Core.Path.{◌≡◌, sym, ◌∙◌}
 use Rattle.floor.specs.Floor.{floor_of, column, row}
 use Rattle.sight.specs.Sight.{pinch}
 use Rattle.grid.proofs.Jobs.{pinch-refused, pinch-passed}
-use borrow.Author.Rules.{rules}
 use Rattle.grid.proofs.pinch_shape.Goals.{After-is_pinch}
 use Rattle.grid.proofs.pinch_shape.Goals as goal
 

@@ -10,7 +10,6 @@ use Rattle.floor.proofs.Numbers.{number_lt}
 use Rattle.moves.specs.Table.{table_of}
 use Rattle.moves.proofs.Table.{table-listed, table-within}
 use Rattle.masks.proofs.Clearing.{past_skip, past-hit}
-use borrow.Author.Rules.{rules}
 use Rattle.masks.proofs.clear_at.Goals.{Start}
 use Rattle.masks.proofs.clear_at.Goals as goal
 

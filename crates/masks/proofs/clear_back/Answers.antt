@@ -14,7 +14,6 @@ use Rattle.moves.proofs.Steps.{step-none, step-some, offsets-end}
 use Rattle.moves.proofs.Table.{move-short, listed-lawful}
 use Rattle.masks.specs.Masks.{dir_end_at}
 use Rattle.masks.proofs.Clearing.{end-inside, move-off, move-cleared}
-use borrow.Author.Rules.{rules}
 use Rattle.masks.proofs.clear_back.Goals.{After-move_at-t, After-step_from, In-To}
 use Rattle.masks.proofs.clear_back.Goals as goal
 

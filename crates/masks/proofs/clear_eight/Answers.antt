@@ -1,11 +1,8 @@
 -- `masks::clear_eight` meets its contract: the bits of the first m moves are cleared. Assumes nothing.
-use Prim.Native.Nat.{◌-◌, ◌≤◌}
 use mathlib.Core.Path.{◌≡◌, ◌∙◌}
 use native.Mathlib.Omega.{arith}
 use native.Mathlib.Numerals.{add-one}
-use Rattle.moves.specs.Table.{eight_dirs}
 use Rattle.moves.proofs.Table.{eight-listed}
-use Rattle.masks.specs.Masks.{ClearsTo}
 use Rattle.masks.proofs.Clearing.{clears-none, clears-more}
 use Rattle.masks.proofs.clear_eight.Goals as goal
 

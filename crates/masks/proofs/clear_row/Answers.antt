@@ -1,10 +1,9 @@
 -- `masks::clear_row` meets its contract: the moves to pinches before column x of the row are cleared. Assumes nothing.
-use Prim.Native.Nat.{suc, ◌+◌, ◌-◌, ◌*◌, ◌≤◌}
+use Prim.Native.Nat.{suc, ◌+◌, ◌*◌}
 use mathlib.Core.Path.{◌≡◌, sym, ap, ◌∙◌}
 use native.Mathlib.Omega.{arith}
 use native.Mathlib.Numerals.{add-one}
-use Rattle.floor.specs.Floor.{floor_of, number}
-use Rattle.masks.specs.Masks.{Cleared}
+use Rattle.floor.specs.Floor.{number}
 use Rattle.masks.proofs.clear_row.Goals as goal
 
 pub overflow_add-x-end : goal.overflow_add-x-end

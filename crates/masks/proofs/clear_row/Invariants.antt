@@ -1,7 +1,4 @@
-use Prim.Native.Nat.{suc, ◌+◌, ◌-◌, ◌*◌, ◌≤◌}
-use mathlib.Core.Path.{◌≡◌, sym, ap, ◌∙◌}
-use native.Mathlib.Omega.{arith}
-use native.Mathlib.Numerals.{add-one}
+use Prim.Native.Nat.{◌+◌, ◌≤◌}
 use Rattle.floor.specs.Floor.{floor_of, number}
 use Rattle.masks.specs.Masks.{Cleared}
 use Rattle.masks.proofs.clear_row.Given as goal

@@ -1,7 +1,6 @@
 -- `masks::clear_to` meets its contract: by the number of directions the table is the sixteen or the eight. Assumes
 -- nothing.
 use Rattle.moves.proofs.Table.{table-sixteen, table-eight}
-use borrow.Author.Rules.{rules}
 use Rattle.masks.proofs.clear_to.Goals as goal
 
 pub returns-then-dirs-eq16 : goal.returns-then-dirs-eq16

@@ -8,7 +8,6 @@ use Rattle.moves.specs.Cells.{centre}
 use Rattle.moves.proofs.Signs.{back}
 use Rattle.masks.specs.Windows.{start_of}
 use Rattle.masks.proofs.Windows.{start-centre, open-window}
-use borrow.Author.Rules.{rules}
 use Rattle.masks.proofs.dir_open.Goals.{After-start_of-2}
 use Rattle.masks.proofs.dir_open.Goals as goal
 

@@ -1,6 +1,5 @@
 -- `masks::dir_where` meets its contract: a bit of a direction is below 2^32. Assumes nothing.
 use Rattle.masks.proofs.Windows.{dir-shifted}
-use borrow.Author.Rules.{rules}
 use Rattle.masks.proofs.dir_where.Goals as goal
 
 pub returns-then-held : goal.returns-then-held

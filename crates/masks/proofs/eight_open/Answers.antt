@@ -1,12 +1,9 @@
 -- `masks::eight_open` meets its contract: the mask has the open directions of the moves before m. Assumes nothing.
-use Prim.Native.Nat.{◌-◌, ◌≤◌}
 use mathlib.Core.Path.{◌≡◌}
 use native.Mathlib.Omega.{arith}
 use native.Mathlib.Numerals.{add-one}
-use Rattle.moves.specs.Moves.{move_at}
-use Rattle.moves.specs.Table.{eight_dirs}
 use Rattle.moves.proofs.Table.{listed-lawful, eight-listed}
-use Rattle.masks.proofs.Windows.{Gathered, gathered_none, gathered-all, open_by, move_needs, gathered-open}
+use Rattle.masks.proofs.Windows.{gathered_none, gathered-all, move_needs, gathered-open}
 use Rattle.masks.proofs.eight_open.Goals as goal
 
 pub loop-m-init : goal.loop-m-init
@@ -24,14 +21,13 @@ dir_open-mask-requires c =
     (n.0, n.1, c.dir_at.ensures.1, c.requires)
 
 pub loop-m-preserved : goal.loop-m-preserved
-loop-m-preserved c =
-    (
-      rw add-one
-          (gathered-open eight-listed c.loop-m.m (omega arith) c.move_at-t.ensures c.args.b
-          c.loop-m.invariant.0
-          c.dir_at.ensures.0 c.dir_open-mask.ensures),
-      omega arith,
-    )
+loop-m-preserved c = (
+  rw add-one
+      (gathered-open eight-listed c.loop-m.m (omega arith) c.move_at-t.ensures c.args.b
+      c.loop-m.invariant.0
+      c.dir_at.ensures.0 c.dir_open-mask.ensures),
+  omega arith,
+)
 
 pub returns : goal.returns
 returns c =

@@ -1,11 +1,7 @@
-use Prim.Native.Nat.{suc, ◌+◌, ◌-◌, ◌*◌, ◌≤◌}
-use mathlib.Core.Path.{◌≡◌, sym, ap, ◌∙◌}
-use native.Mathlib.Omega.{arith}
-use native.Mathlib.Numerals.{add-one}
+use Prim.Native.Nat.{suc, ◌+◌, ◌-◌, ◌≤◌}
 use Rattle.floor.specs.Floor.{floor_of, number}
 use Rattle.masks.specs.Masks.{LeavingTo}
 use Rattle.masks.specs.Windows.{WindowRow}
-use Rattle.masks.proofs.Masks.{leaving-none, leaving-fewer}
 use Rattle.masks.proofs.fill_leaving.Given as goal
 
 -- `masks::fill_leaving` meets its contract: the masks of the rows before y are stored, and `above` and `here` are the

@@ -1,12 +1,10 @@
 -- `masks::fill_masks` meets its contract: the masks of the moves that leave the vertices are stored, and then the moves
 -- to pinches of the rows before y are cleared. Assumes nothing.
-use Prim.Native.Nat.{suc, ◌+◌, ◌-◌, ◌*◌, ◌≤◌}
+use Prim.Native.Nat.{suc, ◌*◌}
 use mathlib.Core.Path.{◌≡◌, sym, ap, ◌∙◌}
 use native.Mathlib.Omega.{arith}
 use Rattle.floor.specs.Floor.{floor_of, number}
-use Rattle.masks.specs.Masks.{Cleared}
 use Rattle.masks.proofs.Clearing.{cleared-none, cleared-all}
-use borrow.Author.Rules.{rules}
 use Rattle.masks.proofs.fill_masks.Goals as goal
 
 pub fill_leaving-requires : goal.fill_leaving-requires

@@ -1,10 +1,6 @@
-use Prim.Native.Nat.{suc, ◌+◌, ◌-◌, ◌*◌, ◌≤◌}
-use mathlib.Core.Path.{◌≡◌, sym, ap, ◌∙◌}
-use native.Mathlib.Omega.{arith}
+use Prim.Native.Nat.{◌+◌, ◌≤◌}
 use Rattle.floor.specs.Floor.{floor_of, number}
 use Rattle.masks.specs.Masks.{Cleared}
-use Rattle.masks.proofs.Clearing.{cleared-none, cleared-all}
-use borrow.Author.Rules.{rules}
 use Rattle.masks.proofs.fill_masks.Given as goal
 
 -- `masks::fill_masks` meets its contract: the masks of the moves that leave the vertices are stored, and then the moves

@@ -1,18 +1,15 @@
 -- `masks::join_line` meets its contract: the masks of the vertices before column x of the row are made, the rest of the
 -- line is as it was, and `before` is the mask of the window on the left of that vertex. Assumes nothing.
-use Prim.Native.Nat.{ℕ, suc, ◌+◌, ◌-◌, ◌≤◌}
+use Prim.Native.Nat.{suc, ◌+◌, ◌-◌}
 use mathlib.Core.Path.{◌≡◌, refl, sym, ap, ◌∙◌}
 use native.Mathlib.Omega.{arith}
 use native.Mathlib.Numerals.{add-one}
 use lib.ListN.{length-set, get_or}
 use lib.Seq.{get_or-set_other}
 use Rattle.floor.specs.Floor.{floor_of}
-use Rattle.moves.specs.Table.{sixteen_dirs}
-use Rattle.masks.specs.Masks.{LeavingRow}
 use Rattle.masks.specs.Windows.{window_at}
 use Rattle.masks.proofs.Masks.{row-none, row_more}
 use Rattle.masks.proofs.Windows.{past-right, line-leaving}
-use borrow.Author.Rules.{rules}
 use Rattle.masks.proofs.join_line.Goals as goal
 
 pub bounds-line-0 : goal.bounds-line-0

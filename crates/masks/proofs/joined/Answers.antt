@@ -1,5 +1,4 @@
 -- `masks::joined` meets its contract: the constants are those of `joined_mask`. Assumes nothing.
-use borrow.Author.Rules.{rules}
 use Rattle.masks.proofs.joined.Goals as goal
 
 pub returns : goal.returns

@@ -1,17 +1,14 @@
 -- `masks::joined_row` meets its contract: the masks of the vertices before column x of the row are made, and `before`
 -- is that of the window on the left of that vertex. Assumes nothing.
-use Prim.Native.Nat.{suc, ◌-◌, ◌≤◌}
+use Prim.Native.Nat.{suc, ◌-◌}
 use mathlib.Core.Path.{◌≡◌, refl, ap, ◌∙◌}
 use native.Mathlib.Omega.{arith}
 use native.Mathlib.Numerals.{add-one}
 use lib.ListN.{get_or}
 use Rattle.floor.specs.Floor.{floor_of}
-use Rattle.moves.specs.Table.{sixteen_dirs}
-use Rattle.masks.specs.Masks.{LeavingRow}
 use Rattle.masks.specs.Windows.{window_at}
 use Rattle.masks.proofs.Masks.{row-none, row_more}
 use Rattle.masks.proofs.Windows.{past-right, line-leaving}
-use borrow.Author.Rules.{rules}
 use Rattle.masks.proofs.joined_row.Goals as goal
 
 pub loop-x-init : goal.loop-x-init

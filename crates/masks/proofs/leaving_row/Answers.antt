@@ -2,7 +2,6 @@
 -- them goes two columns or rows. Assumes nothing.
 use native.Mathlib.Numerals.{add-one}
 use Rattle.masks.proofs.Windows.{listed-sixteen, listed-unit, unit-rows}
-use borrow.Author.Rules.{rules}
 use Rattle.masks.proofs.leaving_row.Goals as goal
 
 pub returns-then-dirs-ne16 : goal.returns-then-dirs-ne16

@@ -7,7 +7,6 @@ use Rattle.basics.specs.Bounded.{pick}
 use Rattle.floor.specs.Floor.{floor_of, blocked}
 use Rattle.masks.specs.Windows.{pair_at}
 use Rattle.masks.proofs.Windows.{pair_small}
-use borrow.Author.Rules.{rules}
 use Rattle.masks.proofs.pair_at.Goals.{After-bit_where-2}
 use Rattle.masks.proofs.pair_at.Goals as goal
 

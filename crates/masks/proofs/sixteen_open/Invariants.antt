@@ -1,11 +1,7 @@
 use Prim.Native.Nat.{◌-◌, ◌≤◌}
-use mathlib.Core.Path.{◌≡◌}
-use native.Mathlib.Omega.{arith}
-use native.Mathlib.Numerals.{add-one}
 use Rattle.moves.specs.Moves.{move_at}
 use Rattle.moves.specs.Table.{sixteen_dirs}
-use Rattle.moves.proofs.Table.{listed-lawful, sixteen-listed}
-use Rattle.masks.proofs.Windows.{Gathered, gathered_none, gathered-all, open_by, move_needs, gathered-open}
+use Rattle.masks.proofs.Windows.{Gathered, open_by}
 use Rattle.masks.proofs.sixteen_open.Given as goal
 
 -- `masks::sixteen_open` meets its contract: the mask has the open directions of the moves before m. Assumes nothing.

@@ -4,7 +4,6 @@ use mathlib.Core.Path.{◌≡◌}
 use native.Mathlib.Omega.{arith}
 use Rattle.moves.specs.Steps.{up, down}
 use Rattle.moves.proofs.Signs.{parts-back, up_le, down_le}
-use borrow.Author.Rules.{rules}
 use Rattle.masks.proofs.start_of.Goals.{After-parts_of-o}
 use Rattle.masks.proofs.start_of.Goals as goal
 

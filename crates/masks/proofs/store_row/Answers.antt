@@ -1,15 +1,13 @@
 -- `masks::store_row` meets its contract: the masks of the vertices before column x of the row are stored. Assumes
 -- nothing.
-use Prim.Native.Nat.{suc, ◌+◌, ◌-◌, ◌*◌, ◌≤◌, ◌<◌}
+use Prim.Native.Nat.{suc, ◌+◌, ◌*◌, ◌≤◌, ◌<◌}
 use mathlib.Core.Path.{◌≡◌, sym, ap, ◌∙◌}
 use native.Mathlib.Omega.{arith}
-use lib.ListN.{length, length-set, get_or}
+use lib.ListN.{length-set, get_or}
 use native.Mathlib.Nat.{mul-le-mul}
 use native.Mathlib.Numerals.{add-one}
-use Rattle.floor.specs.Floor.{floor_of, vertices, number}
+use Rattle.floor.specs.Floor.{vertices, number}
 use Rattle.floor.proofs.Numbers.{number_lt}
-use Rattle.moves.specs.declared.Directions.{Directions}
-use Rattle.masks.specs.Masks.{LeavingRow, LeavingTo}
 use Rattle.masks.proofs.Masks.{leaving-more, leaving-fewer}
 use Rattle.masks.proofs.store_row.Goals.{At-loop-x, Start}
 use Rattle.masks.proofs.store_row.Goals as goal

@@ -6,7 +6,6 @@ use Rattle.basics.specs.Bits.{bit}
 use Rattle.moves.proofs.Table.{table-sixteen, table-eight, table-within}
 use Rattle.masks.specs.Windows.{pinch_of}
 use Rattle.masks.proofs.Windows.{pinch-window, pinch-alone, window-within}
-use borrow.Author.Rules.{rules}
 use Rattle.masks.proofs.window_mask.Goals.{Else-is_pinch}
 use Rattle.masks.proofs.window_mask.Goals as goal
 

@@ -1,11 +1,8 @@
 -- `masks::window_masks` meets its contract: the masks of the windows before b are made. Assumes nothing.
-use Prim.Native.Nat.{◌-◌, ◌≤◌}
 use mathlib.Core.Path.{◌≡◌, refl}
 use native.Mathlib.Omega.{arith}
 use native.Mathlib.Numerals.{add-one}
-use Rattle.masks.specs.Windows.{WindowsTo}
 use Rattle.masks.proofs.Windows.{windows-none, windows-more}
-use borrow.Author.Rules.{rules}
 use Rattle.masks.proofs.window_masks.Goals as goal
 
 pub loop-b-init : goal.loop-b-init

@@ -1,10 +1,5 @@
 use Prim.Native.Nat.{◌-◌, ◌≤◌}
-use mathlib.Core.Path.{◌≡◌, refl}
-use native.Mathlib.Omega.{arith}
-use native.Mathlib.Numerals.{add-one}
 use Rattle.masks.specs.Windows.{WindowsTo}
-use Rattle.masks.proofs.Windows.{windows-none, windows-more}
-use borrow.Author.Rules.{rules}
 use Rattle.masks.proofs.window_masks.Given as goal
 
 -- `masks::window_masks` meets its contract: the masks of the windows before b are made. Assumes nothing.

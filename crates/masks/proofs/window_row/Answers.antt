@@ -1,11 +1,11 @@
 -- `masks::window_row` meets its contract: the windows of the vertices before column x of the line are read, and `left`
 -- has the two cells on the left of that one. Assumes nothing.
-use Prim.Native.Nat.{suc, ◌+◌, ◌-◌, ◌*◌, ◌≤◌}
+use Prim.Native.Nat.{suc, ◌+◌, ◌*◌}
 use mathlib.Core.Path.{◌≡◌, refl, ap, ap₂, ◌∙◌}
 use native.Mathlib.Omega.{arith}
 use native.Mathlib.Numerals.{add-one}
 use Rattle.floor.specs.Floor.{floor_of}
-use Rattle.masks.specs.Windows.{pair_at, window_at, WindowRow}
+use Rattle.masks.specs.Windows.{pair_at, window_at}
 use Rattle.masks.proofs.Windows.{read_none, read_more}
 use Rattle.masks.proofs.window_row.Goals as goal
 

@@ -1,10 +1,7 @@
-use Prim.Native.Nat.{suc, ◌+◌, ◌-◌, ◌*◌, ◌≤◌}
-use mathlib.Core.Path.{◌≡◌, refl, ap, ap₂, ◌∙◌}
-use native.Mathlib.Omega.{arith}
-use native.Mathlib.Numerals.{add-one}
+use Prim.Native.Nat.{◌+◌, ◌≤◌}
+use mathlib.Core.Path.{◌≡◌}
 use Rattle.floor.specs.Floor.{floor_of}
-use Rattle.masks.specs.Windows.{pair_at, window_at, WindowRow}
-use Rattle.masks.proofs.Windows.{read_none, read_more}
+use Rattle.masks.specs.Windows.{pair_at, WindowRow}
 use Rattle.masks.proofs.window_row.Given as goal
 
 -- `masks::window_row` meets its contract: the windows of the vertices before column x of the line are read, and `left`

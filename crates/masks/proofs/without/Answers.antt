@@ -4,7 +4,6 @@ use lib.Bits.{bit_and, bit_xor}
 use Rattle.basics.specs.Bits.{bit}
 use Rattle.basics.proofs.Bits.{without-bit}
 use Rattle.masks.proofs.Windows.{dir-shifted}
-use borrow.Author.Rules.{rules}
 use Rattle.masks.proofs.without.Goals as goal
 
 pub returns : goal.returns

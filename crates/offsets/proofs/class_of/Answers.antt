@@ -1,7 +1,6 @@
 -- `offsets::class_of` meets its contract: the direction and the cost of the move, where it is in the first quarter.
 -- Assumes nothing.
 use mathlib.Core.Path.{ap₂, ◌∙◌}
-use borrow.Author.Rules.{rules}
 use borrow.Author.Tests.{lt-ltb, le-ltb}
 use native.Mathlib.Omega.{arith}
 use Prim.Native.Nat.{◌/◌}

@@ -3,7 +3,6 @@ use mathlib.Core.Path.{◌≡◌}
 use mathlib.Core.Bool.{true}
 use Prim.Native.Nat.{ℕ, ◌<◌}
 use native.Mathlib.Omega.{arith}
-use borrow.Author.Rules.{rules}
 use Rattle.moves.specs.Table.{lawful_dirs}
 use Rattle.moves.proofs.Table.{listed-lawful}
 use Rattle.offsets.proofs.Classes.{four-moves, middle-low, listed-classes, listed_same}

@@ -1,10 +1,8 @@
 -- `offsets::eight_shifts` meets its contract: the moves before m have their shifts. Assumes nothing.
-use Prim.Native.Nat.{◌-◌, ◌≤◌}
 use mathlib.Core.Path.{◌≡◌, refl}
 use native.Mathlib.Omega.{arith}
-use Rattle.moves.specs.Table.{eight_dirs}
 use Rattle.moves.proofs.Table.{listed-lawful, eight-listed}
-use Rattle.offsets.proofs.Masked.{ShiftsTo, shifts_none, shifts-more, shifts-all}
+use Rattle.offsets.proofs.Masked.{shifts_none, shifts-more, shifts-all}
 use Rattle.offsets.proofs.eight_shifts.Goals as goal
 
 pub loop-m-init : goal.loop-m-init
@@ -23,13 +21,12 @@ pub bounds-shifts-k : goal.bounds-shifts-k
 bounds-shifts-k c = c.dir_at-k.ensures.1
 
 pub loop-m-preserved : goal.loop-m-preserved
-loop-m-preserved c =
-    (
-      shifts-more c.shift_of.result (listed-lawful eight-listed) c.loop-m.invariant.0 (omega arith)
-          c.dir_at-k.ensures.0
-          c.shift_of.ensures,
-      omega arith,
-    )
+loop-m-preserved c = (
+  shifts-more c.shift_of.result (listed-lawful eight-listed) c.loop-m.invariant.0 (omega arith)
+      c.dir_at-k.ensures.0
+      c.shift_of.ensures,
+  omega arith,
+)
 
 pub returns : goal.returns
 returns c =

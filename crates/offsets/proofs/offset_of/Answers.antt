@@ -6,7 +6,6 @@ use Rattle.offsets.specs.Offsets.{offset_of}
 use Rattle.moves.proofs.Signs.{back}
 use Rattle.moves.proofs.Table.{move-short}
 use Rattle.offsets.proofs.Masked.{Composed, composed}
-use borrow.Author.Rules.{rules}
 use Rattle.offsets.proofs.offset_of.Goals.{After-move_at-t, After-parts_of-x, After-parts_of-y}
 use Rattle.offsets.proofs.offset_of.Goals as goal
 

@@ -7,7 +7,6 @@ use borrow.Author.Tests.{eq-eqb, ne_eqb}
 use Rattle.basics.specs.Bits.{bit}
 use Rattle.offsets.specs.declared.OpenEnd.TheVariants.{At}
 use Rattle.offsets.specs.Offsets.{end_of}
-use borrow.Author.Rules.{rules}
 use Rattle.offsets.proofs.open_end.Goals.{Else-mask-k-eq1, Then-mask-k-eq1}
 use Rattle.offsets.proofs.open_end.Goals as goal
 

@@ -1,12 +1,11 @@
 -- `offsets::shift_of` meets its contract: neither part of an offset is above 258, which is below SHIFT_BASE. Assumes
 -- nothing.
-use mathlib.Core.Path.{◌≡◌, ap}
+use mathlib.Core.Path.{ap}
 use native.Mathlib.Omega.{arith}
 use Rattle.moves.specs.declared.Offset.{Offset}
 use Rattle.moves.specs.Moves.{move_at}
 use Rattle.moves.proofs.Table.{lawful-move}
 use Rattle.offsets.proofs.Masked.{MoveOffset, move-offset}
-use borrow.Author.Rules.{rules}
 use Rattle.offsets.proofs.shift_of.Goals.{After-offset_of-by}
 use Rattle.offsets.proofs.shift_of.Goals as goal
 

@@ -2,7 +2,6 @@
 -- nothing.
 use Rattle.moves.proofs.Table.{table-sixteen, table-eight, table-within}
 use Rattle.offsets.proofs.Masked.{shifts-within}
-use borrow.Author.Rules.{rules}
 use Rattle.offsets.proofs.shifts_of.Goals as goal
 
 pub returns-then-dirs-eq16 : goal.returns-then-dirs-eq16

@@ -1,9 +1,6 @@
 use Prim.Native.Nat.{◌-◌, ◌≤◌}
-use mathlib.Core.Path.{◌≡◌, refl}
-use native.Mathlib.Omega.{arith}
 use Rattle.moves.specs.Table.{sixteen_dirs}
-use Rattle.moves.proofs.Table.{listed-lawful, sixteen-listed}
-use Rattle.offsets.proofs.Masked.{ShiftsTo, shifts_none, shifts-more, shifts-all}
+use Rattle.offsets.proofs.Masked.{ShiftsTo}
 use Rattle.offsets.proofs.sixteen_shifts.Given as goal
 
 -- `offsets::sixteen_shifts` meets its contract: the moves before m have their shifts. Assumes nothing.
