@@ -5,6 +5,7 @@
 // direction, by how much it changes a vertex number (`offsets::shifts_of`); and a mask of the vertex's moves, the open
 // ones or those that leave it. The shifts are lent, since an array passed by value would be copied at each vertex.
 #![tactic(auto)]
+
 ghost use Rattle.std.specs.Prelude.{◌≡◌, ◌&&◌, true, false, ◌<◌, ◌≤◌, ◌^◌, min, length};
 ghost use Rattle.std.proofs.Math.Option.{some};
 ghost use Rattle.basics.specs.Bounded.{pick};

@@ -1,9 +1,6 @@
 -- `neighbours::any_on_way` meets its contract: a sum of 0 means that no test held. Assumes nothing.
-use Prim.Native.Nat.{◌-◌, ◌<◌}
-use native.Mathlib.Omega.{arith}
-use borrow.Author.Rules.{rules}
-use lib.ListN.{length}
-use Rattle.neighbours.proofs.Choice.{OffScan, off-start, off-more, off-end}
+use Prim.Native.Nat.{◌-◌}
+use Rattle.neighbours.proofs.Choice.{OffScan}
 use Rattle.neighbours.proofs.any_on_way.Given as goal
 
 -- `neighbours::any_on_way` meets its contract: a sum of 0 means that no test held. Assumes nothing.

@@ -1,8 +1,6 @@
 -- `neighbours::cost_right` meets its contract: the least of the classes decides. Assumes nothing.
 use mathlib.Core.Path.{◌≡◌, ◌∙◌}
-use mathlib.Core.Logic.{⊎_elim}
 use native.Mathlib.Omega.{arith}
-use borrow.Author.Rules.{rules}
 use Rattle.paths.specs.Local.{entry}
 use Rattle.neighbours.specs.Least.{least_at}
 use Rattle.neighbours.proofs.Least.{by_two, by-four, right-found}
@@ -24,9 +22,9 @@ least : (c : Joined-classes-ne0)
 least c =
     let a = c.args in
     elim c.if-classes-ne0.branch [
-      then-classes-ne0 w ↦ w.least-is ∙ by-four a.shifts.now a.classes a.mask (entry a.d.now) a.v w.if-classes-ne0.true
+      | then-classes-ne0 w ↦ w.least-is ∙ by-four a.shifts.now a.classes a.mask (entry a.d.now) a.v w.if-classes-ne0.true
           c.least_two-least.ensures w.least_two.ensures w.min-least.ensures
-    | else-classes-ne0 w ↦ w.least-is ∙ by_two a.shifts.now a.classes a.mask (entry a.d.now) a.v w.if-classes-ne0.false
+      | else-classes-ne0 w ↦ w.least-is ∙ by_two a.shifts.now a.classes a.mask (entry a.d.now) a.v w.if-classes-ne0.false
           c.least_two-least.ensures
     ]
 

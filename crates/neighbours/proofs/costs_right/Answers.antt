@@ -1,11 +1,9 @@
 -- `neighbours::costs_right` meets its contract, cost by cost. Assumes nothing.
 use Prim.Native.Nat.{ℕ}
 use mathlib.Core.Path.{◌≡◌, sym, ◌∙◌}
-use mathlib.Core.Logic.{⊎_elim}
 use mathlib.Core.List.{List}
 use native.Mathlib.Omega.{arith}
 use borrow.Author.Tests.{not-true, not-false}
-use borrow.Author.Rules.{rules}
 use Rattle.paths.specs.Local.{entry}
 use Rattle.neighbours.specs.Least.{least_first, least_at, right_least}
 use Rattle.neighbours.proofs.Least.{min-found, by_two, by-four, right-found}
@@ -65,9 +63,9 @@ d-least c =
     let a = c.args in
     let first = d-first (goal.at.Joined-classes-ne0 c).After-min-e_least in
     elim c.if-classes-ne0.branch [
-      then-classes-ne0 w ↦ w.d_least-is ∙ by-four a.shifts.now a.classes a.mask (entry a.d.now) a.v w.if-classes-ne0.true first
+      | then-classes-ne0 w ↦ w.d_least-is ∙ by-four a.shifts.now a.classes a.mask (entry a.d.now) a.v w.if-classes-ne0.true first
           (min-found w.least_by-d_third.ensures w.least_by-d_fourth.ensures w.min.ensures) w.min-d_least-then-classes-ne0.ensures
-    | else-classes-ne0 w ↦ w.d_least-is ∙ by_two a.shifts.now a.classes a.mask (entry a.d.now) a.v w.if-classes-ne0.false first
+      | else-classes-ne0 w ↦ w.d_least-is ∙ by_two a.shifts.now a.classes a.mask (entry a.d.now) a.v w.if-classes-ne0.false first
     ]
 
 e-least : (c : Joined-classes-ne0) → c.if-classes-ne0.e_least ≡ least (goal.at.Joined-classes-ne0 c).After-min-e_least c.args.e.now
@@ -75,9 +73,9 @@ e-least c =
     let a = c.args in
     let first = e-first (goal.at.Joined-classes-ne0 c).After-min-e_least in
     elim c.if-classes-ne0.branch [
-      then-classes-ne0 w ↦ w.e_least-is ∙ by-four a.shifts.now a.classes a.mask (entry a.e.now) a.v w.if-classes-ne0.true first
+      | then-classes-ne0 w ↦ w.e_least-is ∙ by-four a.shifts.now a.classes a.mask (entry a.e.now) a.v w.if-classes-ne0.true first
           (min-found w.least_by-e_third.ensures w.least_by-e_fourth.ensures w.min-then-classes-ne0.ensures) w.min-e_least-then-classes-ne0.ensures
-    | else-classes-ne0 w ↦ w.e_least-is ∙ by_two a.shifts.now a.classes a.mask (entry a.e.now) a.v w.if-classes-ne0.false first
+      | else-classes-ne0 w ↦ w.e_least-is ∙ by_two a.shifts.now a.classes a.mask (entry a.e.now) a.v w.if-classes-ne0.false first
     ]
 
 -- the test of d(v), as the code answers it

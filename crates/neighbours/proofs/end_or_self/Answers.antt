@@ -1,5 +1,4 @@
 -- `neighbours::end_or_self` meets its contract: the far end by the mask, or the vertex itself. Assumes nothing.
-use borrow.Author.Rules.{rules}
 use native.Mathlib.Omega.{arith}
 use mathlib.Core.Path.{sym, ap, ◌∙◌}
 use Rattle.neighbours.specs.Least.{end_or}

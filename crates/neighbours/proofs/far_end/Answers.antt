@@ -2,7 +2,6 @@
 use mathlib.Core.Path.{ap, ◌∙◌}
 use Prim.Native.Nat.{ℕ}
 use Rattle.offsets.specs.Offsets.{dir_end, end_of}
-use borrow.Author.Rules.{rules}
 use Rattle.neighbours.proofs.far_end.Goals as goal
 
 pub open_end-requires : goal.open_end-requires

@@ -2,7 +2,6 @@
 use mathlib.Core.Path.{◌∙◌}
 use native.Mathlib.Omega.{arith}
 use Rattle.neighbours.proofs.Choice.{follows-not, follows-adds-up}
-use borrow.Author.Rules.{rules}
 use Rattle.neighbours.proofs.follows.Goals as goal
 
 pub returns-then-cost_at-c : goal.returns-then-cost_at-c

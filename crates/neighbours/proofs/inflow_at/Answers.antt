@@ -1,14 +1,12 @@
 -- `neighbours::inflow_at` meets its contract: the sum is what the moves passed add, and fits 64 bits. Assumes nothing.
-use Prim.Native.Nat.{◌-◌, ◌<◌}
+use Prim.Native.Nat.{◌<◌}
 use mathlib.Core.Path.{◌≡◌, refl, sym, ◌∙◌}
 use mathlib.Core.Option.{some}
 use native.Mathlib.Omega.{arith}
 use lib.ListN.{length}
-use Rattle.paths.specs.Local.{entry}
-use Rattle.neighbours.specs.Reading.{mask_graph, read_step}
+use Rattle.neighbours.specs.Reading.{read_step}
 use Rattle.neighbours.proofs.Steps.{end-shut, end-at}
-use Rattle.neighbours.proofs.Sums.{SumScan, sum-start, sum-off, sum-slack, sum-tight, sum-passes, sum-end}
-use borrow.Author.Rules.{rules}
+use Rattle.neighbours.proofs.Sums.{sum-start, sum-off, sum-slack, sum-tight, sum-passes, sum-end}
 use Rattle.neighbours.proofs.inflow_at.Goals.{In-At, In-loop-m}
 use Rattle.neighbours.proofs.inflow_at.Goals as goal
 
@@ -38,12 +36,11 @@ pub loop-m-smaller-in_default : goal.loop-m-smaller-in_default
 loop-m-smaller-in_default c = let l = turn (goal.at.loop-m-smaller-in_default c).In-loop-m in omega arith
 
 pub loop-m-preserved-in_default : goal.loop-m-preserved-in_default
-loop-m-preserved-in_default c =
-    (
-      c.loop-m.invariant.0,
-      sum-off c.loop-m.invariant.1 (turn (goal.at.loop-m-preserved-in_default c).In-loop-m) (end-shut _
-          (sym c.far_end.ensures ∙ c.in_default.is)),
-    )
+loop-m-preserved-in_default c = (
+  c.loop-m.invariant.0,
+  sum-off c.loop-m.invariant.1 (turn (goal.at.loop-m-preserved-in_default c).In-loop-m) (end-shut _
+      (sym c.far_end.ensures ∙ c.in_default.is)),
+)
 
 pub cost_at-requires : goal.cost_at-requires
 cost_at-requires c = inside c
@@ -55,12 +52,11 @@ pub loop-m-smaller-then-cost_at-move_cost : goal.loop-m-smaller-then-cost_at-mov
 loop-m-smaller-then-cost_at-move_cost c = let l = turn (goal.at.loop-m-smaller-then-cost_at-move_cost c).In-loop-m in omega arith
 
 pub loop-m-preserved-then-cost_at-move_cost : goal.loop-m-preserved-then-cost_at-move_cost
-loop-m-preserved-then-cost_at-move_cost c =
-    (
-      c.loop-m.invariant.0,
-      sum-slack c.in-At.w.0 c.loop-m.invariant.1 (turn (goal.at.loop-m-preserved-then-cost_at-move_cost c).In-loop-m) (goes (goal.at.loop-m-preserved-then-cost_at-move_cost c).In-At)
-          (λ e. omega arith),
-    )
+loop-m-preserved-then-cost_at-move_cost c = (
+  c.loop-m.invariant.0,
+  sum-slack c.in-At.w.0 c.loop-m.invariant.1 (turn (goal.at.loop-m-preserved-then-cost_at-move_cost c).In-loop-m) (goes (goal.at.loop-m-preserved-then-cost_at-move_cost c).In-At)
+      (λ e. omega arith),
+)
 
 pub offset_bounds-f-at : goal.offset_bounds-f-at
 offset_bounds-f-at c = omega (arith, inside (goal.at.offset_bounds-f-at c).In-At, c.requires.1)
@@ -77,11 +73,10 @@ pub loop-m-smaller : goal.loop-m-smaller
 loop-m-smaller c = let l = turn (goal.at.loop-m-smaller c).In-loop-m in omega arith
 
 pub loop-m-preserved : goal.loop-m-preserved
-loop-m-preserved c =
-    (
-      c.loop-m.invariant.0,
-      sum-tight c.in-At.w.0 c.loop-m.invariant.1 (turn (goal.at.loop-m-preserved c).In-loop-m) (goes (goal.at.loop-m-preserved c).In-At) (omega arith) (omega arith),
-    )
+loop-m-preserved c = (
+  c.loop-m.invariant.0,
+  sum-tight c.in-At.w.0 c.loop-m.invariant.1 (turn (goal.at.loop-m-preserved c).In-loop-m) (goes (goal.at.loop-m-preserved c).In-At) (omega arith) (omega arith),
+)
 
 pub returns : goal.returns
 returns c = sum-end c.loop-m.invariant.1 (omega (arith, c.loop-m.invariant.0))

@@ -1,14 +1,10 @@
 -- `neighbours::inflow_at` meets its contract: the sum is what the moves passed add, and fits 64 bits. Assumes nothing.
-use Prim.Native.Nat.{◌-◌, ◌<◌}
-use mathlib.Core.Path.{◌≡◌, refl, sym, ◌∙◌}
-use mathlib.Core.Option.{some}
-use native.Mathlib.Omega.{arith}
+use Prim.Native.Nat.{◌-◌}
+use mathlib.Core.Path.{◌≡◌}
 use lib.ListN.{length}
 use Rattle.paths.specs.Local.{entry}
-use Rattle.neighbours.specs.Reading.{mask_graph, read_step}
-use Rattle.neighbours.proofs.Steps.{end-shut, end-at}
-use Rattle.neighbours.proofs.Sums.{SumScan, sum-start, sum-off, sum-slack, sum-tight, sum-passes, sum-end}
-use borrow.Author.Rules.{rules}
+use Rattle.neighbours.specs.Reading.{mask_graph}
+use Rattle.neighbours.proofs.Sums.{SumScan}
 use Rattle.neighbours.proofs.inflow_at.Given as goal
 
 -- `neighbours::inflow_at` meets its contract: the sum is what the moves passed add, and fits 64 bits. Assumes nothing.

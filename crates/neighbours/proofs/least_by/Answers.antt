@@ -1,13 +1,10 @@
 -- `neighbours::least_by` meets its contract: the least of the far ends passed. Assumes nothing.
-use Prim.Native.Nat.{ℕ, ◌+◌, ◌-◌, ◌≤◌, min}
+use Prim.Native.Nat.{◌+◌, min}
 use mathlib.Core.Path.{◌≡◌, refl, ap, ap₂, ◌∙◌}
-use mathlib.Core.List.{List}
 use native.Mathlib.Omega.{arith}
 use native.Mathlib.Numerals.{add-one}
 use borrow.Author.Tests.{eq-eqb, ne_eqb}
-use borrow.Author.Rules.{rules}
 use lib.ListN.{length}
-use Rattle.offsets.specs.declared.Class.{Class}
 use Rattle.offsets.specs.Classes.{class_dir}
 use Rattle.paths.specs.Local.{entry}
 use Rattle.neighbours.specs.Least.{least_of, end_at, least_by, DirLent}
@@ -47,12 +44,11 @@ cost_at-requires c = rw (end_is c) (lent (goal.at.cost_at-requires c).In-loop-j)
 
 pub loop-j-preserved : goal.loop-j-preserved
 unfolding least_of
-loop-j-preserved c =
-    (
-      rw add-one (c.min-least.ensures
-          ∙ ap₂ min c.loop-j.invariant.0 (c.cost_at.ensures.0 ∙ ap (entry c.args.d.now) (end_is (goal.at.loop-j-preserved c).After-end_or_self-w))),
-      omega arith,
-    )
+loop-j-preserved c = (
+  rw add-one (c.min-least.ensures
+      ∙ ap₂ min c.loop-j.invariant.0 (c.cost_at.ensures.0 ∙ ap (entry c.args.d.now) (end_is (goal.at.loop-j-preserved c).After-end_or_self-w))),
+  omega arith,
+)
 
 pub overflow_add-result : goal.overflow_add-result
 overflow_add-result c =

@@ -1,5 +1,4 @@
 -- `neighbours::least_two` meets its contract: the lesser of what the two classes give. Assumes nothing.
-use borrow.Author.Rules.{rules}
 use Rattle.neighbours.proofs.Least.{min-found}
 use Rattle.neighbours.proofs.least_two.Goals as goal
 

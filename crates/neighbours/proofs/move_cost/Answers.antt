@@ -1,6 +1,5 @@
 -- `neighbours::move_cost` meets its contract: the cost is that of the table. Assumes nothing.
 use mathlib.Core.Path.{◌∙◌}
-use borrow.Author.Rules.{rules}
 use Rattle.neighbours.proofs.move_cost.Goals as goal
 
 pub returns : goal.returns

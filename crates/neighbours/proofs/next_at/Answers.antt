@@ -1,5 +1,5 @@
 -- `neighbours::next_at` meets its contract: of the candidates passed the best is kept, with its count. Assumes nothing.
-use Prim.Native.Nat.{ℕ, ◌+◌, ◌-◌, ◌^◌, ◌<◌}
+use Prim.Native.Nat.{ℕ, ◌+◌, ◌^◌, ◌<◌}
 use mathlib.Core.Path.{◌≡◌, refl, sym, ap, ◌∙◌}
 use mathlib.Core.Option.{some}
 use native.Mathlib.Omega.{arith}
@@ -9,11 +9,10 @@ use Rattle.moves.specs.Moves.{move_at}
 use Rattle.paths.specs.Route.{on_shortest, next_vertex}
 use Rattle.paths.specs.Local.{entry}
 use Rattle.neighbours.specs.Reading.{read_step}
-use Rattle.neighbours.specs.Choice.{candidate_of, follows_by, traversal_of}
+use Rattle.neighbours.specs.Choice.{candidate_of, follows_by}
 use Rattle.neighbours.proofs.Steps.{end-shut, end-at}
-use Rattle.neighbours.proofs.Choice.{BestScan, best-start, best-off, best-lower, best-higher, best-end}
+use Rattle.neighbours.proofs.Choice.{best-start, best-off, best-lower, best-higher, best-end}
 use Rattle.neighbours.proofs.Choice.{candidate-none, candidate-off, candidate-on}
-use borrow.Author.Rules.{rules}
 use Rattle.neighbours.proofs.next_at.Goals.{After-follows, Else-not-follows, In-At, In-loop-m}
 use Rattle.neighbours.proofs.next_at.Goals as goal
 
@@ -66,12 +65,11 @@ pub loop-m-smaller-in_default : goal.loop-m-smaller-in_default
 loop-m-smaller-in_default c = let l = turn (goal.at.loop-m-smaller-in_default c).In-loop-m in omega arith
 
 pub loop-m-preserved-in_default : goal.loop-m-preserved-in_default
-loop-m-preserved-in_default c =
-    (
-      c.loop-m.invariant.0,
-      best-off c.loop-m.invariant.1 (turn (goal.at.loop-m-preserved-in_default c).In-loop-m) (candidate-none _ _ _ _ _ (end-shut _
-          (sym c.far_end.ensures ∙ c.in_default.is))),
-    )
+loop-m-preserved-in_default c = (
+  c.loop-m.invariant.0,
+  best-off c.loop-m.invariant.1 (turn (goal.at.loop-m-preserved-in_default c).In-loop-m) (candidate-none _ _ _ _ _ (end-shut _
+      (sym c.far_end.ensures ∙ c.in_default.is))),
+)
 
 pub move_cost-requires : goal.move_cost-requires
 move_cost-requires c = (c.requires.0.readable.lawful, turn (goal.at.move_cost-requires c).In-loop-m)
@@ -85,12 +83,11 @@ pub loop-m-smaller-then-not-follows : goal.loop-m-smaller-then-not-follows
 loop-m-smaller-then-not-follows c = let l = turn (goal.at.loop-m-smaller-then-not-follows c).In-loop-m in omega arith
 
 pub loop-m-preserved-then-not-follows : goal.loop-m-preserved-then-not-follows
-loop-m-preserved-then-not-follows c =
-    (
-      c.loop-m.invariant.0,
-      best-off c.loop-m.invariant.1 (turn (goal.at.loop-m-preserved-then-not-follows c).In-loop-m)
-          (candidate-off _ _ _ _ _ _ (goes (goal.at.loop-m-preserved-then-not-follows c).In-At) (sym (follows_is (goal.at.loop-m-preserved-then-not-follows c).After-follows) ∙ not-true _ c.if-not-follows.true-raw)),
-    )
+loop-m-preserved-then-not-follows c = (
+  c.loop-m.invariant.0,
+  best-off c.loop-m.invariant.1 (turn (goal.at.loop-m-preserved-then-not-follows c).In-loop-m)
+      (candidate-off _ _ _ _ _ _ (goes (goal.at.loop-m-preserved-then-not-follows c).In-At) (sym (follows_is (goal.at.loop-m-preserved-then-not-follows c).After-follows) ∙ not-true _ c.if-not-follows.true-raw)),
+)
 
 pub traversal_at-x-requires : goal.traversal_at-x-requires
 traversal_at-x-requires c =
@@ -107,12 +104,11 @@ pub loop-m-smaller-then-x-high : goal.loop-m-smaller-then-x-high
 loop-m-smaller-then-x-high c = let l = turn (goal.at.loop-m-smaller-then-x-high c).In-loop-m in omega arith
 
 pub loop-m-preserved-then-x-high : goal.loop-m-preserved-then-x-high
-loop-m-preserved-then-x-high c =
-    (
-      c.loop-m.invariant.0,
-      best-lower c.loop-m.invariant.1 (turn (goal.at.loop-m-preserved-then-x-high c).In-loop-m) c.in-At.w.0 c.traversal_at-x.result
-          (taken (goal.at.loop-m-preserved-then-x-high c).Else-not-follows) c.traversal_at-x.ensures (omega arith),
-    )
+loop-m-preserved-then-x-high c = (
+  c.loop-m.invariant.0,
+  best-lower c.loop-m.invariant.1 (turn (goal.at.loop-m-preserved-then-x-high c).In-loop-m) c.in-At.w.0 c.traversal_at-x.result
+      (taken (goal.at.loop-m-preserved-then-x-high c).Else-not-follows) c.traversal_at-x.ensures (omega arith),
+)
 
 pub overflow_step-m-in-loop-m : goal.overflow_step-m-in-loop-m
 overflow_step-m-in-loop-m c = let h = more (goal.at.overflow_step-m-in-loop-m c).In-loop-m in omega arith
@@ -121,12 +117,11 @@ pub loop-m-smaller : goal.loop-m-smaller
 loop-m-smaller c = let l = turn (goal.at.loop-m-smaller c).In-loop-m in omega arith
 
 pub loop-m-preserved : goal.loop-m-preserved
-loop-m-preserved c =
-    (
-      c.loop-m.invariant.0,
-      best-higher c.loop-m.invariant.1 (turn (goal.at.loop-m-preserved c).In-loop-m) c.in-At.w.0 c.traversal_at-x.result
-          (taken (goal.at.loop-m-preserved c).Else-not-follows) c.traversal_at-x.ensures (omega arith),
-    )
+loop-m-preserved c = (
+  c.loop-m.invariant.0,
+  best-higher c.loop-m.invariant.1 (turn (goal.at.loop-m-preserved c).In-loop-m) c.in-At.w.0 c.traversal_at-x.result
+      (taken (goal.at.loop-m-preserved c).Else-not-follows) c.traversal_at-x.ensures (omega arith),
+)
 
 pub returns : goal.returns
 unfolding next_vertex

@@ -5,7 +5,6 @@ use mathlib.Core.Path.{ap₂, ◌∙◌}
 use lib.Dec.{eqb}
 use Rattle.paths.specs.Local.{entry}
 use Rattle.neighbours.proofs.Choice.{on_shortest-none, on_shortest-sum}
-use borrow.Author.Rules.{rules}
 use Rattle.neighbours.proofs.on_way.Goals as goal
 
 pub returns-then-d-goal : goal.returns-then-d-goal
