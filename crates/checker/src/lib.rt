@@ -1,5 +1,6 @@
 // The checker: it accepts exactly the true sheets, and has no memory to write in. `back` is the slice b of rule 5.1.
 #![tactic(auto)]
+
 mod nexts; // nexts.rt: the test of the next vertices
 mod route; // route.rt: the test of the route
 mod vertices; // vertices.rt: the tests of costs and counts

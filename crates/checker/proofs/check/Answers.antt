@@ -4,7 +4,6 @@ use Rattle.grid.specs.Grid.{job_shape}
 use Rattle.grid.specs.declared.JobShape.TheVariants.{Fit, Refused}
 use Rattle.grid.proofs.Jobs.{good-job}
 use Rattle.checker.specs.Answer.{check_answer}
-use borrow.Author.Rules.{rules}
 use Rattle.checker.proofs.check.Goals.{In-Fit}
 use Rattle.checker.proofs.check.Goals as goal
 

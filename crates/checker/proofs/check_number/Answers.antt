@@ -1,6 +1,5 @@
 -- `checker::check_number` meets its contract: each kind of sheet has its number, a refusal its own. Assumes nothing.
 use mathlib.Core.Path.{sym, ap, ◌∙◌}
-use borrow.Author.Rules.{rules}
 use Rattle.checker.specs.Answer.{check_number}
 use Rattle.checker.proofs.check_number.Goals as goal
 

@@ -2,13 +2,11 @@
 use mathlib.Core.Path.{◌∙◌}
 use mathlib.Core.Bool.{false}
 use Rattle.floor.specs.Floor.{floor_of}
-use Rattle.paths.specs.Graph.{Graph}
-use Rattle.paths.specs.Sheet.{Sheet, sheet_of}
+use Rattle.paths.specs.Sheet.{sheet_of}
 use Rattle.grid.specs.Grid.{floor_graph}
 use Rattle.checker.proofs.Exact.{no_route-reached, no_route-counted, no_route-start, no_route-vertices}
 use Rattle.checker.proofs.Exact.{vertices-uncounted}
 use Rattle.checker.proofs.CheckInput.{input-uncounted}
-use borrow.Author.Rules.{rules}
 use Rattle.checker.proofs.is_no_route.Goals as goal
 
 pub returns-then-d-goal : goal.returns-then-d-goal

@@ -9,9 +9,8 @@ use lib.ListN.{length}
 use Rattle.floor.specs.Floor.{floor_of}
 use Rattle.floor.proofs.Numbers.{vertices-le}
 use Rattle.moves.proofs.Table.{listed-lawful}
-use Rattle.paths.specs.Graph.{Graph}
 use Rattle.paths.specs.Distance.{unreachable}
-use Rattle.paths.specs.Sheet.{Sheet, sheet_of}
+use Rattle.paths.specs.Sheet.{sheet_of}
 use Rattle.paths.specs.Local.{entry}
 use Rattle.grid.specs.Grid.{floor_graph}
 use Rattle.grid.proofs.Lawful.{floor-lawful}
@@ -21,7 +20,6 @@ use Rattle.checker.proofs.Exact.{route-vertices, route-nexts, route-points, coun
 use Rattle.checker.proofs.Exact.{vertices-uncounted, nexts-alone, points-alone}
 use Rattle.checker.proofs.Leaving.{pinches-far}
 use Rattle.checker.proofs.CheckInput.{input-uncounted, input-chosen}
-use borrow.Author.Rules.{rules}
 use Rattle.checker.proofs.is_route.Goals.{After-nexts_right, After-vertices_right, Else-d-goal, Else-not-vertices_right, Start}
 use Rattle.checker.proofs.is_route.Goals as goal
 

@@ -5,7 +5,6 @@ use Rattle.paths.specs.Local.{entry}
 use Rattle.paths.specs.Sheet.{sheet_of}
 use Rattle.checker.specs.Tests.{CheckInput}
 use Rattle.checker.proofs.Judged.{judged-unsized, judged-input, judged-route, judged-no_route, judged-false}
-use borrow.Author.Rules.{rules}
 use Rattle.checker.proofs.judge.Goals.{After-sheet_sized, Else-not-sheet_sized}
 use Rattle.checker.proofs.judge.Goals as goal
 

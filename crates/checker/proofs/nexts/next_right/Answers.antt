@@ -2,7 +2,6 @@
 use mathlib.Core.Path.{sym, ◌∙◌}
 use borrow.Author.Tests.{not-false}
 use Rattle.checker.proofs.Choices.{next_off, next-goal, next-to}
-use borrow.Author.Rules.{rules}
 use Rattle.checker.proofs.nexts.next_right.Goals as goal
 
 pub returns-then-not-on_way : goal.returns-then-not-on_way

@@ -1,14 +1,10 @@
 -- `checker::nexts::nexts_right` meets its contract: the rows before `y` pass. Assumes nothing.
-use Prim.Native.Nat.{suc, ◌-◌, ◌<◌}
+use Prim.Native.Nat.{suc, ◌<◌}
 use mathlib.Core.Path.{◌∙◌}
 use native.Mathlib.Omega.{arith}
-use Rattle.basics.proofs.Scan.{Passed, passed_none, passed-stop, passed-more, passed-all}
-use Rattle.floor.specs.Floor.{floor_of}
-use Rattle.paths.specs.Sheet.{Sheet}
-use Rattle.grid.specs.Grid.{floor_graph}
-use Rattle.checker.specs.Tests.{chosen_of, next_row_test}
+use Rattle.basics.proofs.Scan.{passed_none, passed-stop, passed-more, passed-all}
+use Rattle.checker.specs.Tests.{chosen_of}
 use Rattle.checker.proofs.Choices.{nexts-rows}
-use borrow.Author.Rules.{rules}
 use Rattle.checker.proofs.nexts.nexts_right.Goals.{In-loop-y}
 use Rattle.checker.proofs.nexts.nexts_right.Goals as goal
 

@@ -1,14 +1,9 @@
 -- `checker::nexts::nexts_right` meets its contract: the rows before `y` pass. Assumes nothing.
-use Prim.Native.Nat.{suc, ◌-◌, ◌<◌}
-use mathlib.Core.Path.{◌∙◌}
-use native.Mathlib.Omega.{arith}
-use Rattle.basics.proofs.Scan.{Passed, passed_none, passed-stop, passed-more, passed-all}
+use Prim.Native.Nat.{suc}
+use Rattle.basics.proofs.Scan.{Passed}
 use Rattle.floor.specs.Floor.{floor_of}
-use Rattle.paths.specs.Sheet.{Sheet}
 use Rattle.grid.specs.Grid.{floor_graph}
 use Rattle.checker.specs.Tests.{chosen_of, next_row_test}
-use Rattle.checker.proofs.Choices.{nexts-rows}
-use borrow.Author.Rules.{rules}
 use Rattle.checker.proofs.nexts.nexts_right.Given as goal
 
 -- `checker::nexts::nexts_right` meets its contract: the rows before `y` pass. Assumes nothing.

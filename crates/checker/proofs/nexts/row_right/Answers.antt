@@ -1,6 +1,6 @@
 -- `checker::nexts::row_right` meets its contract: the flag says whether the next vertices of the row before column x
 -- pass. Assumes nothing.
-use Prim.Native.Nat.{suc, ◌+◌, ◌-◌, ◌*◌, ◌≤◌}
+use Prim.Native.Nat.{suc, ◌+◌, ◌*◌, ◌≤◌}
 use mathlib.Core.Path.{◌≡◌, refl, sym, ap, ◌∙◌}
 use native.Mathlib.Omega.{arith}
 use native.Mathlib.Numerals.{add-one}
@@ -14,9 +14,8 @@ use Rattle.masks.specs.Masks.{Leaving}
 use Rattle.paths.specs.Distance.{unreachable}
 use Rattle.paths.specs.Local.{entry}
 use Rattle.grid.specs.Grid.{floor_graph}
-use Rattle.checker.specs.Tests.{chosen_of, next_column_test}
+use Rattle.checker.specs.Tests.{chosen_of}
 use Rattle.checker.proofs.Choices.{next-row-blank, next-choosing, next-leads, next-stops, next-keeps}
-use borrow.Author.Rules.{rules}
 use Rattle.checker.proofs.nexts.row_right.Goals.{In-loop-x, Start, then-not-next_right, else-not-next_right}
 use Rattle.checker.proofs.nexts.row_right.Goals as goal
 
@@ -119,9 +118,9 @@ loop-x-preserved c =
     let i = c.loop-x.invariant.0 in
     let here = (goal.at.loop-x-preserved c).In-loop-x in (
       elim c.if-not-next_right.branch [
-        then-not-next_right w ↦ w.right-is ∙ next-stops p S (on_row here) (mask_is here) (at-number here) (small here)
+        | then-not-next_right w ↦ w.right-is ∙ next-stops p S (on_row here) (mask_is here) (at-number here) (small here)
             i c.next_right.ensures w.if-not-next_right.true-raw
-      | else-not-next_right w ↦ w.right-is ∙ next-keeps p S (on_row here) (mask_is here) (at-number here) (small here)
+        | else-not-next_right w ↦ w.right-is ∙ next-keeps p S (on_row here) (mask_is here) (at-number here) (small here)
             i c.next_right.ensures w.if-not-next_right.false-raw
       ],
       omega arith,

@@ -1,23 +1,11 @@
 -- `checker::nexts::row_right` meets its contract: the flag says whether the next vertices of the row before column x
 -- pass. Assumes nothing.
-use Prim.Native.Nat.{suc, ◌+◌, ◌-◌, ◌*◌, ◌≤◌}
-use mathlib.Core.Path.{◌≡◌, refl, sym, ap, ◌∙◌}
-use mathlib.Core.Logic.{⊎_elim}
-use native.Mathlib.Omega.{arith}
-use native.Mathlib.Numerals.{add-one}
-use borrow.Author.Tests.{not-true}
-use lib.ListN.{length, get_or}
+use Prim.Native.Nat.{◌+◌, ◌≤◌}
+use mathlib.Core.Path.{◌≡◌}
 use Rattle.basics.specs.Bounded.{every}
-use Rattle.floor.specs.Floor.{floor_of, number}
-use Rattle.floor.proofs.Numbers.{mul-fits, vertices-le, number_lt}
-use Rattle.moves.specs.Table.{OnFloor}
-use Rattle.masks.specs.Masks.{Leaving}
-use Rattle.paths.specs.Distance.{unreachable}
-use Rattle.paths.specs.Local.{entry}
+use Rattle.floor.specs.Floor.{floor_of}
 use Rattle.grid.specs.Grid.{floor_graph}
 use Rattle.checker.specs.Tests.{chosen_of, next_column_test}
-use Rattle.checker.proofs.Choices.{next-row-blank, next-choosing, next-leads, next-stops, next-keeps}
-use borrow.Author.Rules.{rules}
 use Rattle.checker.proofs.nexts.row_right.Given as goal
 
 abbrev pub invariant-loop-x : goal.invariant-loop-x

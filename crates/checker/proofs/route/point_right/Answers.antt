@@ -2,10 +2,8 @@
 use Prim.Native.Nat.{◌<◌}
 use native.Mathlib.Omega.{arith}
 use lib.ListN.{length}
-use Rattle.paths.specs.Sheet.{Sheet}
 use Rattle.checker.specs.Tests.{walk_of}
 use Rattle.checker.proofs.Points.{point-outside, point-end, point-short, point-next}
-use borrow.Author.Rules.{rules}
 use Rattle.checker.proofs.route.point_right.Goals.{Else-next-at}
 use Rattle.checker.proofs.route.point_right.Goals as goal
 

@@ -1,15 +1,12 @@
 -- `checker::route::route_right` meets its contract: the points before `i` are right. Assumes nothing.
-use Prim.Native.Nat.{◌-◌, ◌≤◌}
 use mathlib.Core.Path.{◌≡◌, sym, ◌∙◌, subst}
 use mathlib.Core.Bool.{true, false}
 use native.Mathlib.Omega.{arith}
 use lib.ListN.{length}
 use Rattle.basics.specs.Bounded.{every}
-use Rattle.basics.proofs.Scan.{Passed, passed_none, passed-stop, passed-more}
-use Rattle.paths.specs.Sheet.{Sheet}
+use Rattle.basics.proofs.Scan.{passed_none, passed-stop, passed-more}
 use Rattle.checker.specs.Tests.{walk_of, point_test}
 use Rattle.checker.proofs.Points.{points_none, points-many, points-elsewhere, points-tail, points-all}
-use borrow.Author.Rules.{rules}
 use Rattle.checker.proofs.route.route_right.Goals as goal
 
 pub returns-then-n-lt1 : goal.returns-then-n-lt1
@@ -43,12 +40,11 @@ pub overflow_step-i : goal.overflow_step-i
 overflow_step-i c = omega (arith, c.requires.1)
 
 pub loop-i-preserved : goal.loop-i-preserved
-loop-i-preserved c =
-    (
-      passed-more c.point_right.result c.loop-i.invariant.0 (omega arith)
-          c.point_right.ensures c.if-not-point_right.false-raw,
-      omega arith,
-    )
+loop-i-preserved c = (
+  passed-more c.point_right.result c.loop-i.invariant.0 (omega arith)
+      c.point_right.ensures c.if-not-point_right.false-raw,
+  omega arith,
+)
 
 pub all_zero-requires : goal.all_zero-requires
 all_zero-requires c = (omega arith, omega arith)

@@ -1,15 +1,8 @@
 -- `checker::route::route_right` meets its contract: the points before `i` are right. Assumes nothing.
 use Prim.Native.Nat.{◌-◌, ◌≤◌}
-use mathlib.Core.Path.{◌≡◌, sym, ◌∙◌, subst}
-use mathlib.Core.Bool.{true, false}
-use native.Mathlib.Omega.{arith}
 use lib.ListN.{length}
-use Rattle.basics.specs.Bounded.{every}
-use Rattle.basics.proofs.Scan.{Passed, passed_none, passed-stop, passed-more}
-use Rattle.paths.specs.Sheet.{Sheet}
+use Rattle.basics.proofs.Scan.{Passed}
 use Rattle.checker.specs.Tests.{walk_of, point_test}
-use Rattle.checker.proofs.Points.{points_none, points-many, points-elsewhere, points-tail, points-all}
-use borrow.Author.Rules.{rules}
 use Rattle.checker.proofs.route.route_right.Given as goal
 
 -- `checker::route::route_right` meets its contract: the points before `i` are right. Assumes nothing.

@@ -1,7 +1,6 @@
 -- `checker::vertices::blank_at` meets its contract: it tests slice by slice. Assumes nothing.
 use borrow.Author.Tests.{eq-eqb, ne_eqb}
 use Rattle.paths.specs.Local.{blank_at}
-use borrow.Author.Rules.{rules}
 use Rattle.checker.proofs.vertices.blank_at.Goals as goal
 
 pub returns-then-e-v-ne0 : goal.returns-then-e-v-ne0

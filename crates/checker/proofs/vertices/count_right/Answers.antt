@@ -4,11 +4,9 @@ use mathlib.Core.Path.{sym, ◌∙◌}
 use native.Mathlib.Omega.{arith}
 use borrow.Author.Tests.{not-true, not-false}
 use lib.ListN.{length}
-use Rattle.paths.specs.Graph.{Graph}
 use Rattle.paths.specs.Local.{entry}
 use Rattle.neighbours.specs.Reading.{mask_graph}
 use Rattle.checker.proofs.Counts.{count-off, count-start, count-over, count-sum}
-use borrow.Author.Rules.{rules}
 use Rattle.checker.proofs.vertices.count_right.Goals as goal
 
 pub returns-then-not-on : goal.returns-then-not-on

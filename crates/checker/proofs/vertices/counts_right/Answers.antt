@@ -3,7 +3,6 @@ use Prim.Native.Nat.{ℕ}
 use mathlib.Core.Path.{sym, ◌∙◌, subst}
 use Rattle.neighbours.specs.Reading.{Readable}
 use Rattle.checker.proofs.Vertex.{counts_from, counts_to}
-use borrow.Author.Rules.{rules}
 use Rattle.checker.proofs.vertices.counts_right.Goals as goal
 
 pub returns-then-not-count_right : goal.returns-then-not-count_right

@@ -1,6 +1,6 @@
 -- `checker::vertices::row_right` meets its contract: the flag says whether the vertices of the row before column x
 -- pass. Assumes nothing.
-use Prim.Native.Nat.{◌+◌, ◌-◌, ◌*◌, ◌≤◌}
+use Prim.Native.Nat.{◌+◌, ◌*◌, ◌≤◌}
 use mathlib.Core.Path.{◌≡◌, refl, ap, ◌∙◌}
 use native.Mathlib.Omega.{arith}
 use native.Mathlib.Numerals.{add-one}
@@ -10,12 +10,8 @@ use Rattle.floor.specs.Floor.{floor_of, number}
 use Rattle.floor.proofs.Numbers.{mul-fits, vertices-le, number_lt}
 use Rattle.moves.specs.Table.{OnFloor}
 use Rattle.masks.specs.Masks.{Leaving}
-use Rattle.paths.specs.Sheet.{sheet_of}
-use Rattle.grid.specs.Leaving.{leaving_graph}
-use Rattle.checker.specs.Tests.{column_test}
 use Rattle.checker.proofs.CheckInput.{input-shaped}
 use Rattle.checker.proofs.Passes.{column-readable, column-stops, column-keeps}
-use borrow.Author.Rules.{rules}
 use Rattle.checker.proofs.vertices.row_right.Goals.{In-loop-x, then-not-vertex_right, else-not-vertex_right}
 use Rattle.checker.proofs.vertices.row_right.Goals as goal
 
@@ -76,9 +72,9 @@ loop-x-preserved c =
     let i = c.loop-x.invariant.0 in
     let here = (goal.at.loop-x-preserved c).In-loop-x in (
       elim c.if-not-vertex_right.branch [
-        then-not-vertex_right w ↦ w.right-is ∙ column-stops p S (on_row here) (mask_is here) (at-number here) c.args.joined
+        | then-not-vertex_right w ↦ w.right-is ∙ column-stops p S (on_row here) (mask_is here) (at-number here) c.args.joined
             i c.vertex_right.ensures w.if-not-vertex_right.true-raw
-      | else-not-vertex_right w ↦ w.right-is ∙ column-keeps p S (on_row here) (mask_is here) (at-number here) c.args.joined
+        | else-not-vertex_right w ↦ w.right-is ∙ column-keeps p S (on_row here) (mask_is here) (at-number here) c.args.joined
             i c.vertex_right.ensures w.if-not-vertex_right.false-raw
       ],
       omega arith,

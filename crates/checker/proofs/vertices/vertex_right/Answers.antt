@@ -3,10 +3,9 @@ use Prim.Native.Nat.{◌≤◌}
 use native.Mathlib.Omega.{arith}
 use Rattle.paths.specs.Distance.{unreachable}
 use Rattle.paths.specs.Local.{entry}
-use Rattle.paths.specs.Sheet.{Sheet, sheet_of}
+use Rattle.paths.specs.Sheet.{sheet_of}
 use Rattle.neighbours.proofs.Classed.{classes-lent}
 use Rattle.checker.proofs.Vertex.{vertex-costs, vertex-counts, vertex-cost, vertex-blank}
-use borrow.Author.Rules.{rules}
 use Rattle.checker.proofs.vertices.vertex_right.Goals.{After-shared_slice_known-7-1}
 use Rattle.checker.proofs.vertices.vertex_right.Goals as goal
 

@@ -1,15 +1,11 @@
 -- `checker::vertices::vertices_right` meets its contract: the rows before `y` pass. Assumes nothing.
-use Prim.Native.Nat.{suc, ◌-◌, ◌<◌}
+use Prim.Native.Nat.{suc, ◌<◌}
 use mathlib.Core.Path.{◌∙◌}
 use native.Mathlib.Omega.{arith}
-use Rattle.basics.proofs.Scan.{Passed, passed_none, passed-stop, passed-more, passed-all}
-use Rattle.floor.specs.Floor.{floor_of}
-use Rattle.paths.specs.Sheet.{Sheet, sheet_of}
-use Rattle.grid.specs.Leaving.{leaving_graph}
-use Rattle.checker.specs.Tests.{row_test}
+use Rattle.basics.proofs.Scan.{passed_none, passed-stop, passed-more, passed-all}
+use Rattle.paths.specs.Sheet.{sheet_of}
 use Rattle.checker.proofs.Passes.{vertices-rows}
 use Rattle.checker.proofs.Leaving.{vertices-leaving}
-use borrow.Author.Rules.{rules}
 use Rattle.checker.proofs.vertices.vertices_right.Goals.{In-loop-y}
 use Rattle.checker.proofs.vertices.vertices_right.Goals as goal
 

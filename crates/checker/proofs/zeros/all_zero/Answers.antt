@@ -1,8 +1,7 @@
 -- `checker::zeros::all_zero` meets its contract: `n` counts the places before `i` that are not 0. Assumes nothing.
-use Prim.Native.Nat.{◌-◌, ◌≤◌, ◌<◌}
+use Prim.Native.Nat.{◌<◌}
 use mathlib.Core.Path.{◌≡◌, subst}
 use native.Mathlib.Omega.{arith}
-use borrow.Author.Rules.{rules}
 use lib.ListN.{length}
 use Rattle.checker.proofs.Blank.{ZeroScan, zero-start, zero_more, zero-end}
 use Rattle.checker.proofs.zeros.all_zero.Goals.{In-loop-i}

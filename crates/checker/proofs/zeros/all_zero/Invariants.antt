@@ -1,10 +1,6 @@
 -- `checker::zeros::all_zero` meets its contract: `n` counts the places before `i` that are not 0. Assumes nothing.
-use Prim.Native.Nat.{◌-◌, ◌≤◌, ◌<◌}
-use mathlib.Core.Path.{◌≡◌, subst}
-use native.Mathlib.Omega.{arith}
-use borrow.Author.Rules.{rules}
-use lib.ListN.{length}
-use Rattle.checker.proofs.Blank.{ZeroScan, zero-start, zero_more, zero-end}
+use Prim.Native.Nat.{◌-◌, ◌≤◌}
+use Rattle.checker.proofs.Blank.{ZeroScan}
 use Rattle.checker.proofs.zeros.all_zero.Given as goal
 
 -- `checker::zeros::all_zero` meets its contract: `n` counts the places before `i` that are not 0. Assumes nothing.
