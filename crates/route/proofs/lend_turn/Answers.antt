@@ -1,6 +1,5 @@
 -- `route::lend_turn` meets its contract: a floor of at most 31 by 31 cells has at most 1,024 vertices, so each array
--- has the part that is lent. Depends on libc's write, on errno and on
--- sched_yield.
+-- has the part that is lent.
 use Prim.Native.Nat.{◌≤◌}
 use native.Mathlib.Omega.{arith}
 use Rattle.route.proofs.Sizes.{few-vertices, taken, lent}

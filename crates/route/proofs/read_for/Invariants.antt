@@ -1,5 +1,5 @@
 -- `route::read_for` meets its contract: each read leaves what is read before it, and the loop ends where the input is
--- over or what is read settles what stands at the cursor. Depends on libc's read, on errno and on sched_yield.
+-- over or what is read settles what stands at the cursor.
 use Prim.Native.Nat.{◌+◌, ◌-◌}
 use mathlib.Core.Path.{◌≡◌, refl, ◌∙◌}
 use mathlib.Core.Bool.{false}

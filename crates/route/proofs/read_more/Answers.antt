@@ -1,5 +1,4 @@
--- `route::read_more` meets its contract: what is read stands past the first n bytes, which are left. Depends on libc's
--- read, on errno and on sched_yield.
+-- `route::read_more` meets its contract: what is read stands past the first n bytes, which are left.
 use Prim.Native.Nat.{◌-◌}
 use native.Mathlib.Omega.{arith}
 use lib.ListN.{length}

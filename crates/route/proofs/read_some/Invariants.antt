@@ -1,5 +1,5 @@
 -- `route::read_some` meets its contract: a read puts no more into the buffer than it holds, and each turn of the loop
--- is one try more. Depends on libc's read, on errno and on sched_yield.
+-- is one try more.
 use Prim.Native.Nat.{◌-◌}
 use mathlib.Core.Path.{◌≡◌}
 use lib.ListN.{length}

@@ -1,5 +1,4 @@
--- `route::run` meets its contract: what the first step finds is handed on as such. Depends on libc's read and write, on
--- errno and on sched_yield.
+-- `route::run` meets its contract: what the first step finds is handed on as such.
 use mathlib.Core.Path.{refl, ◌∙◌}
 use native.Mathlib.Omega.{arith}
 use Rattle.route.proofs.Sizes.{taken}

@@ -1,6 +1,5 @@
 -- `route::run_jobs` meets its contract: before each turn the text from its cursor on is due, and each turn but the last
--- moves the cursor on, so that less of the input is left; the costs keep their length. Depends on libc's read and
--- write, on errno and on sched_yield.
+-- moves the cursor on, so that less of the input is left; the costs keep their length.
 use Prim.Native.Nat.{◌-◌, ◌≤◌}
 use mathlib.Core.Path.{◌≡◌, refl, ◌∙◌}
 use borrow.Author.Rules.{rules}

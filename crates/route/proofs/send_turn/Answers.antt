@@ -1,5 +1,5 @@
 -- `route::send_turn` meets its contract: the text of the turn stands at the place that it is written to, and past it
--- the text from the turn's cursor on is due, or none. Depends on libc's write, on errno and on sched_yield.
+-- the text from the turn's cursor on is due, or none.
 use native.Mathlib.Omega.{arith}
 use Rattle.route.proofs.Sizes.{taken}
 use Rattle.route.proofs.Sending.{turn-next, turn_more, turn_last}

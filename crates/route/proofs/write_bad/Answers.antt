@@ -1,5 +1,4 @@
--- `route::write_bad` meets its contract: the line is all of the program's text. Depends on libc's write, on errno and
--- on sched_yield.
+-- `route::write_bad` meets its contract: the line is all of the program's text.
 use native.Mathlib.Omega.{arith}
 use Rattle.program_text.proofs.Start.{written-within}
 use Rattle.route.proofs.Sizes.{taken}

@@ -1,6 +1,5 @@
 -- `route::write_next` meets its contract: what is left of the part stands at the place that it is written to, and in
--- each turn of the loop some of it is written, or there is one try more. Depends on libc's write, on errno and on
--- sched_yield.
+-- each turn of the loop some of it is written, or there is one try more.
 use Prim.Native.Nat.{◌+◌, ◌-◌, ◌≤◌}
 use native.Mathlib.Omega.{arith}
 use lib.ListN.{length}

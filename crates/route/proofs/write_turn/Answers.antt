@@ -1,5 +1,4 @@
--- `route::write_turn` meets its contract: what the turn leaves is what is written. Depends on libc's write, on
--- errno and on sched_yield.
+-- `route::write_turn` meets its contract: what the turn leaves is what is written.
 use native.Mathlib.Omega.{arith}
 use borrow.Author.Rules.{rules}
 use Rattle.route.proofs.write_turn.Goals as goal
