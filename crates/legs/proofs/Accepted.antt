@@ -23,9 +23,7 @@ use Rattle.basics.specs.Bounded.{pick}
 use Rattle.basics.proofs.Order.{le-or-lt}
 use Rattle.basics.proofs.Bools.{and_both, or_left, or_right, or_cases}
 use Rattle.basics.proofs.Bounded.{every-all, every-at}
-use Rattle.floor.specs.Refusals.{and_then}
 use Rattle.floor.specs.declared.Refusal.TheVariants.{FalseChoice}
-use Rattle.floor.specs.declared.Shape.{Shape}
 use Rattle.floor.specs.declared.Shape.TheVariants.{Good, Refused}
 use Rattle.floor.proofs.Shapes.{good-first, good-second, good-pick}
 use Rattle.legs.specs.Choices.{Leg, Choice, last, leg, Fewest, is_leg, fewest_legs}

@@ -25,7 +25,7 @@ use Rattle.std.specs.Prelude.{ℕ, zero, suc, pred, ◌≡◌, Bool, ◌&&◌, �
 use Rattle.basics.specs.Bounded.{pick, every}
 use Rattle.basics.specs.Lists.{tabulate, padded}
 use Rattle.floor.specs.Floor.{floor_of}
-use Rattle.floor.specs.Refusals.{refusal_number, floor_shape, and_then, left_by}
+use Rattle.floor.specs.Refusals.{floor_shape, and_then, left_by}
 use Rattle.floor.specs.declared.Refusal.TheVariants.{SliceLength, NotJoined, FalseChoice}
 use Rattle.floor.specs.declared.Shape.{Shape}
 use Rattle.floor.specs.declared.Shape.TheVariants.{Good, Refused}

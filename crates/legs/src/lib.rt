@@ -7,6 +7,7 @@
 // where a leg to j would leave i with fewer legs than its number says, and for each i some positions that have one leg
 // fewer left, until one is seen: first those whose vertices are near, then all, in the order of the list.
 #![tactic(auto)]
+
 ghost use Rattle.std.specs.Prelude.{◌≡◌};
 ghost use Rattle.legs.specs.Answer.{legs_shape, check_answer, Proposes};
 

@@ -1,4 +1,5 @@
 -- `changes::cell_changes` meets its contract: a refusal leaves the slice as it was lent, and on two good floors the
+-- cells are listed. Assumes nothing.
 use mathlib.Core.Path.{◌≡◌, sym, ◌∙◌}
 use lib.ListN.{length}
 use Rattle.floor.specs.declared.Shape.TheVariants.{Good}

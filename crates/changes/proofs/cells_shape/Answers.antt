@@ -9,7 +9,6 @@ use borrow.Author.Rules.{rules}
 use Rattle.changes.proofs.cells_shape.Goals.{In-Good}
 use Rattle.changes.proofs.cells_shape.Goals as goal
 
--- `changes::cells_shape` meets its contract: each return is one case of `cells_shape`. Assumes nothing.
 -- Past the first test both floors have a good shape and one size.
 floors-are : (c : In-Good) → let a = c.args in
     floors_shape (given_floor_of a.w a.h a.map.now) (given_floor_of a.w2 a.h2 a.map2.now) ≡ Good

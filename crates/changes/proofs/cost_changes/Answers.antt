@@ -1,4 +1,5 @@
 -- `changes::cost_changes` meets its contract: an input of bad shape is refused, and for any other the report is
+-- written. Assumes nothing.
 use mathlib.Core.Path.{sym, ◌∙◌}
 use Rattle.changes.specs.Changes.{given_floor_of, report_slices_of}
 use Rattle.changes.proofs.Jobs.{job-reportable, costs-refused, costs-fit}

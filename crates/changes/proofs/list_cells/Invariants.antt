@@ -8,7 +8,6 @@ use Rattle.changes.proofs.Noting.{noted-none}
 use borrow.Author.Rules.{rules}
 use Rattle.changes.proofs.list_cells.Given as goal
 
--- `changes::list_cells` meets its contract: `Noted` says what the loop has noted. Assumes nothing.
 abbrev pub invariant-loop-c : goal.invariant-loop-c
 invariant-loop-c l =
     (l.c-end ≡ length l.initial.cells) × Noted l.map l.map2 (length l.initial.cells) l.c l.t l.cells

@@ -7,6 +7,5 @@ use Rattle.changes.proofs.Changing.{Writing, writing-none, writing_more, writing
 use borrow.Author.Rules.{rules}
 use Rattle.changes.proofs.write_changes.Given as goal
 
--- `changes::write_changes` meets its contract: the places before `v` hold their changes. Assumes nothing.
 abbrev pub invariant-loop-v : goal.invariant-loop-v
 invariant-loop-v l = Writing l.costs l.costs2 (length l.initial.changes) l.v-end l.v l.changes

@@ -1,9 +1,7 @@
 -- `legs::check` meets its contract: the refusals, then the test of the proposal. Assumes nothing.
 use mathlib.Core.Path.{◌≡◌, sym, ◌∙◌}
 use native.Mathlib.Omega.{arith}
-use borrow.Author.Rules.{rules}
 use lib.ListN.{length}
-use Rattle.floor.specs.declared.Shape.{Shape}
 use Rattle.floor.specs.declared.Shape.TheVariants.{Good}
 use Rattle.legs.specs.Answer.{legs_shape}
 use Rattle.legs.proofs.Shapes.{good-legs, joined-on}

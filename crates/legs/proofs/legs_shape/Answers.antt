@@ -1,6 +1,5 @@
 -- `legs::legs_shape` meets its contract: the thinning's refusals for one slice or the other. Assumes nothing.
 use mathlib.Core.Path.{◌∙◌}
-use borrow.Author.Rules.{rules}
 use Rattle.legs.proofs.Shapes.{shape-other, shape_same}
 use Rattle.legs.proofs.legs_shape.Goals as goal
 

@@ -1,8 +1,8 @@
 -- `legs::propose` meets its contract: a refusal leaves both slices as they were lent, and of a good list the numbers
+-- are filled and then the positions recorded. Assumes nothing.
 use Prim.Native.Nat.{◌≤◌}
 use mathlib.Core.Path.{◌≡◌, sym, ◌∙◌}
 use native.Mathlib.Omega.{arith}
-use borrow.Author.Rules.{rules}
 use lib.ListN.{length}
 use Rattle.floor.specs.declared.Shape.TheVariants.{Good}
 use Rattle.legs.specs.Answer.{legs_shape}

@@ -1,4 +1,5 @@
 -- `replay::leads_to` meets its contract: a move that leaves the floor leads nowhere, any other to its far end. Assumes
+-- nothing.
 use mathlib.Core.Path.{◌≡◌, sym, ap, ◌∙◌}
 use Rattle.moves.specs.Steps.{far_end_at, step_of}
 use Rattle.moves.proofs.Signs.{handed-back}
@@ -8,8 +9,6 @@ use borrow.Author.Rules.{rules}
 use Rattle.replay.proofs.leads_to.Goals.{After-step_from}
 use Rattle.replay.proofs.leads_to.Goals as goal
 
--- `replay::leads_to` meets its contract: a move that leaves the floor leads nowhere, any other to its far end. Assumes
--- nothing.
 -- Where the offsets lead.
 step : (c : After-step_from)
     → let a = c.args in

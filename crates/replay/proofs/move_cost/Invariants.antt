@@ -18,7 +18,6 @@ use Rattle.replay.proofs.move_cost.Reads as reads
 use Rattle.replay.proofs.move_cost.Lts as lts
 use Rattle.replay.proofs.move_cost.Given as goal
 
--- `replay::move_cost` meets its contract: the loop goes on while no move leads from u to v. Assumes nothing.
 abbrev pub invariant-loop-m : goal.invariant-loop-m
 invariant-loop-m l =
     (l.m ≤ l.count)

@@ -1,4 +1,5 @@
 -- `replay::read_log` meets its contract: the stops are taken one by one, until the end or a bad record. The measure is
+-- the number of bytes left of the log. Assumes nothing.
 use Prim.Native.Nat.{◌-◌}
 use lib.ListN.{length}
 use Rattle.replay.proofs.Reached.{Reached, starts, takes, goes_on, falls, ends, breaks}

@@ -1,12 +1,11 @@
 -- `replay::read_log` meets its contract: the stops are taken one by one, until the end or a bad record. The measure is
+-- the number of bytes left of the log. Assumes nothing.
 use Prim.Native.Nat.{◌-◌}
 use lib.ListN.{length}
 use Rattle.replay.proofs.Reached.{Reached, starts, takes, goes_on, falls, ends, breaks}
 use borrow.Author.Rules.{rules}
 use Rattle.replay.proofs.read_log.Given as goal
 
--- `replay::read_log` meets its contract: the stops are taken one by one, until the end or a bad record. The measure is
--- the number of bytes left of the log. Assumes nothing.
 abbrev pub invariant-loop-v : goal.invariant-loop-v
 invariant-loop-v l = Reached l.w l.h l.map l.dirs l.log l.drive l.cursor
 

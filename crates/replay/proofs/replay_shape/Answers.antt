@@ -1,4 +1,5 @@
 -- `replay::replay_shape` meets its contract: a refusal of the floor or the neighbourhood, else the shape of the lengths
+-- decides. Assumes nothing.
 use mathlib.Core.Path.{ap, ◌∙◌}
 use Rattle.grid.specs.Grid.{or_refused}
 use Rattle.grid.specs.declared.JobShape.TheVariants.{Fit}

@@ -1,4 +1,5 @@
 -- `replay::take_stop` meets its contract: once a record could not follow, the cost stays; else the record follows or is
+-- the first that cannot. Assumes nothing.
 use mathlib.Core.Path.{sym, ◌∙◌}
 use native.Mathlib.Omega.{arith}
 use Rattle.floor.specs.Floor.{Floor, floor_of}

@@ -1,11 +1,10 @@
 -- `legs::ahead::least_ahead` meets its contract: the loop keeps the least so far, from what was
-use Prim.Native.Nat.{ℕ, suc, ◌+◌, ◌-◌, ◌<◌, ◌≤◌}
+-- found near on. Assumes nothing.
+use Prim.Native.Nat.{suc, ◌+◌}
 use mathlib.Core.Path.{◌≡◌}
-use mathlib.Core.Bool.{Bool}
 use native.Mathlib.Omega.{arith}
 use native.Mathlib.Numerals.{add-one}
-use borrow.Author.Rules.{rules}
-use Rattle.legs.specs.Known.{sight_on, Least}
+use Rattle.legs.specs.Known.{sight_on}
 use Rattle.legs.proofs.Fewest.{next-leg}
 use Rattle.legs.proofs.Least.{least-then, least-next, least-reached}
 use Rattle.legs.proofs.ahead.least_ahead.Goals as goal

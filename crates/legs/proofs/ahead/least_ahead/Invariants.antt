@@ -1,17 +1,9 @@
 -- `legs::ahead::least_ahead` meets its contract: the loop keeps the least so far, from what was
-use Prim.Native.Nat.{ℕ, suc, ◌+◌, ◌-◌, ◌<◌, ◌≤◌}
-use mathlib.Core.Path.{◌≡◌}
-use mathlib.Core.Bool.{Bool}
-use native.Mathlib.Omega.{arith}
-use native.Mathlib.Numerals.{add-one}
-use borrow.Author.Rules.{rules}
+-- found near on. Assumes nothing.
+use Prim.Native.Nat.{suc, ◌-◌, ◌<◌, ◌≤◌}
 use Rattle.legs.specs.Known.{sight_on, Least}
-use Rattle.legs.proofs.Fewest.{next-leg}
-use Rattle.legs.proofs.Least.{least-then, least-next, least-reached}
 use Rattle.legs.proofs.ahead.least_ahead.Given as goal
 
--- `legs::ahead::least_ahead` meets its contract: the loop keeps the least so far, from what was
--- found near on. Assumes nothing.
 abbrev pub invariant-loop-j : goal.invariant-loop-j
 invariant-loop-j l =
     (l.i < l.j) × (l.j ≤ l.n) × Least (sight_on l.w l.h l.map l.list) l.n l.legs l.i (suc l.i) l.j l.cap l.least

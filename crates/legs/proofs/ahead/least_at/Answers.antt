@@ -1,9 +1,6 @@
 -- `legs::ahead::least_at` meets its contract: sight is asked only where the number is the lesser. Assumes nothing.
-use Prim.Native.Nat.{ℕ}
 use mathlib.Core.Path.{sym, ◌∙◌}
-use mathlib.Core.Bool.{Bool}
 use native.Mathlib.Omega.{arith}
-use borrow.Author.Rules.{rules}
 use Rattle.legs.specs.Choices.{Leg}
 use Rattle.legs.specs.Known.{sight_on}
 use Rattle.legs.proofs.Least.{at_most_one, least-lesser, least-seen, least-unseen}

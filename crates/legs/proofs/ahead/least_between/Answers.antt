@@ -1,8 +1,5 @@
 -- `legs::ahead::least_between` meets its contract: the loop keeps the least so far. Assumes nothing.
-use Prim.Native.Nat.{◌-◌, ◌<◌}
 use native.Mathlib.Omega.{arith}
-use borrow.Author.Rules.{rules}
-use Rattle.legs.specs.Known.{sight_on, Least}
 use Rattle.legs.proofs.Least.{least-none, least-then, least-within}
 use Rattle.legs.proofs.ahead.least_between.Goals as goal
 

@@ -1,5 +1,5 @@
 -- `legs::ahead::least_in_eight` meets its contract: eight numbers of which none is lesser give no lesser one. Assumes
-use borrow.Author.Rules.{rules}
+-- nothing.
 use Rattle.legs.proofs.Least.{least-lesser}
 use Rattle.legs.proofs.ahead.least_in_eight.Goals as goal
 

@@ -1,9 +1,6 @@
 -- `legs::checking::is_leg` meets its contract: sight is asked only of a later position. Assumes nothing.
-use Prim.Native.Nat.{ℕ}
 use mathlib.Core.Path.{sym, ◌∙◌}
-use mathlib.Core.Bool.{Bool}
 use native.Mathlib.Omega.{arith}
-use borrow.Author.Rules.{rules}
 use Rattle.legs.specs.Known.{sight_on}
 use Rattle.legs.proofs.Least.{leg-seen}
 use Rattle.legs.proofs.Tests.{leg-back, leg-beyond}

@@ -1,10 +1,8 @@
 -- `legs::checking::kept_right` meets its contract: each return is one case of `kept_right`. Assumes nothing.
 use Prim.Native.Nat.{ℕ, pred, ◌-◌}
 use mathlib.Core.Path.{◌≡◌, ◌∙◌}
-use mathlib.Core.Bool.{Bool}
 use mathlib.Core.List.{List}
 use native.Mathlib.Omega.{arith}
-use borrow.Author.Rules.{rules}
 use lib.ListN.{get_or}
 use Rattle.legs.specs.Known.{sight_on}
 use Rattle.legs.proofs.Tests.{kept-none, kept-beyond, kept-start, kept-end, kept-legs}

@@ -1,13 +1,8 @@
 -- `legs::checking::legs_open` meets its contract: the legs passed are legs. Assumes nothing.
-use Prim.Native.Nat.{ℕ, suc, pred, ◌-◌}
 use mathlib.Core.Path.{◌≡◌, ◌∙◌, ap₂}
-use mathlib.Core.Bool.{Bool}
-use mathlib.Core.List.{List}
 use native.Mathlib.Omega.{arith}
 use native.Mathlib.Numerals.{add-one}
-use borrow.Author.Rules.{rules}
-use lib.ListN.{get_or}
-use Rattle.basics.proofs.Scan.{Passed, passed_none, passed-stop, passed-more, passed-all}
+use Rattle.basics.proofs.Scan.{passed_none, passed-stop, passed-more, passed-all}
 use Rattle.legs.specs.Choices.{is_leg}
 use Rattle.legs.specs.Known.{sight_on}
 use Rattle.legs.proofs.checking.legs_open.Invariants.{leg_at}

@@ -1,9 +1,7 @@
 -- `legs::checking::numbers_right` meets its contract: the numbers from i on are right. Assumes nothing.
-use Prim.Native.Nat.{ℕ, suc, ◌-◌, ◌<◌}
+use Prim.Native.Nat.{suc, ◌-◌}
 use mathlib.Core.Path.{◌≡◌, sym, ◌∙◌}
-use mathlib.Core.Bool.{Bool}
 use native.Mathlib.Omega.{arith}
-use borrow.Author.Rules.{rules}
 use lib.ListN.{get_or}
 use Rattle.legs.specs.Known.{sight_on, RightFrom, Least}
 use Rattle.legs.proofs.Fewest.{fewest-last}

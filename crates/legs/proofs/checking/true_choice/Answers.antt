@@ -1,9 +1,7 @@
 -- `legs::checking::true_choice` meets its contract: each return is one case of `true_choice`. Assumes nothing.
-use Prim.Native.Nat.{ℕ}
 use mathlib.Core.Path.{◌≡◌, sym, ◌∙◌}
-use mathlib.Core.Bool.{Bool, true}
+use mathlib.Core.Bool.{true}
 use native.Mathlib.Omega.{arith}
-use borrow.Author.Rules.{rules}
 use borrow.Author.Tests.{not-true, not-false}
 use Rattle.legs.specs.Answer.{kept_right}
 use Rattle.legs.specs.Known.{sight_on}

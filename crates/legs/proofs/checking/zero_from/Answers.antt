@@ -1,11 +1,8 @@
 -- `legs::checking::zero_from` meets its contract: the places passed have 0. Assumes nothing.
-use Prim.Native.Nat.{◌-◌, ◌≤◌}
 use mathlib.Core.Path.{refl, ap}
 use mathlib.Core.Bool.{not}
 use native.Mathlib.Omega.{arith}
-use borrow.Author.Rules.{rules}
-use lib.ListN.{length}
-use Rattle.basics.proofs.Scan.{Passed, passed-stop, passed-more, passed-all}
+use Rattle.basics.proofs.Scan.{passed-stop, passed-more, passed-all}
 use Rattle.legs.specs.Answer.{zero_from}
 use Rattle.legs.proofs.Tests.{zero_at, zero-first, zero-no, zero-yes}
 use Rattle.legs.proofs.checking.zero_from.Goals as goal

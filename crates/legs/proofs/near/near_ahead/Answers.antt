@@ -1,7 +1,5 @@
 -- `legs::near::near_ahead` meets its contract: it returns the cap, or what was found in one step. Assumes nothing.
-use Prim.Native.Nat.{◌-◌, ◌≤◌, ◌<◌}
 use native.Mathlib.Omega.{arith}
-use borrow.Author.Rules.{rules}
 use Rattle.legs.proofs.near.near_ahead.Goals as goal
 
 pub loop-j-init : goal.loop-j-init

@@ -1,10 +1,7 @@
 -- `legs::near::near_ahead` meets its contract: it returns the cap, or what was found in one step. Assumes nothing.
 use Prim.Native.Nat.{◌-◌, ◌≤◌, ◌<◌}
-use native.Mathlib.Omega.{arith}
-use borrow.Author.Rules.{rules}
 use Rattle.legs.proofs.near.near_ahead.Given as goal
 
--- `legs::near::near_ahead` meets its contract: it returns the cap, or what was found in one step. Assumes nothing.
 abbrev pub invariant-loop-j : goal.invariant-loop-j
 invariant-loop-j l = (l.i < l.j) × (l.j ≤ l.n)
 

@@ -1,9 +1,7 @@
 -- `legs::near::near_at` meets its contract: what is returned is the cap, or the number at a position that is seen.
-use Prim.Native.Nat.{ℕ}
+-- Assumes nothing.
 use mathlib.Core.Path.{sym, ◌∙◌}
-use mathlib.Core.Bool.{Bool}
 use native.Mathlib.Omega.{arith}
-use borrow.Author.Rules.{rules}
 use Rattle.legs.specs.Choices.{Leg}
 use Rattle.legs.specs.Known.{sight_on}
 use Rattle.legs.proofs.Least.{reached-cap, reached-seen}

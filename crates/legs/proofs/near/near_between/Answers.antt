@@ -1,7 +1,4 @@
 -- `legs::near::near_between` meets its contract: it returns the cap, or what was found at a position. Assumes nothing.
-use Prim.Native.Nat.{◌-◌, ◌<◌}
-use native.Mathlib.Omega.{arith}
-use borrow.Author.Rules.{rules}
 use Rattle.legs.proofs.Least.{reached-cap}
 use Rattle.legs.proofs.near.near_between.Goals as goal
 

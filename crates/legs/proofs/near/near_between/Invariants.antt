@@ -1,11 +1,7 @@
 -- `legs::near::near_between` meets its contract: it returns the cap, or what was found at a position. Assumes nothing.
 use Prim.Native.Nat.{◌-◌, ◌<◌}
-use native.Mathlib.Omega.{arith}
-use borrow.Author.Rules.{rules}
-use Rattle.legs.proofs.Least.{reached-cap}
 use Rattle.legs.proofs.near.near_between.Given as goal
 
--- `legs::near::near_between` meets its contract: it returns the cap, or what was found at a position. Assumes nothing.
 abbrev pub invariant-loop-j : goal.invariant-loop-j
 invariant-loop-j l = l.i < l.j
 

@@ -1,5 +1,4 @@
 -- `legs::near::near_in_eight` meets its contract: it returns the cap, or what was found among eight. Assumes nothing.
-use borrow.Author.Rules.{rules}
 use Rattle.legs.proofs.Least.{reached-cap}
 use Rattle.legs.proofs.near.near_in_eight.Goals as goal
 

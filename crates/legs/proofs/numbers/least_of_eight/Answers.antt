@@ -1,6 +1,6 @@
 -- `legs::numbers::least_of_eight` meets its contract: the lesser of two least numbers is at most each of both
+-- runs. Assumes nothing.
 use native.Mathlib.Omega.{arith}
-use borrow.Author.Rules.{rules}
 use Rattle.legs.proofs.Least.{at-most-then}
 use Rattle.legs.proofs.numbers.least_of_eight.Goals as goal
 

@@ -1,6 +1,5 @@
 -- `legs::numbers::least_of_two` meets its contract: the lesser of two numbers is at most each of them. Assumes nothing.
 use native.Mathlib.Omega.{arith}
-use borrow.Author.Rules.{rules}
 use Rattle.legs.proofs.Least.{at_most_one, at-most-then}
 use Rattle.legs.proofs.numbers.least_of_two.Goals as goal
 

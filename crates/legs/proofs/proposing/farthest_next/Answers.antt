@@ -1,10 +1,9 @@
 -- `legs::proposing::farthest_next` meets its contract: the position sought is never passed. Assumes nothing.
-use Prim.Native.Nat.{ℕ, ◌-◌}
-use mathlib.Core.Bool.{Bool}
+use Prim.Native.Nat.{◌-◌}
 use native.Mathlib.Omega.{arith}
 use borrow.Author.Rules.{rules}
 use Rattle.legs.specs.Known.{sight_on}
-use Rattle.legs.proofs.Farthest.{Seeking, farthest-is, seeking-found, seeking-more}
+use Rattle.legs.proofs.Farthest.{farthest-is, seeking-found, seeking-more}
 use Rattle.legs.proofs.proposing.farthest_next.Goals as goal
 
 pub loop-w-init : goal.loop-w-init

@@ -1,13 +1,8 @@
 -- `legs::proposing::farthest_next` meets its contract: the position sought is never passed. Assumes nothing.
-use Prim.Native.Nat.{ℕ, ◌-◌}
-use mathlib.Core.Bool.{Bool}
-use native.Mathlib.Omega.{arith}
-use borrow.Author.Rules.{rules}
 use Rattle.legs.specs.Known.{sight_on}
-use Rattle.legs.proofs.Farthest.{Seeking, farthest-is, seeking-found, seeking-more}
+use Rattle.legs.proofs.Farthest.{Seeking}
 use Rattle.legs.proofs.proposing.farthest_next.Given as goal
 
--- `legs::proposing::farthest_next` meets its contract: the position sought is never passed. Assumes nothing.
 abbrev pub invariant-loop-w : goal.invariant-loop-w
 invariant-loop-w l = Seeking (sight_on l.w l.h l.map l.list) l.n l.i l.j
 

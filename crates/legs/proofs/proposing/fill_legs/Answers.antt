@@ -1,13 +1,11 @@
 -- `legs::proposing::fill_legs` meets its contract: from i on each number is the fewest legs. Assumes nothing.
-use Prim.Native.Nat.{ℕ, ◌+◌, ◌-◌, ◌≤◌}
+use Prim.Native.Nat.{◌+◌, ◌-◌, ◌≤◌}
 use mathlib.Core.Path.{◌≡◌, ◌∙◌}
-use mathlib.Core.Bool.{Bool}
 use native.Mathlib.Omega.{arith}
-use borrow.Author.Rules.{rules}
 use lib.ListN.{length}
 use Rattle.legs.specs.Known.{sight_on}
 use Rattle.legs.proofs.Least.{least-fewest}
-use Rattle.legs.proofs.Filling.{cleared-length, Filling, filling-first, filling-more, filling-done}
+use Rattle.legs.proofs.Filling.{cleared-length, filling-first, filling-more, filling-done}
 use Rattle.legs.proofs.Shapes.{joined-few}
 use Rattle.legs.proofs.proposing.fill_legs.Goals.{After-least_ahead-least, At-loop-i}
 use Rattle.legs.proofs.proposing.fill_legs.Goals as goal

@@ -1,17 +1,9 @@
 -- `legs::proposing::fill_legs` meets its contract: from i on each number is the fewest legs. Assumes nothing.
-use Prim.Native.Nat.{ℕ, ◌+◌, ◌-◌, ◌≤◌}
-use mathlib.Core.Path.{◌≡◌, ◌∙◌}
-use mathlib.Core.Bool.{Bool}
-use native.Mathlib.Omega.{arith}
-use borrow.Author.Rules.{rules}
 use lib.ListN.{length}
 use Rattle.legs.specs.Known.{sight_on}
-use Rattle.legs.proofs.Least.{least-fewest}
-use Rattle.legs.proofs.Filling.{cleared-length, Filling, filling-first, filling-more, filling-done}
-use Rattle.legs.proofs.Shapes.{joined-few}
+use Rattle.legs.proofs.Filling.{Filling}
 use Rattle.legs.proofs.proposing.fill_legs.Given as goal
 
--- `legs::proposing::fill_legs` meets its contract: from i on each number is the fewest legs. Assumes nothing.
 abbrev pub invariant-loop-i : goal.invariant-loop-i
 invariant-loop-i l = Filling (sight_on l.w l.h l.map l.list) l.n (length l.initial.legs) l.i l.legs
 

@@ -1,8 +1,5 @@
 -- `legs::proposing::goes_on` meets its contract: sight is asked only where one leg fewer is left. Assumes nothing.
-use Prim.Native.Nat.{ℕ}
-use mathlib.Core.Bool.{Bool}
 use native.Mathlib.Omega.{arith}
-use borrow.Author.Rules.{rules}
 use Rattle.legs.specs.Known.{sight_on}
 use Rattle.legs.proofs.Farthest.{goes-not, goes-seen}
 use Rattle.legs.proofs.proposing.goes_on.Goals as goal

@@ -1,12 +1,10 @@
 -- `legs::proposing::record_kept` meets its contract: `Recording` says what the loop has recorded. Assumes nothing.
-use Prim.Native.Nat.{ℕ, ◌-◌}
+use Prim.Native.Nat.{ℕ}
 use mathlib.Core.Path.{◌≡◌, ap, ◌∙◌}
-use mathlib.Core.Bool.{Bool}
 use native.Mathlib.Omega.{arith}
-use borrow.Author.Rules.{rules}
 use lib.ListN.{length, length-replicate}
 use Rattle.basics.specs.Lists.{padded}
-use Rattle.thinning.proofs.Recording.{Recording, recording-first, recording-more, recording-count, recording-done}
+use Rattle.thinning.proofs.Recording.{recording-first, recording-more, recording-count, recording-done}
 use Rattle.legs.specs.Answer.{farthest_next, proposed}
 use Rattle.legs.specs.Known.{sight_on}
 use Rattle.legs.proofs.Farthest.{Far, farthest-is, proposed-chain}
