@@ -21,7 +21,7 @@ runs c inside =
 
 pub settle-requires : goal.settle-requires
 settle-requires c =
-    (_, _, runs c (omega (arith, c.requires.costing.job.start_in)))
+    (_, _, runs (goal.at.settle-requires c).After-classes_of-classes (omega (arith, c.requires.costing.job.start_in)))
 
 pub returns : goal.returns
 returns c =
