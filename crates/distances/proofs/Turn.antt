@@ -16,7 +16,7 @@
 --                            invariant
 --   TurnOn ..             == `Turn` on each of these
 --   turn_on, filled_on    == a turn and the end on each of these
-use Prim.Native.Nat.{ℕ, zero, suc, ◌+◌, ◌*◌, ◌≤◌, ◌<◌}
+use Prim.Native.Nat.{ℕ, zero, suc, ◌+◌, ◌≤◌, ◌<◌}
 use mathlib.Core.Path.{◌≡◌, sym, ap, ◌∙◌, subst}
 use mathlib.Core.Logic.{⊎_elim}
 use mathlib.Core.Option.{some}

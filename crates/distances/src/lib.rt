@@ -1,5 +1,6 @@
 // The costs from one vertex to every vertex of a floor: d of rule 4.3, or e from the other end.
 #![tactic(auto)]
+
 ghost use Rattle.floor.specs.Floor.{floor_of};
 ghost use Rattle.grid.specs.Grid.{floor_graph};
 ghost use Rattle.workspace.specs.Regions.{MasksIn};

@@ -1,7 +1,6 @@
 -- `distances::costs_from` meets its contract: the masks are stored, the costs are filled over them, and then the
 -- working slice is cleared. Assumes nothing.
 use Rattle.distances.proofs.Operations.{costing-on, filled-costs}
-use borrow.Author.Rules.{rules}
 use Rattle.distances.proofs.costs_from.Goals as goal
 
 pub costs_over_masks-requires : goal.costs_over_masks-requires

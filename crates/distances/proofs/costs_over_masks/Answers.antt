@@ -6,7 +6,6 @@ use Rattle.floor.specs.Floor.{floor_of, vertices}
 use Rattle.grid.specs.Grid.{floor_graph}
 use Rattle.distances.specs.Dijkstra.{Runnable}
 use Rattle.distances.proofs.Operations.{runnable, ordered-costs}
-use borrow.Author.Rules.{rules}
 use Rattle.distances.proofs.costs_over_masks.Goals.{After-classes_of-classes}
 use Rattle.distances.proofs.costs_over_masks.Goals as goal
 

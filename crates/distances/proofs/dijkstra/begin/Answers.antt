@@ -1,7 +1,6 @@
 -- `distances::dijkstra::begin` meets its contract: its stores are those of `OnlySource`. Assumes nothing.
 use mathlib.Core.Path.{refl, ap}
 use lib.ListN.{set}
-use borrow.Author.Rules.{rules}
 use Rattle.distances.proofs.dijkstra.begin.Goals as goal
 
 pub returns : goal.returns

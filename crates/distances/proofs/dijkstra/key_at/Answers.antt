@@ -3,7 +3,6 @@ use native.Mathlib.Omega.{arith}
 use mathlib.Core.Path.{◌≡◌, sym, ap}
 use Rattle.paths.specs.Local.{entry}
 use Rattle.distances.proofs.Turn.{key_in, key-out}
-use borrow.Author.Rules.{rules}
 use Rattle.distances.proofs.dijkstra.key_at.Goals.{After-settled_at-u}
 use Rattle.distances.proofs.dijkstra.key_at.Goals as goal
 

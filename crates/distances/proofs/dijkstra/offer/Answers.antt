@@ -1,6 +1,5 @@
 -- `distances::dijkstra::offer` meets its contract: its stores are those of `Given`. Assumes nothing.
 use mathlib.Core.Path.{refl}
-use borrow.Author.Rules.{rules}
 use Rattle.distances.proofs.dijkstra.offer.Goals as goal
 
 pub returns : goal.returns

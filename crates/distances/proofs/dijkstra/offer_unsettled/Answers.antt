@@ -1,6 +1,6 @@
 -- `distances::dijkstra::offer_unsettled` meets its contract: a cost that stands stays as it is. Assumes nothing.
-use Prim.Native.Nat.{ℕ, ◌+◌}
-use mathlib.Core.Path.{◌≡◌, refl, sym, ap, ◌∙◌}
+use Prim.Native.Nat.{ℕ}
+use mathlib.Core.Path.{refl, sym, ap, ◌∙◌}
 use native.Mathlib.Omega.{arith}
 use borrow.Author.Tests.{eq-eqb, ne_eqb}
 use lib.ListN.{set}
@@ -8,7 +8,6 @@ use lib.Seq.{set-get_or}
 use Rattle.basics.specs.Bounded.{pick}
 use Rattle.paths.specs.Distance.{unreachable}
 use Rattle.paths.specs.Local.{entry}
-use borrow.Author.Rules.{rules}
 use Rattle.distances.proofs.dijkstra.offer_unsettled.Goals as goal
 
 pub returns-then-d-x : goal.returns-then-d-x

@@ -1,14 +1,13 @@
 -- `distances::dijkstra::relax_class` meets its contract: on any graph that it can run on, the far ends of the moves of
 -- the first j directions of the class were offered the key. Assumes nothing.
-use borrow.Author.Rules.{rules}
 use native.Mathlib.Omega.{arith}
 use mathlib.Core.Path.{◌≡◌, sym, ◌∙◌}
-use Prim.Native.Nat.{◌-◌, ◌≤◌, ◌<◌}
+use Prim.Native.Nat.{◌≤◌, ◌<◌}
 use lib.ListN.{length}
 use Rattle.offsets.specs.Classes.{class_dir}
 use Rattle.paths.specs.Local.{entry}
 use Rattle.distances.proofs.Store.{settled-le}
-use Rattle.distances.proofs.Relax.{RelaxedOn, far_at, far_at-is, vertex-in, relaxed-none, dir-low}
+use Rattle.distances.proofs.Relax.{far_at, far_at-is, vertex-in, relaxed-none, dir-low}
 use Rattle.distances.proofs.Relax.{reaching, offering, relaxed-more, relaxed-all}
 use Rattle.distances.proofs.dijkstra.relax_class.Goals.{After-end_or_self-x, After-settled_at, Start}
 use Rattle.distances.proofs.dijkstra.relax_class.Goals as goal

@@ -1,6 +1,5 @@
 -- `distances::dijkstra::settle` meets its contract: from the source alone settled, the algorithm with as many queues as
 -- there are costs. Assumes nothing.
-use borrow.Author.Rules.{rules}
 use Rattle.distances.proofs.Start.{begun-two, begun-four, costs-begun}
 use Rattle.distances.proofs.dijkstra.settle.Goals as goal
 

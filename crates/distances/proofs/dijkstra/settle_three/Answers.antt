@@ -1,17 +1,14 @@
 -- `distances::dijkstra::settle_three` meets its contract: at each turn `Running` holds of the four classes and their
 -- three positions, on any graph that the algorithm can run on. A turn of the last position is two turns of the law.
 -- Assumes nothing.
-use borrow.Author.Rules.{rules}
 use native.Mathlib.Omega.{arith}
-use mathlib.Core.Path.{◌≡◌, refl, sym, ap, ◌∙◌}
-use mathlib.Core.List.{List, [], ◌∷◌}
+use mathlib.Core.Path.{refl, sym, ap, ◌∙◌}
+use mathlib.Core.List.{[], ◌∷◌}
 use Prim.Native.Nat.{ℕ, ◌+◌, ◌≤◌, ◌<◌}
-use lib.ListN.{length}
-use Rattle.offsets.specs.declared.Class.{Class}
 use Rattle.paths.specs.Distance.{unreachable}
-use Rattle.distances.specs.Dijkstra.{key_of, Keyed, Running, four_classes, remaining}
+use Rattle.distances.specs.Dijkstra.{key_of, Keyed, Running, four_classes}
 use Rattle.distances.proofs.Turn.{keyed, key-most, Keys, Lowest, least-of, turn, least-again}
-use Rattle.distances.proofs.Turn.{RunningOn, TurnOn, turn_on, filled_on}
+use Rattle.distances.proofs.Turn.{TurnOn, turn_on, filled_on}
 use Rattle.distances.proofs.Start.{running-start, four-first}
 use Rattle.distances.proofs.dijkstra.settle_three.Goals.{After-key_at-k2, After-relax_unsettled-n-in-loop-c0, At-loop-c0, Else-k0, Else-k1-k2, Then-k0-min, Then-k1-k2}
 use Rattle.distances.proofs.dijkstra.settle_three.Goals as goal

@@ -1,18 +1,10 @@
 -- `distances::dijkstra::settle_three` meets its contract: at each turn `Running` holds of the four classes and their
 -- three positions, on any graph that the algorithm can run on. A turn of the last position is two turns of the law.
 -- Assumes nothing.
-use borrow.Author.Rules.{rules}
-use native.Mathlib.Omega.{arith}
-use mathlib.Core.Path.{◌≡◌, refl, sym, ap, ◌∙◌}
-use mathlib.Core.List.{List, [], ◌∷◌}
-use Prim.Native.Nat.{ℕ, ◌+◌, ◌≤◌, ◌<◌}
+use mathlib.Core.List.{[], ◌∷◌}
 use lib.ListN.{length}
-use Rattle.offsets.specs.declared.Class.{Class}
-use Rattle.paths.specs.Distance.{unreachable}
-use Rattle.distances.specs.Dijkstra.{key_of, Keyed, Running, four_classes, remaining}
-use Rattle.distances.proofs.Turn.{keyed, key-most, Keys, Lowest, least-of, turn, least-again}
-use Rattle.distances.proofs.Turn.{RunningOn, TurnOn, turn_on, filled_on}
-use Rattle.distances.proofs.Start.{running-start, four-first}
+use Rattle.distances.specs.Dijkstra.{four_classes, remaining}
+use Rattle.distances.proofs.Turn.{RunningOn}
 use Rattle.distances.proofs.dijkstra.settle_three.Given as goal
 
 abbrev pub invariant-loop-c0 : goal.invariant-loop-c0

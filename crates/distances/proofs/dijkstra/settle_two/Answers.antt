@@ -1,19 +1,16 @@
 -- `distances::dijkstra::settle_two` meets its contract: at each turn `Running` holds of the two classes and their
 -- positions, and of two classes of no move, whose position is past all vertices, on any graph that the algorithm can
 -- run on. Assumes nothing.
-use borrow.Author.Rules.{rules}
 use native.Mathlib.Omega.{arith}
 use mathlib.Core.Path.{◌≡◌, refl, sym, ◌∙◌}
-use mathlib.Core.List.{List, [], ◌∷◌}
 use Prim.Native.Nat.{ℕ, ◌≤◌}
 use lib.ListN.{length}
-use Rattle.offsets.specs.declared.Class.{Class}
 use Rattle.offsets.specs.Classes.{class_of}
 use Rattle.paths.specs.Distance.{unreachable}
-use Rattle.distances.specs.Dijkstra.{key_of, Keyed, Running, two_classes, remaining}
+use Rattle.distances.specs.Dijkstra.{key_of, Keyed, Running, two_classes}
 use Rattle.distances.proofs.Store.{settled-le}
 use Rattle.distances.proofs.Turn.{key-out, keyed, key-most, Keys, Lowest, least-of}
-use Rattle.distances.proofs.Turn.{RunningOn, TurnOn, turn_on, filled_on}
+use Rattle.distances.proofs.Turn.{TurnOn, turn_on, filled_on}
 use Rattle.distances.proofs.Start.{running-start, four-first}
 use Rattle.distances.proofs.dijkstra.settle_two.Goals.{After-key_at-k1, At-loop-c0, Else-k0, Else-k0-k1, Then-k0-k1}
 use Rattle.distances.proofs.dijkstra.settle_two.Invariants.{places}
