@@ -3,7 +3,7 @@
 --   after-calls    == after any calls from a fresh writer on, the buffer has the records of the calls that were not
 --                     refused at its start, and is unchanged after them
 --   written-bytes  == what was written is the bytes of the calls that were not refused
---   read-back      == after any calls that include a map, reading what was written gives that floor and the jobs
+--   read_back      == after any calls that include a map, reading what was written gives that floor and the jobs
 --   write_back     == with room enough, writing what is read of a stream before any bad record gives the same bytes
 use Prim.Native.Nat.{ℕ, ◌≤◌}
 use mathlib.Core.Path.{◌≡◌, refl, ap, ◌∙◌}
