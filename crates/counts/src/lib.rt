@@ -6,6 +6,7 @@
 // is added to it has its own. A sum on the way never passes the total, so a sum that does not fit says that the total
 // does not.
 #![tactic(auto)]
+
 ghost use Rattle.std.specs.Prelude.{◌≡◌, ℕ, ◌<◌, ◌≤◌, length};
 ghost use Rattle.basics.specs.Bounded.{pick};
 ghost use Rattle.basics.specs.Lists.{zeros};

@@ -1,6 +1,7 @@
 // Costs that a caller hands in, tested by the local law: each cost against those of its neighbours, in one pass over
 // the floor, with nothing to write in.
 #![tactic(auto)]
+
 ghost use Rattle.std.specs.Prelude.{◌≡◌, suc, ◌≤◌, length};
 ghost use Rattle.floor.specs.Floor.{floor_of, vertices};
 ghost use Rattle.masks.specs.Masks.{LeavingRow};

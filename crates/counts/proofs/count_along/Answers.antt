@@ -1,15 +1,14 @@
 -- `counts::count_along` meets its contract: at each turn a vertex on the way gets its count, since the cheaper vertices
 -- on the way have theirs. Assumes nothing.
-use Prim.Native.Nat.{◌-◌, ◌<◌}
+use Prim.Native.Nat.{◌<◌}
 use mathlib.Core.Path.{◌≡◌}
 use native.Mathlib.Omega.{arith}
-use borrow.Author.Rules.{rules}
 use lib.ListN.{length}
 use Rattle.neighbours.specs.Reading.{sum_of}
 use Rattle.workspace.specs.Regions.{mask_at}
 use Rattle.counts.specs.Passes.{turn_place, count_of}
 use Rattle.counts.proofs.Sequence.{place-lt}
-use Rattle.counts.proofs.Passing.{Turning, turn-start, turn-len, turn_more, turn-over, turn_end}
+use Rattle.counts.proofs.Passing.{turn-start, turn-len, turn_more, turn-over, turn_end}
 use Rattle.counts.proofs.count_along.Goals.{After-count_of, After-vertex_of_turn-u}
 use Rattle.counts.proofs.count_along.Goals as goal
 

@@ -1,6 +1,5 @@
 -- `counts::count_of` meets its contract: each return is one case of `count_of`. Assumes nothing.
 use Rattle.counts.proofs.Passing.{count-one, count-sum}
-use borrow.Author.Rules.{rules}
 use Rattle.counts.proofs.count_of.Goals as goal
 
 pub returns-then-u-start : goal.returns-then-u-start

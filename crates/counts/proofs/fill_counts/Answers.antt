@@ -14,7 +14,6 @@ use Rattle.counts.proofs.Filling.{
   filled-both,
   filled_none,
 }
-use borrow.Author.Rules.{rules}
 use Rattle.counts.proofs.fill_counts.Goals as goal
 
 pub count_along-requires : goal.count_along-requires

@@ -1,11 +1,10 @@
 -- `counts::keep_on_way` meets its contract: after i turns the vertices on the way among the first i are kept, and from
 -- place i on the slice is as it was. Assumes nothing.
-use Prim.Native.Nat.{◌+◌, ◌-◌, ◌≤◌}
+use Prim.Native.Nat.{◌+◌}
 use mathlib.Core.Path.{◌≡◌, ap, ◌∙◌, subst}
 use native.Mathlib.Omega.{arith}
-use borrow.Author.Rules.{rules}
 use Rattle.basics.specs.Bounded.{pick}
-use Rattle.counts.specs.Passes.{sums_to, Filtered}
+use Rattle.counts.specs.Passes.{sums_to}
 use Rattle.counts.proofs.Keeping.{kept-none, kept_more, kept-all}
 use Rattle.counts.proofs.keep_on_way.Goals as goal
 

@@ -1,5 +1,4 @@
 -- `counts::vertex_of_turn` meets its contract: each arm reads the place that `turn_place` names. Assumes nothing.
-use borrow.Author.Rules.{rules}
 use Rattle.counts.proofs.vertex_of_turn.Goals as goal
 
 pub returns-then-rev : goal.returns-then-rev

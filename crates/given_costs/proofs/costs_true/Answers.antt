@@ -5,14 +5,9 @@ use mathlib.Core.Path.{◌≡◌, ap, ◌∙◌}
 use mathlib.Core.Bool.{not}
 use native.Mathlib.Omega.{arith}
 use native.Mathlib.Numerals.{add-one}
-use Rattle.basics.proofs.Scan.{Passed, passed_none, passed-stop, passed-more, passed-all}
-use Rattle.floor.specs.Floor.{floor_of}
+use Rattle.basics.proofs.Scan.{passed_none, passed-stop, passed-more, passed-all}
 use Rattle.floor.proofs.Numbers.{vertices-le}
-use Rattle.masks.specs.Windows.{WindowRow, WindowLines}
-use Rattle.grid.specs.Leaving.{leaving_graph}
-use Rattle.given_costs.specs.Tests.{row_test}
 use Rattle.given_costs.proofs.Tested.{start-false, rows_true}
-use borrow.Author.Rules.{rules}
 use Rattle.given_costs.proofs.costs_true.Goals.{In-loop-y}
 use Rattle.given_costs.proofs.costs_true.Goals as goal
 

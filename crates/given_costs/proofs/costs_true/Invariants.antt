@@ -1,17 +1,11 @@
 -- `given_costs::costs_true` meets its contract: the start costs 0, and the rows passed are right; `above` and `here`
 -- are the windows of the lines above y and at y. Assumes nothing.
-use Prim.Native.Nat.{suc, ◌+◌, ◌-◌, ◌<◌}
-use mathlib.Core.Path.{◌≡◌, ◌∙◌}
-use native.Mathlib.Omega.{arith}
-use native.Mathlib.Numerals.{add-one}
-use Rattle.basics.proofs.Scan.{Passed, passed_none, passed-stop, passed-more, passed-all}
+use Prim.Native.Nat.{suc, ◌-◌}
+use Rattle.basics.proofs.Scan.{Passed}
 use Rattle.floor.specs.Floor.{floor_of}
-use Rattle.floor.proofs.Numbers.{vertices-le}
-use Rattle.masks.specs.Windows.{WindowRow, WindowLines}
+use Rattle.masks.specs.Windows.{WindowRow}
 use Rattle.grid.specs.Leaving.{leaving_graph}
 use Rattle.given_costs.specs.Tests.{row_test}
-use Rattle.given_costs.proofs.Tested.{start-false, rows_true}
-use borrow.Author.Rules.{rules}
 use Rattle.given_costs.proofs.costs_true.Given as goal
 
 abbrev pub invariant-loop-y : goal.invariant-loop-y

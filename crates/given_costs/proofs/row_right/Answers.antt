@@ -1,6 +1,6 @@
 -- `given_costs::row_right` meets its contract: the flag says whether the costs of the row before column x pass. Assumes
 -- nothing.
-use Prim.Native.Nat.{◌+◌, ◌-◌, ◌*◌, ◌≤◌}
+use Prim.Native.Nat.{◌+◌, ◌*◌, ◌≤◌}
 use mathlib.Core.Path.{◌≡◌, refl, ap, ◌∙◌}
 use mathlib.Core.Bool.{not}
 use native.Mathlib.Omega.{arith}
@@ -11,11 +11,8 @@ use Rattle.floor.specs.Floor.{floor_of, number}
 use Rattle.floor.proofs.Numbers.{mul-fits, vertices-le, number_lt}
 use Rattle.moves.specs.Table.{OnFloor}
 use Rattle.masks.specs.Masks.{Leaving}
-use Rattle.grid.specs.Leaving.{leaving_graph}
 use Rattle.neighbours.proofs.Columns.{flag-stops, flag-keeps}
-use Rattle.given_costs.specs.Tests.{column_test}
 use Rattle.given_costs.proofs.Tested.{column-readable, column-right}
-use borrow.Author.Rules.{rules}
 use Rattle.given_costs.proofs.row_right.Goals.{In-loop-x, then-not-vertex_right, else-not-vertex_right}
 use Rattle.given_costs.proofs.row_right.Goals as goal
 
@@ -76,8 +73,8 @@ loop-x-preserved c =
     let is = column-right p.0 c.shifts_of-shifts.ensures (on_row (goal.at.loop-x-preserved c).In-loop-x) (mask-of (goal.at.loop-x-preserved c).In-loop-x)
     (at-number (goal.at.loop-x-preserved c).In-loop-x) c.args.d.now p.1 c.vertex_right.ensures in (
       elim c.if-not-vertex_right.branch [
-        then-not-vertex_right w ↦ w.right-is ∙ flag-stops _ _ is (ap not w.if-not-vertex_right.true)
-      | else-not-vertex_right w ↦ w.right-is ∙ flag-keeps _ _ is i (ap not w.if-not-vertex_right.false)
+        | then-not-vertex_right w ↦ w.right-is ∙ flag-stops _ _ is (ap not w.if-not-vertex_right.true)
+        | else-not-vertex_right w ↦ w.right-is ∙ flag-keeps _ _ is i (ap not w.if-not-vertex_right.false)
       ],
       omega arith,
     )

@@ -1,21 +1,11 @@
 -- `given_costs::row_right` meets its contract: the flag says whether the costs of the row before column x pass. Assumes
 -- nothing.
-use Prim.Native.Nat.{◌+◌, ◌-◌, ◌*◌, ◌≤◌}
-use mathlib.Core.Path.{◌≡◌, refl, ap, ◌∙◌}
-use mathlib.Core.Logic.{⊎_elim}
-use native.Mathlib.Omega.{arith}
-use native.Mathlib.Numerals.{add-one}
-use lib.ListN.{get_or}
+use Prim.Native.Nat.{◌+◌, ◌≤◌}
+use mathlib.Core.Path.{◌≡◌}
 use Rattle.basics.specs.Bounded.{every}
-use Rattle.floor.specs.Floor.{floor_of, number}
-use Rattle.floor.proofs.Numbers.{mul-fits, vertices-le, number_lt}
-use Rattle.moves.specs.Table.{OnFloor}
-use Rattle.masks.specs.Masks.{Leaving}
+use Rattle.floor.specs.Floor.{floor_of}
 use Rattle.grid.specs.Leaving.{leaving_graph}
-use Rattle.neighbours.proofs.Columns.{flag-stops, flag-keeps}
 use Rattle.given_costs.specs.Tests.{column_test}
-use Rattle.given_costs.proofs.Tested.{column-readable, column-right}
-use borrow.Author.Rules.{rules}
 use Rattle.given_costs.proofs.row_right.Given as goal
 
 abbrev pub invariant-loop-x : goal.invariant-loop-x
