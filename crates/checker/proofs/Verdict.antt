@@ -41,13 +41,13 @@ use Rattle.checker.proofs.Exact.{route_test-local, no_route_test-local}
 -- ---- the two tests of the verdict
 
 module _ (g : Graph) (a b : ℕ) (s : Sheet) where
-  abbrev routeGood : Bool
-  routeGood = joined g a b && (fits g a b && same_sheet s (route_sheet g a b))
+  abbrev route_good : Bool
+  route_good = joined g a b && (fits g a b && same_sheet s (route_sheet g a b))
 
-  abbrev noRouteGood : Bool
-  noRouteGood = not (joined g a b) && same_sheet s (no_route_sheet g a)
+  abbrev no_route_good : Bool
+  no_route_good = not (joined g a b) && same_sheet s (no_route_sheet g a)
 
-  pub accepts-route : (routeGood ≡ true) ↔ TrueRoute g a b s
+  pub accepts-route : (route_good ≡ true) ↔ TrueRoute g a b s
   accepts-route = (
     λ t.
         let u = and_right (joined g a b) _ t in
@@ -60,7 +60,7 @@ module _ (g : Graph) (a b : ℕ) (s : Sheet) where
         ((same_sheet-exact s (route_sheet g a b)).1 r.is)),
   )
 
-  pub accepts-no_route : (noRouteGood ≡ true) ↔ TrueNoRoute g a b s
+  pub accepts-no_route : (no_route_good ≡ true) ↔ TrueNoRoute g a b s
   accepts-no_route = (
     λ t. record {
       not_joined = not-true (joined g a b) (and_left (not (joined g a b)) _ t);
@@ -82,12 +82,12 @@ module _ (g : Graph) (a b : ℕ) (s : Sheet) where
     verdict-tests =
         let route = local_route-exact g L a b in-a in_b s shape total in
         let none = local_no_route-exact g L a b in-a in_b s shape in
-        let p : routeGood ≡ route_test g a b s
-        = iff-eq routeGood (local_route g a b s) (λ t. route.1 (accepts-route.0 t))
+        let p : route_good ≡ route_test g a b s
+        = iff-eq route_good (local_route g a b s) (λ t. route.1 (accepts-route.0 t))
         (λ t. accepts-route.1 (route.0 t))
         ∙ sym (route_test-local g a b s L) in
-        let q : noRouteGood ≡ no_route_test g a b s
-        = iff-eq noRouteGood (local_no_route g a b s) (λ t. none.1 (accepts-no_route.0 t))
+        let q : no_route_good ≡ no_route_test g a b s
+        = iff-eq no_route_good (local_no_route g a b s) (λ t. none.1 (accepts-no_route.0 t))
         (λ t. accepts-no_route.1 (none.0 t))
         ∙ sym (no_route_test-local g a b s L) in
         ap₂ answer p q
@@ -99,7 +99,7 @@ module _ (g : Graph) (a b : ℕ) (s : Sheet) where
 
   pub verdict-route : Answers Route ↔ TrueRoute g a b s
   unfolding verdict
-  verdict-route = (λ e. accepts-route.0 (cases routeGood noRouteGood e), λ t. rw (accepts-route.1 t))
+  verdict-route = (λ e. accepts-route.0 (cases route_good no_route_good e), λ t. rw (accepts-route.1 t))
     where
       cases : (p q : Bool) → answer p q ≡ Route → p ≡ true
       cases true q e = refl
@@ -109,7 +109,7 @@ module _ (g : Graph) (a b : ℕ) (s : Sheet) where
   pub verdict-no_route : Answers NoRoute ↔ TrueNoRoute g a b s
   unfolding verdict
   verdict-no_route = (
-    λ e. accepts-no_route.0 (cases routeGood noRouteGood e),
+    λ e. accepts-no_route.0 (cases route_good no_route_good e),
     λ t. rw (
       ap (λ (j : Bool). j && (fits g a b && same_sheet s (route_sheet g a b))) t.not_joined,
       accepts-no_route.1 t,
@@ -124,7 +124,7 @@ module _ (g : Graph) (a b : ℕ) (s : Sheet) where
   pub verdict-else : (TrueRoute g a b s → ⊥) → (TrueNoRoute g a b s → ⊥) → Answers (Refused FalseSheet)
   unfolding verdict
   verdict-else p q =
-      cases routeGood noRouteGood (λ e. p (accepts-route.0 e)) (λ e. q (accepts-no_route.0 e))
+      cases route_good no_route_good (λ e. p (accepts-route.0 e)) (λ e. q (accepts-no_route.0 e))
     where
       cases : (x y : Bool) → (x ≡ true → ⊥) → (y ≡ true → ⊥) → answer x y ≡ Refused FalseSheet
       cases true y m n = absurd (m refl)
