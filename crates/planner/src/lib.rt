@@ -8,6 +8,7 @@
 //     finish_over_masks  a job finished from true costs and the masks in the working slice
 //     find_route         the route of a job whose ends a walk joins: answers 0 and 8
 #![tactic(auto)]
+
 mod route; // route.rt: the next vertices, and the central route, which is the walk through them
 
 ghost use Rattle.std.specs.Prelude.{◌≡◌, ◌*◌, ◌≤◌};

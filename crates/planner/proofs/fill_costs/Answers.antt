@@ -3,7 +3,6 @@
 use mathlib.Core.Path.{refl, sym, ◌∙◌}
 use Rattle.grid.proofs.Jobs.{good-job}
 use Rattle.planner.proofs.Shaped.{fills-refused, fills-fit}
-use borrow.Author.Rules.{rules}
 use Rattle.planner.proofs.fill_costs.Goals as goal
 
 pub fill_job-requires : goal.fill_job-requires

@@ -2,7 +2,6 @@
 -- Assumes nothing.
 use mathlib.Core.Path.{refl}
 use Rattle.planner.proofs.Shaped.{costs-long, costs-cramped, costs-filled}
-use borrow.Author.Rules.{rules}
 use Rattle.planner.proofs.fill_job.Goals as goal
 
 pub returns-then-d-v : goal.returns-then-d-v

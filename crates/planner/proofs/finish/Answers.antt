@@ -3,7 +3,6 @@
 use mathlib.Core.Path.{refl, sym, ◌∙◌}
 use Rattle.grid.proofs.Jobs.{good-job}
 use Rattle.planner.proofs.Shaped.{finishes-refused, finishes-fit}
-use borrow.Author.Rules.{rules}
 use Rattle.planner.proofs.finish.Goals as goal
 
 pub finish_given-requires : goal.finish_given-requires

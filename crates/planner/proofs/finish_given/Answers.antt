@@ -7,7 +7,6 @@ use Rattle.planner.specs.Parts.{FullSlices}
 use Rattle.grid.proofs.Jobs.{start-alone}
 use Rattle.planner.proofs.Shaped.{lent_of, lengths-bad}
 use Rattle.planner.proofs.Shaped.{job-unsized, job-false, job-true, job-finishable}
-use borrow.Author.Rules.{rules}
 use Rattle.planner.proofs.finish_given.Goals.{Else-not-lengths_good}
 use Rattle.planner.proofs.finish_given.Goals as goal
 

@@ -1,8 +1,6 @@
 -- `planner::finish_job` meets its contract: the masks are stored, and then the job is finished over them. Assumes
 -- nothing.
-use mathlib.Core.Path.{◌∙◌}
 use Rattle.planner.proofs.Shaped.{finishable-on}
-use borrow.Author.Rules.{rules}
 use Rattle.planner.proofs.finish_job.Goals as goal
 
 pub finish_over_masks-requires : goal.finish_over_masks-requires

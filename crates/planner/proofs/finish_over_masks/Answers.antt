@@ -2,7 +2,6 @@
 -- ends, or a route is found; the working slice is cleared last. Assumes nothing.
 use mathlib.Core.Path.{◌∙◌}
 use Rattle.planner.proofs.Finding.{finish-none, finish-findable, finish-cleared}
-use borrow.Author.Rules.{rules}
 use Rattle.planner.proofs.finish_over_masks.Goals as goal
 
 pub returns-then-d-goal : goal.returns-then-d-goal

@@ -1,7 +1,6 @@
 -- `planner::lengths_good` meets its contract: each return is a case of the tests. Assumes nothing.
 use borrow.Author.Tests.{eq-eqb, ne_eqb}
 use Rattle.planner.specs.Parts.{lengths_good}
-use borrow.Author.Rules.{rules}
 use Rattle.planner.proofs.lengths_good.Goals as goal
 
 pub returns-then-d-v : goal.returns-then-d-v

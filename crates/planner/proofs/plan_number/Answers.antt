@@ -1,6 +1,5 @@
 -- `planner::plan_number` meets its contract: a route has the number 0, a refusal its own. Assumes nothing.
 use mathlib.Core.Path.{sym, ap, ◌∙◌}
-use borrow.Author.Rules.{rules}
 use Rattle.planner.specs.Plan.{plan_number}
 use Rattle.planner.proofs.plan_number.Goals as goal
 

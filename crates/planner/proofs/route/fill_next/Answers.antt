@@ -1,12 +1,7 @@
 -- `planner::route::fill_next` meets its contract: the places before `first` have their next vertices, and the others 0.
 -- Assumes nothing.
-use Prim.Native.Nat.{◌-◌, ◌≤◌}
-use mathlib.Core.Path.{sym, ap, ◌∙◌}
 use native.Mathlib.Omega.{arith}
-use lib.ListN.{length, length-replicate}
-use Rattle.planner.specs.Parts.{NumberedTo}
 use Rattle.planner.proofs.Numbering.{numbered-none, numbered-off, numbered-all}
-use borrow.Author.Rules.{rules}
 use Rattle.planner.proofs.route.fill_next.Goals as goal
 
 pub loop-first-init : goal.loop-first-init
@@ -33,11 +28,10 @@ pub loop-first-smaller : goal.loop-first-smaller
 loop-first-smaller c = omega (arith, c.part_end-past.ensures)
 
 pub loop-first-preserved : goal.loop-first-preserved
-loop-first-preserved c =
-    (
-      numbered-off c.loop-first.invariant.0 (omega (arith, c.part_end-past.ensures.0)) (c.any_on_way.ensures c.if-any_on_way.false),
-      c.part_end-past.ensures.1,
-    )
+loop-first-preserved c = (
+  numbered-off c.loop-first.invariant.0 (omega (arith, c.part_end-past.ensures.0)) (c.any_on_way.ensures c.if-any_on_way.false),
+  c.part_end-past.ensures.1,
+)
 
 pub returns : goal.returns
 returns c = numbered-all c.loop-first.invariant.0 (omega arith)

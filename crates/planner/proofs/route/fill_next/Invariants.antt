@@ -1,12 +1,8 @@
 -- `planner::route::fill_next` meets its contract: the places before `first` have their next vertices, and the others 0.
 -- Assumes nothing.
 use Prim.Native.Nat.{◌-◌, ◌≤◌}
-use mathlib.Core.Path.{sym, ap, ◌∙◌}
-use native.Mathlib.Omega.{arith}
-use lib.ListN.{length, length-replicate}
+use lib.ListN.{length}
 use Rattle.planner.specs.Parts.{NumberedTo}
-use Rattle.planner.proofs.Numbering.{numbered-none, numbered-off, numbered-all}
-use borrow.Author.Rules.{rules}
 use Rattle.planner.proofs.route.fill_next.Given as goal
 
 abbrev pub invariant-loop-first : goal.invariant-loop-first

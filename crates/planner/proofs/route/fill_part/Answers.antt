@@ -1,11 +1,10 @@
 -- `planner::route::fill_part` meets its contract: the places before v have their next vertices. Assumes nothing.
-use Prim.Native.Nat.{◌-◌, ◌≤◌, ◌<◌}
-use mathlib.Core.Path.{◌≡◌, sym, ◌∙◌, subst}
+use Prim.Native.Nat.{◌<◌}
+use mathlib.Core.Path.{◌≡◌, subst}
 use native.Mathlib.Omega.{arith}
 use lib.ListN.{length}
 use Rattle.planner.specs.Parts.{NumberedTo}
 use Rattle.planner.proofs.Numbering.{numbered_more}
-use borrow.Author.Rules.{rules}
 use Rattle.planner.proofs.route.fill_part.Goals.{In-loop-v}
 use Rattle.planner.proofs.route.fill_part.Goals as goal
 
@@ -40,12 +39,11 @@ pub overflow_step-v : goal.overflow_step-v
 overflow_step-v c = omega (arith, vertex (goal.at.overflow_step-v c).In-loop-v, c.requires.0.few)
 
 pub loop-v-preserved : goal.loop-v-preserved
-loop-v-preserved c =
-    (
-      numbered_more c.loop-v.invariant.0 (vertex (goal.at.loop-v-preserved c).In-loop-v) c.next_number.result
-          (rw c.mask_at-mask.ensures at c.next_number.ensures.0),
-      omega arith,
-    )
+loop-v-preserved c = (
+  numbered_more c.loop-v.invariant.0 (vertex (goal.at.loop-v-preserved c).In-loop-v) c.next_number.result
+      (rw c.mask_at-mask.ensures at c.next_number.ensures.0),
+  omega arith,
+)
 
 pub returns : goal.returns
 returns c =

@@ -1,11 +1,6 @@
 -- `planner::route::fill_part` meets its contract: the places before v have their next vertices. Assumes nothing.
-use Prim.Native.Nat.{◌-◌, ◌≤◌, ◌<◌}
-use mathlib.Core.Path.{◌≡◌, sym, ◌∙◌, subst}
-use native.Mathlib.Omega.{arith}
-use lib.ListN.{length}
+use Prim.Native.Nat.{◌-◌, ◌≤◌}
 use Rattle.planner.specs.Parts.{NumberedTo}
-use Rattle.planner.proofs.Numbering.{numbered_more}
-use borrow.Author.Rules.{rules}
 use Rattle.planner.proofs.route.fill_part.Given as goal
 
 abbrev pub invariant-loop-v : goal.invariant-loop-v

@@ -2,7 +2,6 @@
 use mathlib.Core.Path.{sym, ◌∙◌}
 use borrow.Author.Tests.{not-false}
 use Rattle.planner.proofs.Numbering.{number-off, number-goal, number-to}
-use borrow.Author.Rules.{rules}
 use Rattle.planner.proofs.route.next_number.Goals as goal
 
 pub returns-then-not-on_way : goal.returns-then-not-on_way

@@ -1,21 +1,9 @@
 -- `planner::route::write_route` meets its contract: the n points written are those of the route before `at`. Assumes
 -- nothing.
-use Prim.Native.Nat.{◌-◌, ◌<◌}
+use Prim.Native.Nat.{◌<◌}
 use native.Mathlib.Omega.{arith}
-use borrow.Author.Rules.{rules}
 use lib.ListN.{length}
-use Rattle.paths.specs.Graph.{Graph}
-use Rattle.planner.specs.Parts.{Walkable}
-use Rattle.planner.proofs.Walking.{
-  Walking,
-  Stepping,
-  step_start,
-  step-more,
-  step_end,
-  step-len,
-  next-len,
-  walking-room,
-}
+use Rattle.planner.proofs.Walking.{step_start, step-more, step_end, next-len, walking-room}
 use Rattle.planner.proofs.route.write_route.Goals.{At-loop-at}
 use Rattle.planner.proofs.route.write_route.Goals as goal
 

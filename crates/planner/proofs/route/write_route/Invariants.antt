@@ -1,21 +1,8 @@
 -- `planner::route::write_route` meets its contract: the n points written are those of the route before `at`. Assumes
 -- nothing.
-use Prim.Native.Nat.{◌-◌, ◌<◌}
-use native.Mathlib.Omega.{arith}
-use borrow.Author.Rules.{rules}
+use Prim.Native.Nat.{◌-◌}
 use lib.ListN.{length}
-use Rattle.paths.specs.Graph.{Graph}
-use Rattle.planner.specs.Parts.{Walkable}
-use Rattle.planner.proofs.Walking.{
-  Walking,
-  Stepping,
-  step_start,
-  step-more,
-  step_end,
-  step-len,
-  next-len,
-  walking-room,
-}
+use Rattle.planner.proofs.Walking.{Stepping}
 use Rattle.planner.proofs.route.write_route.Given as goal
 
 abbrev pub invariant-loop-at : goal.invariant-loop-at
