@@ -20,7 +20,6 @@ use Rattle.floor.specs.declared.Refusal.{Refusal}
 use Rattle.moves.specs.declared.Directions.{Directions}
 use Rattle.paths.specs.Distance.{unreachable, distance}
 use Rattle.paths.specs.Route.{central_route}
-use Rattle.paths.specs.Sheet.{joined}
 use Rattle.grid.specs.Grid.{floor_graph}
 use Rattle.grid.specs.declared.JobShape.{JobShape}
 use Rattle.grid.specs.declared.JobShape.TheVariants.{Fit, Refused as BadJob}

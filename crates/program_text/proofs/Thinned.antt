@@ -3,7 +3,7 @@
 --   thinned        == `KeptOf` of what thinning a joined list answers and leaves
 --   route-line-le  == a route line has at most 160 bytes
 --   route-written  == the two lines written one after the other are those of the route
-use Prim.Native.Nat.{ℕ, ◌+◌, ◌^◌, ◌≤◌, ◌<◌}
+use Prim.Native.Nat.{ℕ, ◌^◌, ◌≤◌, ◌<◌}
 use mathlib.Core.Path.{◌≡◌, sym, ap, ap₂, ◌∙◌}
 use mathlib.Core.List.{List, ◌++◌}
 use native.Mathlib.Omega.{arith}

@@ -1,6 +1,6 @@
 -- One turn of the program, by the record at its cursor: its text and the text from the cursor that it answers are the
 -- text from its cursor on. That holds for any input t with the same record there.
-use Prim.Native.Nat.{ℕ, ◌+◌, ◌≤◌}
+use Prim.Native.Nat.{ℕ, ◌≤◌}
 use mathlib.Core.Path.{◌≡◌, sym, ap, ◌∙◌}
 use mathlib.Core.List.{List, ◌++◌}
 use native.Mathlib.Omega.{arith}

@@ -1,6 +1,7 @@
 // One job of the program: planned, thinned and written as lines; and one turn of the program, which writes the text of
 // one record.
 #![tactic(auto)]
+
 ghost use Rattle.std.specs.Prelude.{◌≡◌, ◌≤◌};
 ghost use Rattle.floor.specs.Floor.{stored_cells, floor_of, vertices};
 ghost use Rattle.planner.specs.Plan.{slices_of};

@@ -1,7 +1,6 @@
 -- `program_text::answer_text` meets its contract: a refusal's line, or, where the answer is a route, the route slice
 -- holds a list that can be thinned. Assumes nothing.
 use Rattle.program_text.proofs.Lines.{planned-as, routable, refused-written, found-written}
-use borrow.Author.Rules.{rules}
 use Rattle.program_text.proofs.answer_text.Goals as goal
 
 pub route_text-requires : goal.route_text-requires

@@ -3,7 +3,6 @@
 use mathlib.Core.Path.{ap, ◌∙◌}
 use Rattle.floor.specs.Floor.{stored_cells}
 use Rattle.program_text.proofs.Cells.{part-cells}
-use borrow.Author.Rules.{rules}
 use Rattle.program_text.proofs.copy_cells.Goals as goal
 
 pub returns : goal.returns

@@ -3,7 +3,6 @@
 use mathlib.Core.Path.{◌∙◌}
 use Rattle.planner.proofs.Shaped.{full-sized}
 use Rattle.program_text.proofs.Planning.{costs-sized, full-on, planned-first, planned-again}
-use borrow.Author.Rules.{rules}
 use Rattle.program_text.proofs.plan_job.Goals as goal
 
 pub returns-then-plan_number-ne-FALSE_COSTS : goal.returns-then-plan_number-ne-FALSE_COSTS

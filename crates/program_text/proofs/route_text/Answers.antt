@@ -6,7 +6,6 @@ use lib.ListN.{length}
 use Rattle.floor.specs.Floor.{floor_of}
 use Rattle.records.proofs.Writing.{room_after}
 use Rattle.program_text.proofs.Thinned.{KeptOf, thinned, route-line-le, route-written}
-use borrow.Author.Rules.{rules}
 use Rattle.program_text.proofs.route_text.Goals.{After-kept_count-k, After-put_route-next}
 use Rattle.program_text.proofs.route_text.Goals as goal
 

@@ -1,7 +1,6 @@
 -- `program_text::take_turn` meets its contract: each return is a case of the record at the cursor. Assumes nothing.
 use mathlib.Core.Path.{sym, ◌∙◌}
 use Rattle.program_text.proofs.Turns.{turn-job, turn-bad, turn_end, turn-map}
-use borrow.Author.Rules.{rules}
 use Rattle.program_text.proofs.take_turn.Goals as goal
 
 pub returns-in-Job : goal.returns-in-Job
