@@ -7,6 +7,7 @@
 //     plan_sheet         the true sheet, by the planner
 //     sheet_differences  at how many places two sheets differ, for each slice
 #![tactic(auto)]
+
 ghost use Rattle.std.specs.Prelude.{◌≡◌};
 ghost use Rattle.floor.specs.Floor.{floor_of};
 ghost use Rattle.paths.specs.Sheet.{sheet_of};

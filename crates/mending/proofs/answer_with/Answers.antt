@@ -1,6 +1,5 @@
 -- `mending::answer_with` meets its contract: each return is a case of `answer_by`. Assumes nothing.
 use borrow.Author.Tests.{ne_eqb}
-use borrow.Author.Rules.{rules}
 use Rattle.mending.specs.Known.{answer_by}
 use Rattle.mending.proofs.answer_with.Goals as goal
 

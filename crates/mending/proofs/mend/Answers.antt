@@ -1,7 +1,6 @@
 -- `mending::mend` meets its contract: an input of bad shape is refused, and any other sheet is mended. Assumes nothing.
 use mathlib.Core.Path.{refl, sym, ◌∙◌}
 use Rattle.mending.proofs.Shaped.{job-mendable, mends-refused, mends-fit}
-use borrow.Author.Rules.{rules}
 use Rattle.mending.proofs.mend.Goals as goal
 
 pub mend_sheet-requires : goal.mend_sheet-requires

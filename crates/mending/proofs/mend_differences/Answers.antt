@@ -1,6 +1,5 @@
 -- `mending::mend_differences` meets its contract: a refusal has 0 for each slice. Assumes nothing.
 use mathlib.Core.Path.{sym, ap}
-use borrow.Author.Rules.{rules}
 use Rattle.mending.specs.Mending.{mend_differences}
 use Rattle.mending.proofs.mend_differences.Goals as goal
 

@@ -1,6 +1,5 @@
 -- `mending::mend_number` meets its contract: a route has the number 0, no route 7, a refusal its own. Assumes nothing.
 use mathlib.Core.Path.{sym, ap, ◌∙◌}
-use borrow.Author.Rules.{rules}
 use Rattle.mending.specs.Mending.{mend_number}
 use Rattle.mending.proofs.mend_number.Goals as goal
 

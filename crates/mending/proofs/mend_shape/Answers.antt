@@ -1,7 +1,6 @@
 -- `mending::mend_shape` meets its contract: each return is one case of `mend_shape`. Assumes nothing.
 use mathlib.Core.Path.{sym, ◌∙◌}
 use Rattle.grid.proofs.Jobs.{good-job}
-use borrow.Author.Rules.{rules}
 use Rattle.mending.proofs.Shaped.{mend-refused, mend-old, mend-second, mend-work, mend-fit}
 use Rattle.mending.proofs.mend_shape.Goals as goal
 

@@ -1,7 +1,6 @@
 -- `mending::mend_sheet` meets its contract: the differences are those to the sheet that the planner has left. Assumes
 -- nothing.
 use Rattle.mending.proofs.Shaped.{alike-left, mended-of}
-use borrow.Author.Rules.{rules}
 use Rattle.mending.proofs.mend_sheet.Goals as goal
 
 pub sheet_differences-differences-requires : goal.sheet_differences-differences-requires

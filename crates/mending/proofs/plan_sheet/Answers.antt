@@ -1,8 +1,6 @@
 -- `mending::plan_sheet` meets its contract: the costs are filled, and then the job is finished from them. Assumes
 -- nothing.
-use mathlib.Core.Path.{◌∙◌}
 use Rattle.mending.proofs.Shaped.{plan-finishable, planned-of}
-use borrow.Author.Rules.{rules}
 use Rattle.mending.proofs.plan_sheet.Goals as goal
 
 pub finish_job-requires : goal.finish_job-requires

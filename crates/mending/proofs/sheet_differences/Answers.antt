@@ -1,5 +1,4 @@
 -- `mending::sheet_differences` meets its contract: each count is that of its slices. Assumes nothing.
-use borrow.Author.Rules.{rules}
 use Rattle.mending.proofs.sheet_differences.Goals as goal
 
 pub returns : goal.returns
