@@ -1,6 +1,7 @@
 // What changed between two floors of one size: the cells that differ, and the costs from a start. The first floor is
 // the one before the change, the second, whose names end in 2, the one after it.
 #![tactic(auto)]
+
 ghost use Rattle.std.specs.Prelude.{◌≡◌, ◌+◌, ◌<◌, ◌≤◌, length};
 ghost use Rattle.basics.specs.Lists.{tabulate};
 ghost use Rattle.floor.specs.Floor.{floor_of};

@@ -1,5 +1,6 @@
 // The replay of a cart's log: its records one by one, the cost driven, the faults, and whether the log is cheapest.
 #![tactic(auto)]
+
 ghost use Rattle.std.specs.Prelude.{◌≡◌, ◌*◌, ◌<◌, ◌≤◌, eqb, length};
 ghost use Rattle.basics.specs.Bounded.{pick};
 ghost use Rattle.floor.specs.Floor.{floor_of, vertices};

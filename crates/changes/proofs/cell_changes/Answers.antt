@@ -3,9 +3,8 @@
 use mathlib.Core.Path.{◌≡◌, sym, ◌∙◌}
 use lib.ListN.{length}
 use Rattle.floor.specs.declared.Shape.TheVariants.{Good}
-use Rattle.changes.specs.Changes.{GivenFloor, given_floor_of, cells_shape}
+use Rattle.changes.specs.Changes.{given_floor_of, cells_shape}
 use Rattle.changes.proofs.Shaped.{good-cells, cells-maps, reports-refused, reports-listed}
-use borrow.Author.Rules.{rules}
 use Rattle.changes.proofs.cell_changes.Goals.{In-Good}
 use Rattle.changes.proofs.cell_changes.Goals as goal
 

@@ -1,6 +1,5 @@
 -- `changes::cells_number` meets its contract: a list of cells has the number 0, a refusal its own. Assumes nothing.
 use mathlib.Core.Path.{sym, ap, ◌∙◌}
-use borrow.Author.Rules.{rules}
 use Rattle.changes.specs.Changes.{cells_number}
 use Rattle.changes.proofs.cells_number.Goals as goal
 

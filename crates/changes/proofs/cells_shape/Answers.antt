@@ -5,7 +5,6 @@ use Rattle.floor.specs.declared.Shape.TheVariants.{Good}
 use Rattle.floor.proofs.Numbers.{cells-le}
 use Rattle.changes.specs.Changes.{given_floor_of, floors_shape}
 use Rattle.changes.proofs.Shaped.{good-floors, cells-floors, cells-length, cells-good}
-use borrow.Author.Rules.{rules}
 use Rattle.changes.proofs.cells_shape.Goals.{In-Good}
 use Rattle.changes.proofs.cells_shape.Goals as goal
 

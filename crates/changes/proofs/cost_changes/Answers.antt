@@ -3,7 +3,6 @@
 use mathlib.Core.Path.{sym, ◌∙◌}
 use Rattle.changes.specs.Changes.{given_floor_of, report_slices_of}
 use Rattle.changes.proofs.Jobs.{job-reportable, costs-refused, costs-fit}
-use borrow.Author.Rules.{rules}
 use Rattle.changes.proofs.cost_changes.Goals as goal
 
 pub report_costs-requires : goal.report_costs-requires

@@ -3,7 +3,6 @@ use mathlib.Core.Path.{◌≡◌, sym, ◌∙◌}
 use Rattle.floor.specs.Refusals.{floor_shape}
 use Rattle.floor.specs.declared.Shape.TheVariants.{Good}
 use Rattle.changes.proofs.Shaped.{floors-first, floors-second, floors-wide, floors-high, floors-good}
-use borrow.Author.Rules.{rules}
 use Rattle.changes.proofs.floors_shape.Goals.{In-Good, In-Good-second}
 use Rattle.changes.proofs.floors_shape.Goals as goal
 

@@ -3,7 +3,6 @@ use Prim.Native.Nat.{◌+◌, ◌≤◌, ◌<◌}
 use native.Mathlib.Omega.{arith}
 use lib.ListN.{length}
 use Rattle.changes.proofs.Noting.{noted-room, noted-same, noted-closed, noted-opened}
-use borrow.Author.Rules.{rules}
 use Rattle.changes.proofs.note_cell.Goals.{After-is_blocked-is_blocked}
 use Rattle.changes.proofs.note_cell.Goals as goal
 

@@ -1,7 +1,6 @@
 -- `changes::report_costs` meets its contract: the costs are filled on each floor, then compared. Assumes nothing.
 use mathlib.Core.Path.{refl}
 use Rattle.changes.proofs.Changing.{filled-report}
-use borrow.Author.Rules.{rules}
 use Rattle.changes.proofs.report_costs.Goals as goal
 
 pub returns : goal.returns

@@ -7,7 +7,6 @@ use Rattle.grid.specs.declared.JobShape.TheVariants.{Fit}
 use Rattle.changes.specs.Changes.{given_floor_of, floors_shape, slices_shape}
 use Rattle.changes.proofs.Shaped.{good-floors}
 use Rattle.changes.proofs.Jobs.{report-floors, report-first, report-second, report-rest}
-use borrow.Author.Rules.{rules}
 use Rattle.changes.proofs.report_shape.Goals.{After-slices_shape-lengths, In-Fit, In_default}
 use Rattle.changes.proofs.report_shape.Goals as goal
 

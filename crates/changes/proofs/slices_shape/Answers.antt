@@ -1,6 +1,5 @@
 -- `changes::slices_shape` meets its contract: each return is one case of `slices_shape`. Assumes nothing.
 use Rattle.changes.proofs.Jobs.{slices-first, slices-second, slices-change, slices-work, slices-good}
-use borrow.Author.Rules.{rules}
 use Rattle.changes.proofs.slices_shape.Goals as goal
 
 pub returns-then-costs-v : goal.returns-then-costs-v

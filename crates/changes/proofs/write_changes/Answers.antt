@@ -1,10 +1,7 @@
 -- `changes::write_changes` meets its contract: the places before `v` hold their changes. Assumes nothing.
-use Prim.Native.Nat.{◌-◌}
 use mathlib.Core.Path.{refl}
 use native.Mathlib.Omega.{arith}
-use lib.ListN.{length}
-use Rattle.changes.proofs.Changing.{Writing, writing-none, writing_more, writing-done}
-use borrow.Author.Rules.{rules}
+use Rattle.changes.proofs.Changing.{writing-none, writing_more, writing-done}
 use Rattle.changes.proofs.write_changes.Goals as goal
 
 pub loop-v-init : goal.loop-v-init

@@ -1,10 +1,6 @@
 -- `changes::write_changes` meets its contract: the places before `v` hold their changes. Assumes nothing.
-use Prim.Native.Nat.{◌-◌}
-use mathlib.Core.Path.{refl}
-use native.Mathlib.Omega.{arith}
 use lib.ListN.{length}
-use Rattle.changes.proofs.Changing.{Writing, writing-none, writing_more, writing-done}
-use borrow.Author.Rules.{rules}
+use Rattle.changes.proofs.Changing.{Writing}
 use Rattle.changes.proofs.write_changes.Given as goal
 
 abbrev pub invariant-loop-v : goal.invariant-loop-v

@@ -1,5 +1,4 @@
 -- `replay::answer_with` meets its contract: each return is one case of `answer_in`. Assumes nothing.
-use borrow.Author.Rules.{rules}
 use Rattle.replay.specs.Known.{answer_in}
 use Rattle.replay.proofs.answer_with.Goals as goal
 

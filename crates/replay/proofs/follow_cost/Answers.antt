@@ -1,12 +1,10 @@
 -- `replay::follow_cost` meets its contract: each return is one case of `follow_cost`. Assumes nothing.
 use mathlib.Core.Path.{◌≡◌, sym, ◌∙◌}
 use mathlib.Core.Bool.{false}
-use Rattle.floor.specs.Floor.{Floor, floor_of}
-use Rattle.paths.specs.Graph.{Graph}
+use Rattle.floor.specs.Floor.{floor_of}
 use Rattle.grid.specs.Grid.{floor_graph}
 use Rattle.replay.specs.Replay.{pinch_at}
 use Rattle.replay.proofs.Following.{follow-pinch, follow-first, follow-still, follow-move}
-use borrow.Author.Rules.{rules}
 use Rattle.replay.proofs.follow_cost.Goals.{Else-on_pinch}
 use Rattle.replay.proofs.follow_cost.Goals as goal
 

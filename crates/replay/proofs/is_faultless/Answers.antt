@@ -1,7 +1,6 @@
 -- `replay::is_faultless` meets its contract: each return is one case of `faultless_in`. Assumes nothing.
 use native.Mathlib.Omega.{arith}
 use Rattle.replay.proofs.Following.{none_read, was-broken, all-follow, one-not}
-use borrow.Author.Rules.{rules}
 use Rattle.replay.proofs.is_faultless.Goals as goal
 
 pub returns-then-d-lt1 : goal.returns-then-d-lt1

@@ -1,6 +1,5 @@
 -- `replay::judge` meets its contract: a log with a fault leaves both slices 0, and from the first record of any other
 -- the costs are filled. Assumes nothing.
-use borrow.Author.Rules.{rules}
 use Rattle.replay.proofs.Shaped.{faulty-judged, start-good, faultless-judged}
 use Rattle.replay.proofs.judge.Goals as goal
 

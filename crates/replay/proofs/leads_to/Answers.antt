@@ -5,7 +5,6 @@ use Rattle.moves.specs.Steps.{far_end_at, step_of}
 use Rattle.moves.proofs.Signs.{handed-back}
 use Rattle.moves.proofs.Steps.{offsets-end}
 use Rattle.replay.proofs.Moving.{leads-off, leads-there}
-use borrow.Author.Rules.{rules}
 use Rattle.replay.proofs.leads_to.Goals.{After-step_from}
 use Rattle.replay.proofs.leads_to.Goals as goal
 

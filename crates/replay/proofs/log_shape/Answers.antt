@@ -1,7 +1,6 @@
 -- `replay::log_shape` meets its contract: each return is one case of `log_shape`. Assumes nothing.
 use native.Mathlib.Omega.{arith}
 use Rattle.replay.proofs.Shaped.{log-long, log-costs, log-work, log-fits}
-use borrow.Author.Rules.{rules}
 use Rattle.replay.proofs.log_shape.Goals as goal
 
 pub returns-then-log-gt16384 : goal.returns-then-log-gt16384

@@ -1,6 +1,5 @@
 -- `replay::on_pinch` meets its contract: the column and the row are those of the vertex. Assumes nothing.
 use Rattle.replay.specs.Replay.{pinch_at}
-use borrow.Author.Rules.{rules}
 use Rattle.replay.proofs.on_pinch.Goals as goal
 
 pub returns : goal.returns

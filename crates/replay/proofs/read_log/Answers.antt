@@ -1,9 +1,6 @@
 -- `replay::read_log` meets its contract: the stops are taken one by one, until the end or a bad record. The measure is
 -- the number of bytes left of the log. Assumes nothing.
-use Prim.Native.Nat.{◌-◌}
-use lib.ListN.{length}
-use Rattle.replay.proofs.Reached.{Reached, starts, takes, goes_on, falls, ends, breaks}
-use borrow.Author.Rules.{rules}
+use Rattle.replay.proofs.Reached.{starts, takes, goes_on, falls, ends, breaks}
 use Rattle.replay.proofs.read_log.Goals as goal
 
 pub vertex_count-count-requires : goal.vertex_count-count-requires

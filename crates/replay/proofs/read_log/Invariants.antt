@@ -2,8 +2,7 @@
 -- the number of bytes left of the log. Assumes nothing.
 use Prim.Native.Nat.{◌-◌}
 use lib.ListN.{length}
-use Rattle.replay.proofs.Reached.{Reached, starts, takes, goes_on, falls, ends, breaks}
-use borrow.Author.Rules.{rules}
+use Rattle.replay.proofs.Reached.{Reached}
 use Rattle.replay.proofs.read_log.Given as goal
 
 abbrev pub invariant-loop-v : goal.invariant-loop-v

@@ -1,6 +1,5 @@
 -- `replay::replay` meets its contract: a log of bad shape is refused, and any other is replayed. Assumes nothing.
 use mathlib.Core.Path.{refl, sym, ◌∙◌}
-use borrow.Author.Rules.{rules}
 use Rattle.replay.proofs.Shaped.{job-replayable, replays-refused, replays-fit}
 use Rattle.replay.proofs.replay.Goals as goal
 

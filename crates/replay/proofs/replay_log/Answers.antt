@@ -1,5 +1,4 @@
 -- `replay::replay_log` meets its contract: the answer of the reading is that of the log. Assumes nothing.
-use borrow.Author.Rules.{rules}
 use Rattle.replay.proofs.Shaped.{answered}
 use Rattle.replay.proofs.replay_log.Goals as goal
 

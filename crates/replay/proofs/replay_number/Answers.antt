@@ -1,7 +1,6 @@
 -- `replay::replay_number` meets its contract: a log read to its end has the number 0, a bad record 17, a refusal its
 -- own. Assumes nothing.
 use mathlib.Core.Path.{sym, ap, ◌∙◌}
-use borrow.Author.Rules.{rules}
 use Rattle.replay.specs.Replay.{replay_number}
 use Rattle.replay.proofs.replay_number.Goals as goal
 

@@ -6,7 +6,6 @@ use Rattle.grid.specs.declared.JobShape.TheVariants.{Fit}
 use Rattle.grid.proofs.Jobs.{dirs-floor}
 use Rattle.replay.specs.Replay.{log_shape}
 use Rattle.replay.proofs.Shaped.{replay-refused, replay-rest}
-use borrow.Author.Rules.{rules}
 use Rattle.replay.proofs.replay_shape.Goals as goal
 
 pub returns-in_default : goal.returns-in_default

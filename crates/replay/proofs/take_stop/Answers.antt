@@ -2,16 +2,14 @@
 -- the first that cannot. Assumes nothing.
 use mathlib.Core.Path.{sym, ◌∙◌}
 use native.Mathlib.Omega.{arith}
-use Rattle.floor.specs.Floor.{Floor, floor_of}
+use Rattle.floor.specs.Floor.{floor_of}
 use Rattle.moves.proofs.Table.{listed-lawful}
-use Rattle.paths.specs.Graph.{Graph}
 use Rattle.grid.specs.Grid.{floor_graph}
 use Rattle.grid.proofs.Lawful.{floor-lawful}
 use Rattle.replay.specs.Replay.{follow_cost, pinch_at}
 use Rattle.replay.specs.Known.{before}
 use Rattle.replay.proofs.Taken.{follow-high}
 use Rattle.replay.proofs.Following.{leg-at, taken-later, taken-shut, taken_at}
-use borrow.Author.Rules.{rules}
 use Rattle.replay.proofs.take_stop.Goals as goal
 
 pub returns-in_default : goal.returns-in_default
