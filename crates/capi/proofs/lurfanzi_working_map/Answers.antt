@@ -5,4 +5,4 @@ use borrow.Author.Rules.{rules}
 use Rattle.capi.proofs.lurfanzi_working_map.Goals as goal
 
 pub returns : goal.returns
-returns c = writes-to c.the_working_map.ensures c.shape_number.ensures
+returns c = writes-to c.working_map-s.ensures c.shape_number.ensures
