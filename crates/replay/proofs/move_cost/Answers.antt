@@ -2,7 +2,6 @@
 use mathlib.Core.Path.{◌≡◌, sym, ap, ◌∙◌}
 use native.Mathlib.Omega.{arith}
 use borrow.Author.Count.{below_more}
-use borrow.Author.Tests.{not-true, not-false}
 use Rattle.floor.specs.Floor.{floor_of}
 use Rattle.moves.specs.Moves.{move_at}
 use Rattle.moves.specs.Steps.{far_end_at}
@@ -21,7 +20,7 @@ pub returns-then-not-in_sight : goal.returns-then-not-in_sight
 returns-then-not-in_sight c =
     let a = c.args in
     unseen-shut (floor_of a.w a.h a.map.now) a.u.0 a.v.0 a.dirs
-    (sym c.in_sight.ensures ∙ not-true c.in_sight.result c.if-not-in_sight.true-raw)
+    (sym c.in_sight.ensures ∙ c.if-not-in_sight.true)
 
 pub column_of-x-requires : goal.column_of-x-requires
 column_of-x-requires c = c.requires.0.sized.wide
@@ -62,7 +61,7 @@ returns-then-leads_to c =
     ap (λ (m : Move). At m.cost) c.move_at-step.ensures
     ∙ first-leads (floor_of a.w a.h a.map.now) a.u.0 a.v.0 a.dirs c.column_of-x.result
     c.row_of-y.result c.column_of-x.ensures.0 c.row_of-y.ensures.0
-    (sym c.in_sight.ensures ∙ not-false c.in_sight.result c.if-not-in_sight.false-raw) c.loop-m.m
+    (sym c.in_sight.ensures ∙ c.if-not-in_sight.false) c.loop-m.m
     (omega arith) c.loop-m.invariant.1 (leads (goal.at.returns-then-leads_to c).After-leads_to ∙ c.if-leads_to.true)
 
 pub loop-m-preserved : goal.loop-m-preserved
