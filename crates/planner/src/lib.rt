@@ -94,6 +94,7 @@ pub fn plan_points(p: Planned) -> usize
 }
 
 // Whether slices of these lengths have the places that a floor of v vertices needs; if not, refusal 6 applies.
+#[tactic(auto, unfolding(crate::specs::Parts::lengths_good))]
 fn lengths_good(
     v: usize,
     d: usize,
