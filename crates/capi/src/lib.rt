@@ -2,6 +2,7 @@
 // include/lurfanzi.h declares these functions. Sides, neighbourhood, ends, slots and the numbers of a rectangle are 32
 // bits wide, so that no number is truncated on its way in.
 #![tactic(auto)]
+
 ghost use Rattle.std.specs.Prelude.{◌≡◌};
 ghost use Rattle.basics.specs.Bounded.{pick};
 ghost use Rattle.sight.specs.Question.{sight_answer, sight_number, obstacle_number, obstacle_place};

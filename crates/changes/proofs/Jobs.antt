@@ -158,11 +158,11 @@ module _ (p q : GivenFloor) (nb a c c' n k : ℕ) where
   abbrev lengths : Shape
   lengths = slices_shape (vertices p.wide p.high) c c' n k
 
-  abbrev firstShape : JobShape
-  firstShape = job_shape p.wide p.high p.map nb a a
+  abbrev first_shape : JobShape
+  first_shape = job_shape p.wide p.high p.map nb a a
 
-  abbrev secondShape : JobShape
-  secondShape = job_shape q.wide q.high q.map nb a a
+  abbrev second_shape : JobShape
+  second_shape = job_shape q.wide q.high q.map nb a a
 
   abbrev end : Shape
   end = end_shape p.wide p.high a
@@ -176,11 +176,11 @@ module _ (p q : GivenFloor) (nb a c c' n k : ℕ) where
 
   module _ (floors : floors_shape p q ≡ Good) where
     -- The job on each floor, and the report, in terms of `first` and `whole`.
-    first-is : firstShape ≡ first (neighbourhood_of nb) end (free p)
+    first-is : first_shape ≡ first (neighbourhood_of nb) end (free p)
     unfolding floors_shape
     first-is = start-job p nb a (good-first (shape_of p) _ floors)
 
-    second_is : secondShape ≡ first (neighbourhood_of nb) end (free q)
+    second_is : second_shape ≡ first (neighbourhood_of nb) end (free q)
     unfolding floors_shape
     second_is =
         let G = good-floors p q floors in
@@ -193,22 +193,28 @@ module _ (p q : GivenFloor) (nb a c c' n k : ℕ) where
     unfolding report_shape start_shape
     whole_is = rw floors
 
-    pub report-first : {r : Refusal} → firstShape ≡ Refused r → firstShape ≡ report_shape p q nb a c c' n k
+    pub report-first : {r : Refusal} → first_shape ≡ Refused r → first_shape ≡ report_shape p q nb a c c' n k
     report-first e =
         first-is ∙ first_stops (neighbourhood_of nb) end (free p) (free q) lengths (sym first-is ∙ e) ∙ sym whole_is
 
-    module _ {dirs : Directions} (one : firstShape ≡ Fit dirs) where
-      pub report-second : {r : Refusal} → secondShape ≡ Refused r → secondShape ≡ report_shape p q nb a c c' n k
+    module _ {dirs : Directions} (one : first_shape ≡ Fit dirs) where
+      pub report-second : {r : Refusal} → second_shape ≡ Refused r → second_shape ≡ report_shape p q nb a c c' n k
       report-second e =
           second_is
           ∙ second-stops (neighbourhood_of nb) end (free p) (free q) lengths (sym first-is ∙ one) (sym second_is ∙ e)
           ∙ sym whole_is
 
-      module _ {dirs' : Directions} (two : secondShape ≡ Fit dirs') where
+      module _ {dirs' : Directions} (two : second_shape ≡ Fit dirs') where
         pub report-rest : or_refused lengths (Fit dirs) ≡ report_shape p q nb a c c' n k
         report-rest =
             both-pass (neighbourhood_of nb) end (free p) (free q) lengths (sym first-is ∙ one) (sym second_is ∙ two)
             ∙ sym whole_is
+
+        pub report-lengths : {r : Refusal} → lengths ≡ BadShape r → Refused r ≡ report_shape p q nb a c c' n k
+        report-lengths e = sym (rw e) ∙ report-rest
+
+        pub report-fit : lengths ≡ Good → Fit dirs ≡ report_shape p q nb a c c' n k
+        report-fit e = sym (rw e) ∙ report-rest
 
 -- ---- what holds of a report that is not refused, and its answer
 

@@ -6,7 +6,7 @@
 --   plan-answers  == demand 1 of the planner's second operation
 --   check-answers == demand 1 of the checker
 --   thin-answers  == demand 1 of thinning
-use Prim.Native.Nat.{ℕ, ◌+◌, ◌*◌}
+use Prim.Native.Nat.{ℕ, ◌*◌}
 use mathlib.Core.Path.{◌≡◌, refl, ap, ◌∙◌}
 use mathlib.Core.Bool.{Bool, true, false, ◌&&◌, not}
 use mathlib.Core.List.{List, [], ◌∷◌, ◌++◌}

@@ -45,13 +45,13 @@ module _ (w h : ℕ) (map : List ℕ) (nb a b : ℕ) (s : Sheet) (r : Checked) (
   unfolding check_answer
   answered = is ∙ rw (fit-good.fit, sized-good) refl
 
-  abbrev isRoute : Bool
-  isRoute = joined g a b && (fits g a b && same_sheet s (route_sheet g a b))
+  abbrev is_route : Bool
+  is_route = joined g a b && (fits g a b && same_sheet s (route_sheet g a b))
 
   abbrev is_none : Bool
   is_none = not (joined g a b) && same_sheet s (no_route_sheet g a)
 
-  route-said : (isRoute ≡ true) ↔ TrueRouteSheet g a b s
+  route-said : (is_route ≡ true) ↔ TrueRouteSheet g a b s
   route-said =
       let W = route-words g fit-good.lawful fit-good.small a b fit-good.start fit-good.end s in (
         λ e. let x = and_both (joined g a b) _ e in
@@ -76,9 +76,9 @@ module _ (w h : ℕ) (map : List ℕ) (nb a b : ℕ) (s : Sheet) (r : Checked) (
 
   pub checks : Checks g a b s r
   unfolding verdict
-  checks = rw answered (cases isRoute is_none refl refl)
+  checks = rw answered (cases is_route is_none refl refl)
     where
-      cases : (x y : Bool) → isRoute ≡ x → is_none ≡ y
+      cases : (x y : Bool) → is_route ≡ x → is_none ≡ y
           → Checks g a b s (pick x Route (pick y NoRoute (Refused FalseSheet)))
       cases true y p q =
           let yes = route-said.0 p in
@@ -94,14 +94,14 @@ module _ (w h : ℕ) (map : List ℕ) (nb a b : ℕ) (s : Sheet) (r : Checked) (
           }
       cases false true p q =
           let yes = none_said.0 q in
-          let no_such : TrueRouteSheet g a b s → ⊥ = λ t. not-both isRoute (route-said.1 t) p in
+          let no_such : TrueRouteSheet g a b s → ⊥ = λ t. not-both is_route (route-said.1 t) p in
           record {
             route = (λ e. absurd (omega arith), λ t. absurd (no_such t));
             no_route = (λ e. yes, λ t. refl);
             refused = (λ e. absurd (omega arith), λ t. absurd (t.1 yes));
           }
       cases false false p q =
-          let no_such : TrueRouteSheet g a b s → ⊥ = λ t. not-both isRoute (route-said.1 t) p in
+          let no_such : TrueRouteSheet g a b s → ⊥ = λ t. not-both is_route (route-said.1 t) p in
           let nor-such : TrueNoRouteSheet g a b s → ⊥ = λ t. not-both is_none (none_said.1 t) q in
           record {
             route = (λ e. absurd (omega arith), λ t. absurd (no_such t));

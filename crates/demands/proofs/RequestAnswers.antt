@@ -270,10 +270,10 @@ given-first (put_map w h l) t rest e = cases (map_side w && map_side h)
 given-first (put_job j) t rest e = e
 
 module _ (c : Writer) (x : Call) (buf : List ℕ) where
-  abbrev callIs : Shape
-  callIs = call_shape c x (length buf)
+  abbrev call_is : Shape
+  call_is = call_shape c x (length buf)
 
-  call-first : shape_number callIs ≡ first_of (write_lines c x buf)
+  call-first : shape_number call_is ≡ first_of (write_lines c x buf)
   unfolding call_shape room_shape
   call-first =
       let turn = in_turn c.due x in
@@ -284,11 +284,11 @@ module _ (c : Writer) (x : Call) (buf : List ℕ) where
   pub write-answers : (r : AfterWrite) (buf' : List ℕ) → Writes c x buf r buf' → AnswersWrite c x buf r buf'
   write-answers r buf' W =
       let n = call_bytes x in
-      let e : shape_number r.answer ≡ shape_number callIs = ap shape_number W.answer in
+      let e : shape_number r.answer ≡ shape_number call_is = ap shape_number W.answer in
       record {
         number = e ∙ call-first;
-        writer = rw e (W.writer ∙ left-zero callIs (record { at = c.at + length n; due = c.due + 1 }) c);
-        leaves = rw e (W.left ∙ left-zero callIs (take c.at buf ++ n ++ drop (c.at + length n) buf) buf);
+        writer = rw e (W.writer ∙ left-zero call_is (record { at = c.at + length n; due = c.due + 1 }) c);
+        leaves = rw e (W.left ∙ left-zero call_is (take c.at buf ++ n ++ drop (c.at + length n) buf) buf);
       }
 
 -- ---- fewest stops
@@ -356,8 +356,8 @@ module _ (w h : ℕ) (map : List ℕ) (nb a b : ℕ) (old : Sheet) (s : MendSlic
       (pick u (Route (route_sheet g a b).n (sheet_differences old (route_sheet g a b))) (NotMended TooMany))
       (NoRoute (sheet_differences old (no_route_sheet g a)))) (NotMended SliceLength)
 
-  abbrev leftBehind : Bool → Bool → Bool → MendSlices
-  leftBehind x z u =
+  abbrev left_behind : Bool → Bool → Bool → MendSlices
+  left_behind x z u =
       pick x (with_costs costs (pick z (pick u (sheet_slices g.size (route_sheet g a b)) (costs_alone g b))
       (sheet_slices g.size (no_route_sheet g a)))) s
 
@@ -368,7 +368,7 @@ module _ (w h : ℕ) (map : List ℕ) (nb a b : ℕ) (old : Sheet) (s : MendSlic
   fit-outcome false = refl
 
   fit-left : (x : Bool) → mendedLeft w h map a b s (if_sized x (Fit (dirs_for (neighbourhood_of nb))))
-      ≡ leftBehind x (joined g a b) (fits g a b)
+      ≡ left_behind x (joined g a b) (fits g a b)
   unfolding sheet_left route_left
   fit-left true = refl
   fit-left false = refl
@@ -405,7 +405,7 @@ module _ (w h : ℕ) (map : List ℕ) (nb a b : ℕ) (old : Sheet) (s : MendSlic
       (shape _ refl refl refl) (shape _ refl refl refl)
       (rw (fit-outcome sheets, fit-left sheets) (cases sheets (joined g a b) (fits g a b)))
     where
-      cases : (x z u : Bool) → P (outcome x z u) (leftBehind x z u)
+      cases : (x z u : Bool) → P (outcome x z u) (left_behind x z u)
       cases false z u = shape SliceLength refl refl refl
       cases true false u = at_7
       cases true true false = at_8

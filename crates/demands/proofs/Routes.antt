@@ -8,7 +8,7 @@
 --   plans           == demand 2 of the planner's second operation, where its shape is good
 --   planner         == demand 2 of the first operation at 0 and then the second, on the d of the first
 --   thins           == demand 2 of thinning at 0
-use Prim.Native.Nat.{ℕ, suc, pred, ◌+◌, ◌-◌, ◌^◌, ◌≤◌, ◌<◌}
+use Prim.Native.Nat.{ℕ, suc, pred, ◌^◌, ◌≤◌, ◌<◌}
 use mathlib.Core.Path.{◌≡◌, refl, sym, ap, ◌∙◌}
 use mathlib.Core.Logic.{◌⊎◌, inl, inr, ⊎_elim}
 use mathlib.Core.Bool.{Bool, true, false, not, true≢false}
@@ -69,9 +69,9 @@ use Rattle.demands.proofs.Sheets.{route-words, none-words}
 
 module _ (w h : ℕ) (map : List ℕ) (nb a b : ℕ) where
   -- k for a fit job, else the number of its refusal.
-  abbrev numberWith : ℕ → JobShape → ℕ
-  numberWith k (Fit dirs) = k
-  numberWith k (BadJob r) = refusal_number r
+  abbrev number_with : ℕ → JobShape → ℕ
+  number_with k (Fit dirs) = k
+  number_with k (BadJob r) = refusal_number r
 
   known-dirs : {r : Directions} → neighbourhood_of nb ≡ Known r → dirs_for (neighbourhood_of nb) ≡ r
   known-dirs e = ap dirs_for e
@@ -80,9 +80,9 @@ module _ (w h : ℕ) (map : List ℕ) (nb a b : ℕ) where
       → (job_shape w h map nb a b ≡ Fit (dirs_for (neighbourhood_of nb))) × (first_of rest ≡ 0)
   job_good rest e =
       cases (job_shape w h map nb a b) refl
-      (job-first w h map nb a b (numberWith (first_of rest)) (λ r. refl) rest refl ∙ e)
+      (job-first w h map nb a b (number_with (first_of rest)) (λ r. refl) rest refl ∙ e)
     where
-      cases : (j : JobShape) → job_shape w h map nb a b ≡ j → numberWith (first_of rest) j ≡ 0
+      cases : (j : JobShape) → job_shape w h map nb a b ≡ j → number_with (first_of rest) j ≡ 0
           → (job_shape w h map nb a b ≡ Fit (dirs_for (neighbourhood_of nb))) × (first_of rest ≡ 0)
       cases (Fit dirs) q z = (
         q ∙ ap Fit (sym (known-dirs (job-fit w h map nb a b dirs q).known)),
@@ -327,8 +327,8 @@ planner w h map nb a b s r s' t q t' F zero P good =
     let e = list-true g a s'.d (filled w h map nb a s r s' F zero) in
     let past : List Line = line 6 (not z) ∷ line 9 (not (costs_true g a s'.d)) ∷ [] in
     let whole : first_of (job_lines w h map nb a b ++ past) ≡ 0 =
-    sym (job-first w h map nb a b (numberWith w h map nb a b (first_of past)) (λ r. refl) past refl)
-    ∙ ap (numberWith w h map nb a b (first_of past)) j.0 ∙ cases z (costs_true g a s'.d) e j.1 in
+    sym (job-first w h map nb a b (number_with w h map nb a b (first_of past)) (λ r. refl) past refl)
+    ∙ ap (number_with w h map nb a b (first_of past)) j.0 ∙ cases z (costs_true g a s'.d) e j.1 in
     record { shape_good = whole; plans = plans w h map nb a b s'.d t q t' P whole }
   where
     cases : (x y : Bool) → y ≡ true → first_of (line 6 (not x) ∷ []) ≡ 0

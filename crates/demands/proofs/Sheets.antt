@@ -4,7 +4,7 @@
 --   next-exact      == `next_vertex` is w exactly where `CentralNext` holds of w
 --   route-words     == TrueRoute g a b s holds exactly where TrueRouteSheet g a b s does
 --   none-words      == TrueNoRoute g a b s holds exactly where TrueNoRouteSheet g a b s does
-use Prim.Native.Nat.{ℕ, zero, suc, pred, ◌+◌, ◌-◌, ◌*◌, ◌≤◌, ◌<◌}
+use Prim.Native.Nat.{ℕ, zero, suc, pred, ◌+◌, ◌*◌, ◌≤◌, ◌<◌}
 use mathlib.Core.Path.{◌≡◌, refl, sym, ap, ◌∙◌, subst}
 use mathlib.Core.Logic.{◌↔◌, ⊎_elim}
 use mathlib.Core.Bool.{Bool, true, false}

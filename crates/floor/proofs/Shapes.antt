@@ -95,15 +95,15 @@ pub record GoodFloor (w h : ℕ) (l : List ℕ) : Type 0 where
   pub unused : unused_clear (w * h) l ≡ true
 
 module _ (w h : ℕ) (l : List ℕ) where
-  abbrev lengthShape : Shape
-  lengthShape = pick (eqb (length l) (map_length (w * h))) Good (Refused MapLength)
+  abbrev length_shape : Shape
+  length_shape = pick (eqb (length l) (map_length (w * h))) Good (Refused MapLength)
 
-  abbrev unusedShape : Shape
-  unusedShape = pick (unused_clear (w * h) l) Good (Refused UnusedBit)
+  abbrev unused_shape : Shape
+  unused_shape = pick (unused_clear (w * h) l) Good (Refused UnusedBit)
 
   pub sides-refused : {r : Refusal} → sides_shape w h ≡ Refused r → sides_shape w h ≡ floor_shape w h l
   unfolding floor_shape
-  sides-refused e = then-refused (sides_shape w h) (and_then lengthShape unusedShape) e
+  sides-refused e = then-refused (sides_shape w h) (and_then length_shape unused_shape) e
 
   module _ (a : sides_shape w h ≡ Good) where
     pub length-refused : (length l ≡ map_length (w * h) → ⊥) → Refused MapLength ≡ floor_shape w h l
@@ -126,14 +126,14 @@ module _ (w h : ℕ) (l : List ℕ) where
   pub good-floor : floor_shape w h l ≡ Good → GoodFloor w h l
   unfolding floor_shape
   good-floor e =
-      let s = good-sides w h (good-first (sides_shape w h) (and_then lengthShape unusedShape) e) in
-      let m : and_then lengthShape unusedShape ≡ Good = good-second (sides_shape w h) _ e in
-      let size = good-pick MapLength (eqb (length l) (map_length (w * h))) (good-first lengthShape unusedShape m) in
+      let s = good-sides w h (good-first (sides_shape w h) (and_then length_shape unused_shape) e) in
+      let m : and_then length_shape unused_shape ≡ Good = good-second (sides_shape w h) _ e in
+      let size = good-pick MapLength (eqb (length l) (map_length (w * h))) (good-first length_shape unused_shape m) in
       record {
         sized = record { wide = s.wide; high = s.high; size = eqb-true (length l) (map_length (w * h)) size };
         wide_pos = s.wide_pos;
         high_pos = s.high_pos;
-        unused = good-pick UnusedBit (unused_clear (w * h) l) (good-second lengthShape unusedShape m);
+        unused = good-pick UnusedBit (unused_clear (w * h) l) (good-second length_shape unused_shape m);
       }
 
 pub end-good : (w h v : ℕ) → v < vertices w h → Good ≡ end_shape w h v

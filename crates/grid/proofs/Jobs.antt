@@ -1,7 +1,7 @@
 -- The shape of a job as the code tests it, and what holds of a job of good shape.
 --
 --   FitJob ..               == floor, neighbourhood and ends are of good shape
---   refused-floor, -neighbourhood, known-dirs == the shape of floor and neighbourhood by the tests in order
+--   dirs-refused, -neighbourhood, known-dirs == the shape of floor and neighbourhood by the tests in order
 --   with-refused, with_rest == `shape_with` of any rest, once these two are tested
 --   with-passed             == what a fit `shape_with` has found
 --   dirs-floor              == the floor is good where these two are
@@ -128,14 +128,14 @@ pub record Passed (w h : ℕ) (l : List ℕ) (nb : ℕ) (s : Shape) (r : Directi
 
 module _ (w h : ℕ) (l : List ℕ) (nb : ℕ) where
   -- What the code answers of the floor and the neighbourhood, test by test.
-  pub refused-floor : (z : Refusal) → floor_shape w h l ≡ BadShape z → Refused z ≡ dirs_shape w h l nb
+  pub dirs-refused : (z : Refusal) → floor_shape w h l ≡ BadShape z → Refused z ≡ dirs_shape w h l nb
   unfolding dirs_shape
-  refused-floor z e = rw e
+  dirs-refused z e = rw e
 
   module _ (f : floor_shape w h l ≡ Good) where
-    pub refused-neighbourhood : neighbourhood_of nb ≡ NotKnown → Refused BadNeighbourhood ≡ dirs_shape w h l nb
+    pub dirs-unknown : neighbourhood_of nb ≡ NotKnown → Refused BadNeighbourhood ≡ dirs_shape w h l nb
     unfolding dirs_shape
-    refused-neighbourhood e = rw (f, e)
+    dirs-unknown e = rw (f, e)
 
     pub known-dirs : (r : Directions) → neighbourhood_of nb ≡ Known r → Fit r ≡ dirs_shape w h l nb
     unfolding dirs_shape
@@ -216,6 +216,25 @@ module _ (w h : ℕ) (l : List ℕ) (nb a b : ℕ) where
       → or_refused (ends_shape w h l a b) (Fit r) ≡ job_shape w h l nb a b
   unfolding job_shape
   job-rest told e = with_rest w h l nb told e (ends_shape w h l a b)
+
+  -- The whole shape, test by test.
+  pub refused-floor : (s : Refusal) → floor_shape w h l ≡ BadShape s → Refused s ≡ job_shape w h l nb a b
+  unfolding job_shape
+  refused-floor s e = rw e
+
+  module _ (f : floor_shape w h l ≡ Good) where
+    pub refused-neighbourhood : neighbourhood_of nb ≡ NotKnown → Refused BadNeighbourhood ≡ job_shape w h l nb a b
+    unfolding job_shape
+    refused-neighbourhood e = rw (f, e)
+
+    module _ (r : Directions) (k : neighbourhood_of nb ≡ Known r) where
+      pub refused-ends : (s : Refusal) → ends_shape w h l a b ≡ BadShape s → Refused s ≡ job_shape w h l nb a b
+      unfolding job_shape
+      refused-ends s e = rw (f, k, e)
+
+      pub fit : ends_shape w h l a b ≡ Good → Fit r ≡ job_shape w h l nb a b
+      unfolding job_shape
+      fit e = rw (f, k, e)
 
 pub start-fit : (w h : ℕ) (l : List ℕ) (nb a b : ℕ) (r : Directions) → job_shape w h l nb a b ≡ Fit r
     → job_shape w h l nb a a ≡ Fit r

@@ -15,6 +15,7 @@
 --   dearest, listed-cost == no move of a neighbourhood costs more than 577, or with sixteen 2,236
 --   dir_cost, dir-cost    == the cost of a direction, by where it is in a quarter turn
 --   offset-eq            == offsets a and b that lead from the same line to the same line are equal
+--   past                 == a number that is none of three in turn is past them
 use Prim.Native.Nat.{ℕ, zero, suc, ◌+◌, ◌%◌, ◌≤◌, ◌<◌}
 use mathlib.Core.Path.{◌≡◌, refl, sym, ap, ap₂, subst}
 use mathlib.Core.Logic.{⊎_elim}
@@ -255,3 +256,8 @@ dir_cost k =
 pub dir-cost : (k : ℕ) → k < dir_count → (dir_move k).cost ≡ dir_cost k
 unfolding bounded-opened
 dir-cost k l = eqb-true _ _ (every-at dir_count (λ k. eqb (dir_move k).cost (dir_cost k)) refl k l)
+
+-- ---- a move by its number
+
+pub past : (n k : ℕ) → n ≤ k → (k ≡ n → ⊥) → (k ≡ n + 1 → ⊥) → (k ≡ n + 2 → ⊥) → n + 3 ≤ k
+past n k l a b c = omega arith

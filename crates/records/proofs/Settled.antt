@@ -157,15 +157,15 @@ module _ (p : List ℕ) (a : ℕ) where
     pub cells : (k : ℕ) → a + 4 + k < length p → leb (get_or p (a + 4 + k) 0) 1 ≡ true
 
   -- Bytes that complete a good map: the mark, sides of 1, and open cells.
-  unfoldable mapByte : ℕ → ℕ
-  mapByte i = pick (eqb i a) 0x4D (pick (eqb i (a + 1)) 0x50 (pick (leb i (a + 3)) 1 0))
+  unfoldable map_byte : ℕ → ℕ
+  map_byte i = pick (eqb i a) 0x4D (pick (eqb i (a + 1)) 0x50 (pick (leb i (a + 3)) 1 0))
 
   pub map-open : MapBegun → length p < a + (4 + wide_at p a * high_at p a) → MapSettled p a → ⊥
-  unfolding mapByte
+  unfolding map_byte
   map-open b short settled =
-      let t : List ℕ = follow p (a + 965) mapByte in
+      let t : List ℕ = follow p (a + 965) map_byte in
       let s : List ℕ = p ++ t in
-      let byte = follow-byte p (a + 965) mapByte in
+      let byte = follow-byte p (a + 965) map_byte in
       let wide : map_side (wide_at s a) ≡ true =
       byte map_side (a + 2) (omega arith) b.wide
       (rw (
@@ -189,7 +189,7 @@ module _ (p : List ℕ) (a : ℕ) where
             (rw (ne_eqb (a + 1) a (λ e. omega arith), eq-eqb (a + 1) (a + 1) refl)));
         wide = wide;
         high = high;
-        whole = omega (arith, follow-length p (a + 965) mapByte);
+        whole = omega (arith, follow-length p (a + 965) map_byte);
         cells = every-all (wide_at s a * high_at s a) (cell_byte s (a + 4)) (λ k l.
             byte (λ x. leb x 1) (a + 4 + k) (omega arith) (b.cells k)
             (rw (
@@ -217,25 +217,25 @@ module _ (p : List ℕ) (a k : ℕ) where
   job-whole whole t = job-agree (agree-more p t) a k whole
 
   -- Bytes that complete a good job: the mark.
-  unfoldable jobByte : ℕ → ℕ
-  jobByte i = pick (eqb i a) 0x4A 0x42
+  unfoldable job_byte : ℕ → ℕ
+  job_byte i = pick (eqb i a) 0x4A 0x42
 
   pub job-open : (a < length p → eqb (get_or p a 0) 0x4A ≡ true) → (a + 1 < length p → eqb (get_or p (a + 1) 0) 0x42 ≡ true)
       → length p < a + 7 → JobSettled p a k → ⊥
-  unfolding jobByte
+  unfolding job_byte
   job-open first second short settled =
-      let t : List ℕ = follow p (a + 7) jobByte in
+      let t : List ℕ = follow p (a + 7) job_byte in
       let s : List ℕ = p ++ t in
-      let byte = follow-byte p (a + 7) jobByte in
+      let byte = follow-byte p (a + 7) job_byte in
       let good : GoodJob s a = record {
         mark = and_intro (eqb (get_or s a 0) 0x4A) (eqb (get_or s (a + 1) 0) 0x42)
             (byte (λ x. eqb x 0x4A) a (omega arith) first (rw (eq-eqb a a refl)))
             (byte (λ x. eqb x 0x42) (a + 1) (omega arith) second (rw (ne_eqb (a + 1) a (λ e. omega arith))));
-        whole = follow-length p (a + 7) jobByte;
+        whole = follow-length p (a + 7) job_byte;
       } in
       differ (job-found s a k good ∙ settled t ∙ sym (job-bad p a k (λ g. omega (arith, g.whole))))
     where
-      differ : Job (job_in (p ++ follow p (a + 7) jobByte) a k) (past_job a k) ≡ Bad a → ⊥
+      differ : Job (job_in (p ++ follow p (a + 7) job_byte) a k) (past_job a k) ≡ Bad a → ⊥
       differ e = let q : ◌≡◌ {A = ℕ} 0 1 = cc in absurd (omega arith)
 
 -- ---- a cursor

@@ -2,6 +2,7 @@
 --
 --   log-long, -costs, -work, -fits       == `log_shape` by the lengths: refusals 16 and 6, and a good shape
 --   replay-refused, replay-rest          == the shape, once floor and neighbourhood are tested
+--   refused-floor, -neighbourhood, -log, fit-log == the shape by the tests in order
 --   job-replayable                       == `Replayable` where the shape is fit
 --   replays-refused, replays-fit         == `Replays` where the shape is refused, and where it is fit
 --   faultless-is                         == `faultless_in` of the reading is `faultless` of the log
@@ -23,10 +24,13 @@ use Rattle.basics.proofs.Bools.{and_left, and_right, eqb-sym}
 use Rattle.basics.proofs.Lists.{get_d_tabulate}
 use Rattle.floor.specs.Floor.{floor_of, vertices}
 use Rattle.floor.specs.declared.Refusal.{Refusal}
-use Rattle.floor.specs.declared.Refusal.TheVariants.{SliceLength, LogLength}
+use Rattle.floor.specs.declared.Refusal.TheVariants.{Neighbourhood as BadNeighbourhood, SliceLength, LogLength}
+use Rattle.floor.specs.Refusals.{floor_shape}
 use Rattle.floor.specs.declared.Shape.TheVariants.{Good, Refused as BadShape}
 use Rattle.floor.proofs.Shapes.{good-floor, good-first, good-second, good-pick}
 use Rattle.moves.specs.declared.Directions.{Directions}
+use Rattle.moves.specs.declared.Neighbourhood.TheVariants.{Known, Refused as NotKnown}
+use Rattle.moves.specs.Moves.{neighbourhood_of}
 use Rattle.paths.specs.Graph.{Graph}
 use Rattle.paths.specs.Distance.{distance}
 use Rattle.grid.specs.Grid.{floor_graph, or_refused}
@@ -126,6 +130,27 @@ module _ (w h : ℕ) (map : List ℕ) (nb n c k : ℕ) {j : JobShape} (told : j 
       → or_refused (log_shape (vertices w h) n c k) (Fit dirs) ≡ replay_shape w h map nb n c k
   unfolding replay_shape
   replay-rest e = with_rest w h map nb told e (log_shape (vertices w h) n c k)
+
+-- The whole shape, test by test.
+module _ (w h : ℕ) (map : List ℕ) (nb n c k : ℕ) where
+  pub refused-floor : (s : Refusal) → floor_shape w h map ≡ BadShape s → BadJob s ≡ replay_shape w h map nb n c k
+  unfolding replay_shape
+  refused-floor s e = rw e
+
+  module _ (f : floor_shape w h map ≡ Good) where
+    pub refused-neighbourhood : neighbourhood_of nb ≡ NotKnown → BadJob BadNeighbourhood ≡ replay_shape w h map nb n c k
+    unfolding replay_shape
+    refused-neighbourhood e = rw (f, e)
+
+    module _ (dirs : Directions) (known : neighbourhood_of nb ≡ Known dirs) where
+      pub refused-log : (s : Refusal) → log_shape (vertices w h) n c k ≡ BadShape s
+          → BadJob s ≡ replay_shape w h map nb n c k
+      unfolding replay_shape
+      refused-log s e = rw (f, known, e)
+
+      pub fit-log : log_shape (vertices w h) n c k ≡ Good → Fit dirs ≡ replay_shape w h map nb n c k
+      unfolding replay_shape
+      fit-log e = rw (f, known, e)
 
 pub job-replayable : (w h : ℕ) (map : List ℕ) (nb : ℕ) (log costs work : List ℕ) (dirs : Directions)
     → replay_shape w h map nb (length log) (length costs) (length work) ≡ Fit dirs

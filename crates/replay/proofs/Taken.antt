@@ -54,14 +54,14 @@ module _ (g : Graph) (p : ℕ → Bool) where
   -- ---- what is driven
 
   -- What the stops l add to the progress s.
-  abbrev onFrom : Followed → Progress → List ℕ → Driven
-  onFrom Throughout s l = drive g p (s.read + 1) (before s) s.cost l
-  onFrom (Not k) s l = driven_of s.cost (Not k)
+  abbrev on_from : Followed → Progress → List ℕ → Driven
+  on_from Throughout s l = drive g p (s.read + 1) (before s) s.cost l
+  on_from (Not k) s l = driven_of s.cost (Not k)
 
   one_more : (n c : ℕ) (f : Followed) (a b v : ℕ) (l : List ℕ)
       → let s = progress_of n c f a b in
       let t = after_stop g p s v in
-      onFrom t.followed t l ≡ onFrom f s (v ∷ l)
+      on_from t.followed t l ≡ on_from f s (v ∷ l)
   unfolding after_stop drive
   one_more n c (Not k) a b v l = refl
   one_more n c Throughout a b v l = cases (follow_cost g p (before (progress_of n c Throughout a b)) v)
@@ -69,18 +69,18 @@ module _ (g : Graph) (p : ℕ → Bool) where
       cases : (o : Option ℕ)
           → let k = n + 1 in
           let t = progress_of k (cost_with Throughout c o) (followed_with Throughout k o) (pick (eqb n 0) v a) v in
-          onFrom t.followed t l
+          on_from t.followed t l
           ≡ if_follows o (λ x. drive g p (n + 1 + 1) (some v) (c + x) l) (driven_of c (Not (n + 1)))
       cases none = refl
       cases (some x) =
           ap (λ b. drive g p (n + 1 + 1) (pick b none (some v)) (c + x) l) (ne_eqb (n + 1) 0 (λ z. omega arith))
 
   on-after : (l : List ℕ) (s : Progress) → let t = after_stops g p s l in
-      onFrom s.followed s l ≡ driven_of t.cost t.followed
+      on_from s.followed s l ≡ driven_of t.cost t.followed
   unfolding after_stops drive
   on-after [] s = ended s.followed s refl
     where
-      ended : (f : Followed) (s : Progress) → s.followed ≡ f → onFrom f s [] ≡ driven_of s.cost s.followed
+      ended : (f : Followed) (s : Progress) → s.followed ≡ f → on_from f s [] ≡ driven_of s.cost s.followed
       ended Throughout s e = ap (driven_of s.cost) (sym e)
       ended (Not k) s e = ap (driven_of s.cost) (sym e)
   on-after (v ∷ l) s =

@@ -23,7 +23,7 @@ use Rattle.records.specs.Known.{Written}
 use Rattle.records.specs.declared.stream.Cursor.{Cursor}
 use Rattle.records.specs.declared.stream.JobRecord.{JobRecord}
 use Rattle.records.specs.declared.stream.Record.{Record}
-use Rattle.records.specs.declared.stream.Record.TheVariants.{Map, Job, End, Bad}
+use Rattle.records.specs.declared.stream.Record.TheVariants.{Job, End, Bad}
 use Rattle.records.proofs.Moved.{job-step}
 use Rattle.records.proofs.Found.{Finding, found_map, no-map, at-end, found-job, no-job, finding}
 use Rattle.program_text.specs.Text.{program_text}

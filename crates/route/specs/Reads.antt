@@ -10,7 +10,7 @@
 --                             buffer holds all that can matter
 --   BadRead i r k          == what stands first is a bad record at place k, and that is sure
 --   Ended i r              == at the end of a run all of the text is written, or a part could not be written
-use Rattle.std.specs.Prelude.{ℕ, ◌≤◌, ◌<◌, ◌≡◌, Bool, false, List, length, take}
+use Rattle.std.specs.Prelude.{ℕ, ◌≤◌, ◌<◌, ◌≡◌, false, List, length, take}
 use Rattle.records.specs.Format.{record_at, start_cursor}
 use Rattle.records.specs.Settled.{longest}
 use Rattle.records.specs.declared.stream.Cursor.{Cursor}

@@ -10,6 +10,7 @@
 // No contract can name the bytes that a read of standard input or a write to standard output moves: that the buffer
 // holds what was read, and that a write moves what is lent to it, is not proved.
 #![tactic(auto)]
+
 ghost use Rattle.std.specs.Prelude.{◌≡◌, ◌*◌, ◌≤◌, ◌<◌, length, IfOk};
 ghost use Rattle.floor.specs.Floor.{map_length, vertices};
 ghost use Rattle.planner.specs.Plan.{slices_of};
@@ -67,13 +68,7 @@ fn tries_again(error: &Error) -> bool {
 
 // Writes some of `part`, which stands at place `written` of the program's text for an input that begins with s, and
 // answers how many bytes the system took. No other function writes.
-fn write_some(
-    stdout: Stdout,
-    s: &[u8],
-    over: bool,
-    written: usize,
-    part: &[u8],
-) -> Result<usize>
+fn write_some(stdout: Stdout, s: &[u8], over: bool, written: usize, part: &[u8]) -> Result<usize>
     requires { Next s.now over written part.now }
     ensures { IfOk result (λ n. n ≤ length part.now) }
 {
@@ -315,7 +310,16 @@ fn lend_map(
     let v = floor::vertex_count(m.wide, m.high);
     let mut map = [0u8; 961];
     let mut d = [0u32; 1024];
-    run_jobs(stdin, stdout, input, first, m, past, &mut map[..n], &mut d[..v])
+    run_jobs(
+        stdin,
+        stdout,
+        input,
+        first,
+        m,
+        past,
+        &mut map[..n],
+        &mut d[..v],
+    )
 }
 
 // Writes the line of a bad record at place k, where the map is due.

@@ -416,8 +416,8 @@ module _ (f : Floor) (x0 y0 x1 y1 : ℕ) where
   abbrev t : Segment
   t = segment_of x0 y0 x1 y1
 
-  abbrev columnPinch : ℕ → Obstacle
-  columnPinch c = first (suc (span y0 y1)) (passed_pinch f t c)
+  abbrev column_pinch : ℕ → Obstacle
+  column_pinch c = first (suc (span y0 y1)) (passed_pinch f t c)
 
   -- A pinch that is passed is a hit at its place from the first end, and a hit is a pinch that is passed.
   pinch-answers : (p q : ℕ) → pinch f p q ≡ true → passes t p q ≡ true
@@ -438,7 +438,7 @@ module _ (f : Floor) (x0 y0 x1 y1 : ℕ) where
       let y = start_on y0 y1 r in
       picked (pinch f x y && passes t x y) (pinch_at f x y) e
 
-  module _ (C : Hit (suc (span x0 x1)) columnPinch) (R : Hit (suc (span y0 y1)) (passed_pinch f t C.at)) where
+  module _ (C : Hit (suc (span x0 x1)) column_pinch) (R : Hit (suc (span y0 y1)) (passed_pinch f t C.at)) where
     abbrev x : ℕ
     x = start_on x0 x1 C.at
 
@@ -477,7 +477,7 @@ module _ (f : Floor) (x0 y0 x1 y1 : ℕ) where
           rows = no-pinch-row;
         }
 
-    pinch-held : first (suc (span x0 x1)) columnPinch ≡ pinch_at f x y
+    pinch-held : first (suc (span x0 x1)) column_pinch ≡ pinch_at f x y
     pinch-held = hit-first C ∙ hit-first R ∙ (pinch-answered C.at R.at R.hit).1
 
   upright-no-pinch : (k : ℕ) → no_pinch (upright_step f x0 y0 y1 k) ≡ true
@@ -510,7 +510,7 @@ module _ (f : Floor) (x0 y0 x1 y1 : ℕ) where
         → NamesPinch f t v.0
     unfolding nearest_pinch
     nearest-named {v} free long h =
-        let C : Hit (suc (span x0 x1)) columnPinch = found_at h refl in
+        let C : Hit (suc (span x0 x1)) column_pinch = found_at h refl in
         let R = first_found (suc (span y0 y1)) (passed_pinch f t C.at) C.hit in
         record {
           free = free;

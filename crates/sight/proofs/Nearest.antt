@@ -116,13 +116,13 @@ module _ (f : Floor) (x0 y0 x1 y1 : ℕ) (e : Ends f.wide f.high x0 y0 x1 y1) wh
       (passes_on x0 y0 x1 y1 c r lc lr ∙ ne_eqb (span y0 y1 * c) (span x0 x1 * r) q)
       ∙ ap (λ b. pick b (pinch_at f x y) Clear) (and-false (pinch f x y))
 
-  abbrev dX : ℕ
-  dX = span x0 x1
+  abbrev d_x : ℕ
+  d_x = span x0 x1
 
-  abbrev dY : ℕ
-  dY = span y0 y1
+  abbrev d_y : ℕ
+  d_y = span y0 y1
 
-  module _ {N : ℕ} (C : Common dX dY N) (long : 1 ≤ dX + dY) where
+  module _ {N : ℕ} (C : Common d_x d_y N) (long : 1 ≤ d_x + d_y) where
     -- They are k * across columns and k * down rows from the first end, for each k up to N.
     abbrev across : ℕ
     across = C.first.times
@@ -130,7 +130,7 @@ module _ (f : Floor) (x0 y0 x1 y1 : ℕ) (e : Ends f.wide f.high x0 y0 x1 y1) wh
     abbrev down : ℕ
     down = C.second.times
 
-    on_line : (k : ℕ) → dY * (k * across) ≡ dX * (k * down)
+    on_line : (k : ℕ) → d_y * (k * across) ≡ d_x * (k * down)
     on_line k =
         ap (λ y. y * (k * across)) C.second.is ∙ turned N across down k
         ∙ sym (ap (λ x. x * (k * down)) C.first.is)
@@ -143,46 +143,46 @@ module _ (f : Floor) (x0 y0 x1 y1 : ℕ) (e : Ends f.wide f.high x0 y0 x1 y1) wh
       column : c ≡ k * across
       row : r ≡ k * down
 
-    -- The multiple k, from dY * c = dX * r: by the columns where there are any, else by the rows.
-    by-columns : (c r : ℕ) → 1 ≤ dX → dY * c ≡ dX * r → Multiple c r
+    -- The multiple k, from d_y * c = d_x * r: by the columns where there are any, else by the rows.
+    by-columns : (c r : ℕ) → 1 ≤ d_x → d_y * c ≡ d_x * r → Multiple c r
     by-columns c r l q =
-        let d = C.greatest dX c (divides-multiple dX c) (record { times = r; is = q }) in
+        let d = C.greatest d_x c (divides-multiple d_x c) (record { times = r; is = q }) in
         let p : c ≡ d.times * across
         = eq_of_mul-eq-mul_left N (common-some C long) c (d.times * across)
         (d.is ∙ ap (λ x. x * d.times) C.first.is ∙ omega arith) in
         record {
           k = d.times;
           column = p;
-          row = eq_of_mul-eq-mul_left dX l r (d.times * down) (sym q ∙ ap (λ z. dY * z) p ∙ on_line d.times);
+          row = eq_of_mul-eq-mul_left d_x l r (d.times * down) (sym q ∙ ap (λ z. d_y * z) p ∙ on_line d.times);
         }
 
-    by_rows : (c r : ℕ) → 1 ≤ dY → dY * c ≡ dX * r → Multiple c r
+    by_rows : (c r : ℕ) → 1 ≤ d_y → d_y * c ≡ d_x * r → Multiple c r
     by_rows c r l q =
-        let d = C.greatest dY r (record { times = c; is = sym q }) (divides-multiple dY r) in
+        let d = C.greatest d_y r (record { times = c; is = sym q }) (divides-multiple d_y r) in
         let p : r ≡ d.times * down
         = eq_of_mul-eq-mul_left N (common-some C long) r (d.times * down)
         (d.is ∙ ap (λ x. x * d.times) C.second.is ∙ omega arith) in
         record {
           k = d.times;
-          column = eq_of_mul-eq-mul_left dY l c (d.times * across)
-              (q ∙ ap (λ z. dX * z) p ∙ sym (on_line d.times));
+          column = eq_of_mul-eq-mul_left d_y l c (d.times * across)
+              (q ∙ ap (λ z. d_x * z) p ∙ sym (on_line d.times));
           row = p;
         }
 
-    multiple : (c r : ℕ) → dY * c ≡ dX * r → Multiple c r
+    multiple : (c r : ℕ) → d_y * c ≡ d_x * r → Multiple c r
     multiple c r q =
-        ⊎_elim (λ (l : 1 ≤ dX). by-columns c r l q) (λ (l : dX < 1). by_rows c r (omega arith) q) (le-or-lt 1 dX)
+        ⊎_elim (λ (l : 1 ≤ d_x). by-columns c r l q) (λ (l : d_x < 1). by_rows c r (omega arith) q) (le-or-lt 1 d_x)
 
     times-le : (a k n : ℕ) → k ≤ n → k * a ≤ n * a
     times-le a k n l = mul-le-mul {n₁ = k} {m₁ = a} {n₂ = n} {m₂ = a} l (omega arith)
 
     -- Past k = N none is in the box of the segment.
-    multiple-le : (k : ℕ) → k * across ≤ dX → k * down ≤ dY → k ≤ N
+    multiple-le : (k : ℕ) → k * across ≤ d_x → k * down ≤ d_y → k ≤ N
     multiple-le k p q =
         ⊎_elim (λ h. h)
         (λ (l : N < k).
-        let a = none-past N across k dX C.first.is l p in
-        let b = none-past N down k dY C.second.is l q in
+        let a = none-past N across k d_x C.first.is l p in
+        let b = none-past N down k d_y C.second.is l q in
         absurd (omega arith)) (le-or-lt k N)
       where
         none-past : (g a k d : ℕ) → d ≡ g * a → g < k → k * a ≤ d → d ≡ 0
@@ -204,39 +204,39 @@ module _ (f : Floor) (x0 y0 x1 y1 : ℕ) (e : Ends f.wide f.high x0 y0 x1 y1) wh
         → ((k : ℕ) → k ≤ N → c ≡ k * across → r ≡ k * down → at k ≡ Clear) → passed_pinch f t c r ≡ Clear
     passed-clear c r lc lr h =
         ⊎_elim
-        (λ (q : dY * c ≡ dX * r).
+        (λ (q : d_y * c ≡ d_x * r).
         let M = multiple c r q in
         let a = M.column in
         let b = M.row in
         passed-if c r (omega arith) (omega arith) q ∙ ap₂ (pinch_there f t) a b
         ∙ h M.k (multiple-le M.k (omega arith) (omega arith)) a b)
-        (λ (q : dY * c ≡ dX * r → ⊥). passed_none c r (omega arith) (omega arith) q) (eq-or-ne (dY * c) (dX * r))
+        (λ (q : d_y * c ≡ d_x * r → ⊥). passed_none c r (omega arith) (omega arith) q) (eq-or-ne (d_y * c) (d_x * r))
 
     before : (a j k : ℕ) → j * a < k * a → j < k
     before a j k l =
         ⊎_elim (λ h. absurd (omega (arith, times-le a k j h))) (λ h. h) (le-or-lt k j)
 
-    abbrev columnPinch : ℕ → Obstacle
-    columnPinch c = first n (passed_pinch f t c)
+    abbrev column_pinch : ℕ → Obstacle
+    column_pinch c = first n (passed_pinch f t c)
 
-    none_passed : ((k : ℕ) → k < suc N → at k ≡ Clear) → first m columnPinch ≡ first (suc N) at
+    none_passed : ((k : ℕ) → k < suc N → at k ≡ Clear) → first m column_pinch ≡ first (suc N) at
     none_passed h =
-        first-none m columnPinch (λ c lc. first-none n (passed_pinch f t c) (λ r lr.
+        first-none m column_pinch (λ c lc. first-none n (passed_pinch f t c) (λ r lr.
         passed-clear c r lc lr (λ k l p q. h k (omega arith))))
         ∙ sym (first-none (suc N) at h)
 
-    one-passed : Hit (suc N) at → first m columnPinch ≡ first (suc N) at
+    one-passed : Hit (suc N) at → first m column_pinch ≡ first (suc N) at
     one-passed H =
         let k = H.at in
         let l : k ≤ N = omega (arith, H.below) in
         let lc : k * across < m = omega (arith, C.first.is, times-le across k N l) in
         let lr : k * down < n = omega (arith, C.second.is, times-le down k N l) in
-        let here : columnPinch (k * across) ≡ at k
+        let here : column_pinch (k * across) ≡ at k
         = first-hit n (k * down) (passed_pinch f t (k * across)) lr
         (λ r lt. passed-clear (k * across) r lc (omega arith) (λ j i p q.
         H.before j (before down j k (omega arith)))) (ap is_clear (at-passed k l) ∙ H.hit)
         ∙ at-passed k l in
-        first-hit m (k * across) columnPinch lc
+        first-hit m (k * across) column_pinch lc
         (λ c lt. first-none n (passed_pinch f t c) (λ r lr. passed-clear c r (omega arith) lr (λ j i p q.
         H.before j (before across j k (omega arith))))) (ap is_clear here ∙ H.hit)
         ∙ here ∙ sym (hit-first H)
@@ -245,22 +245,22 @@ module _ (f : Floor) (x0 y0 x1 y1 : ℕ) (e : Ends f.wide f.high x0 y0 x1 y1) wh
     unfolding nearest_pinch
     at-nearest = ⊎_elim none_passed one-passed (first-look (suc N) at)
 
-  module _ {N u v : ℕ} (C : Common u v N) (p : u ≡ dX) (q : v ≡ dY) (long : 1 ≤ u + v) where
+  module _ {N u v : ℕ} (C : Common u v N) (p : u ≡ d_x) (q : v ≡ d_y) (long : 1 ≤ u + v) where
     pub common-nearest : nearest_pinch f t ≡ first (suc N) (λ k. pinch_there f t (k * (u / N)) (k * (v / N)))
     common-nearest =
-        let D : Common dX dY N = rw (p, q) at C in
+        let D : Common d_x d_y N = rw (p, q) at C in
         let some = common-some C long in
         at-nearest D (omega arith)
         ∙ ap₂ (λ a b. first (suc N) (λ k. pinch_there f t (k * a) (k * b)))
         (sym (div-eq_of_eq-mul_right some (p ∙ D.first.is))) (sym (div-eq_of_eq-mul_right some (q ∙ D.second.is)))
 
-  pub ends-nearest : Common dX dY 1 → 1 ≤ dX + dY → nearest_pinch f t ≡ or_else (pinch_here f x0 y0) (pinch_here f x1 y1)
+  pub ends-nearest : Common d_x d_y 1 → 1 ≤ d_x + d_y → nearest_pinch f t ≡ or_else (pinch_here f x0 y0) (pinch_here f x1 y1)
   unfolding first pinch_there
   ends-nearest C long =
       let a = C.first.times in
       let b = C.second.times in
-      let p : 1 * a ≡ dX = sym C.first.is in
-      let q : 1 * b ≡ dY = sym C.second.is in
+      let p : 1 * a ≡ d_x = sym C.first.is in
+      let q : 1 * b ≡ d_y = sym C.second.is in
       let z : 0 * a ≡ 0 = omega arith in
       let y : 0 * b ≡ 0 = omega arith in
       at-nearest C long

@@ -2,7 +2,7 @@
 -- position recorded, and m the number recorded.
 --
 --   chain next n c i          == i, the position that `next` gives after it, and so on up to n - 1, at most c of them
---   laterChain next n c i     == `chain next n c i` without its first position
+--   later_chain next n c i     == `chain next n c i` without its first position
 --   chain_more, chain-end     == `chain` from a position before n - 1, and from n - 1
 --   Recording next n k m i l  == of the k places of l, the first m have the first m positions of the chain from 0, and
 --                                the others 0; i is the last one recorded
@@ -26,17 +26,17 @@ module _ (next : ℕ → ℕ) (n : ℕ) where
   chain zero i = []
   chain (suc c) i = i ∷ pick (ltb (suc i) n) (chain c (next i)) []
 
-  abbrev laterChain : ℕ → ℕ → List ℕ
-  laterChain c i = pick (ltb (suc i) n) (chain c (next i)) []
+  abbrev later_chain : ℕ → ℕ → List ℕ
+  later_chain c i = pick (ltb (suc i) n) (chain c (next i)) []
 
-  chain-later : (c i : ℕ) → chain (suc c) i ≡ i ∷ laterChain c i
+  chain-later : (c i : ℕ) → chain (suc c) i ≡ i ∷ later_chain c i
   unfolding chain
   chain-later c i = refl
 
-  later_more : (c i : ℕ) → suc i < n → laterChain c i ≡ chain c (next i)
+  later_more : (c i : ℕ) → suc i < n → later_chain c i ≡ chain c (next i)
   later_more c i a = pick_yes (ltb (suc i) n) _ [] (lt-ltb (suc i) n a)
 
-  later-none : (c i : ℕ) → n ≤ suc i → laterChain c i ≡ []
+  later-none : (c i : ℕ) → n ≤ suc i → later_chain c i ≡ []
   later-none c i a = pick_no (ltb (suc i) n) _ [] (le-ltb (suc i) n a)
 
   pub chain_more : (c i : ℕ) → suc i < n → chain (suc c) i ≡ i ∷ chain c (next i)
@@ -53,7 +53,7 @@ module _ (next : ℕ → ℕ) (n : ℕ) where
     pub positions : List ℕ
     pub many : length positions ≡ m
     pub at : l ≡ padded k positions
-    pub rest : positions ++ laterChain (n - m) i ≡ chain n 0
+    pub rest : positions ++ later_chain (n - m) i ≡ chain n 0
 
   pub recording-first : (k : ℕ) → 1 ≤ n → n ≤ k → Recording k 1 0 (zeros k)
   unfolding padded
@@ -76,7 +76,7 @@ module _ (next : ℕ → ℕ) (n : ℕ) where
     recording-more a j b within e =
         let ps = h.positions in
         let d : n - m ≡ suc (n - suc m) = omega (arith, h.counted) in
-        let step : laterChain (n - m) i ≡ j ∷ laterChain (n - suc m) j =
+        let step : later_chain (n - m) i ≡ j ∷ later_chain (n - suc m) j =
         later_more (n - m) i a ∙ rw (← e, d) (chain-later (n - suc m) j) in
         rw add-one record {
           inside = within;

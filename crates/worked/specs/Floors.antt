@@ -15,7 +15,7 @@
 --                       floor g the only pinch is 4; the traversal count of vertex 4 of floor h is 4; on floor a the
 --                       costs with one neighbourhood, handed in for another, are false, and on floor c they are true;
 --                       the cells of floor i
-use Rattle.std.specs.Prelude.{ℕ, ◌+◌, ◌*◌, ◌<◌, ◌≡◌, Bool, true, false, List, [], ◌∷◌, eqb, length, get_or}
+use Rattle.std.specs.Prelude.{ℕ, ◌+◌, ◌*◌, ◌<◌, ◌≡◌, Bool, true, false, List, [], ◌∷◌, eqb, get_or}
 use Rattle.floor.specs.Floor.{Floor, stored_cells, floor_of, column, row}
 use Rattle.sight.specs.Sight.{segment_of, enters, pinch}
 use Rattle.moves.specs.declared.Directions.{Directions}

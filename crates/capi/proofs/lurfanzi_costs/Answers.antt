@@ -1,7 +1,6 @@
 -- `capi::lurfanzi_costs` meets its contract: it hands its numbers and slices on to `planner::fill_costs`. Assumes
 -- nothing.
 use Rattle.capi.proofs.Given.{fills-to}
-use borrow.Author.Rules.{rules}
 use Rattle.capi.proofs.lurfanzi_costs.Goals as goal
 
 pub returns : goal.returns

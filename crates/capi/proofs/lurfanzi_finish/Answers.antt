@@ -1,6 +1,5 @@
 -- `capi::lurfanzi_finish` meets its contract: it hands its numbers and slices on to `planner::finish`. Assumes nothing.
 use Rattle.capi.proofs.Given.{finishes-to}
-use borrow.Author.Rules.{rules}
 use Rattle.capi.proofs.lurfanzi_finish.Goals as goal
 
 pub returns : goal.returns

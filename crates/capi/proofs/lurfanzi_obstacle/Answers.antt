@@ -6,7 +6,6 @@ use Rattle.sight.specs.Question.{sight_answer}
 use Rattle.sight.specs.declared.Sight.TheVariants.{Answered}
 use Rattle.capi.proofs.Given.{obstacle-refused, obstacle-answered}
 use Rattle.capi.proofs.Places.{place-lt}
-use borrow.Author.Rules.{rules}
 use Rattle.capi.proofs.lurfanzi_obstacle.Goals.{In-Answered}
 use Rattle.capi.proofs.lurfanzi_obstacle.Goals as goal
 

@@ -6,7 +6,6 @@ use Rattle.closures.specs.Plain.{post_slot}
 use Rattle.stored_closures.specs.Stored.{rectangle_of, stored_in}
 use Rattle.capi.proofs.Given.{posts-to}
 use Rattle.capi.proofs.Places.{slot_lt}
-use borrow.Author.Rules.{rules}
 use Rattle.capi.proofs.lurfanzi_post.Goals as goal
 
 pub overflow_cast-slot : goal.overflow_cast-slot

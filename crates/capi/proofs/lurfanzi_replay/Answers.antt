@@ -1,6 +1,5 @@
 -- `capi::lurfanzi_replay` meets its contract: it hands its numbers and slices on to `replay::replay`. Assumes nothing.
 use Rattle.capi.proofs.Given.{replays-to}
-use borrow.Author.Rules.{rules}
 use Rattle.capi.proofs.lurfanzi_replay.Goals as goal
 
 pub returns : goal.returns

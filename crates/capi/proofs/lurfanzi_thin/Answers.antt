@@ -1,6 +1,5 @@
 -- `capi::lurfanzi_thin` meets its contract: it hands its numbers and slices on to `thinning::thin`. Assumes nothing.
 use Rattle.capi.proofs.Given.{thins-to}
-use borrow.Author.Rules.{rules}
 use Rattle.capi.proofs.lurfanzi_thin.Goals as goal
 
 pub returns : goal.returns

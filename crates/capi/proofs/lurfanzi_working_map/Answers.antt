@@ -1,7 +1,6 @@
 -- `capi::lurfanzi_working_map` meets its contract: it hands its numbers and slices on to
 -- `stored_closures::working_map`. Assumes nothing.
 use Rattle.capi.proofs.Given.{writes-to}
-use borrow.Author.Rules.{rules}
 use Rattle.capi.proofs.lurfanzi_working_map.Goals as goal
 
 pub returns : goal.returns

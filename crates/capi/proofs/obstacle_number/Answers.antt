@@ -1,6 +1,5 @@
 -- `capi::obstacle_number` meets its contract: each arm is one case of the definition. Assumes nothing.
 use mathlib.Core.Path.{sym, ap}
-use borrow.Author.Rules.{rules}
 use Rattle.sight.specs.Question.{obstacle_number}
 use Rattle.capi.proofs.obstacle_number.Goals as goal
 

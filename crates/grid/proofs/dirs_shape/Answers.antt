@@ -2,7 +2,7 @@
 use mathlib.Core.Path.{◌≡◌, sym, ◌∙◌}
 use Rattle.floor.specs.Refusals.{floor_shape}
 use Rattle.floor.specs.declared.Shape.TheVariants.{Good}
-use Rattle.grid.proofs.Jobs.{refused-floor, refused-neighbourhood, known-dirs}
+use Rattle.grid.proofs.Jobs.{dirs-refused, dirs-unknown, known-dirs}
 use Rattle.grid.proofs.dirs_shape.Goals.{In_default}
 use Rattle.grid.proofs.dirs_shape.Goals as goal
 
@@ -11,11 +11,11 @@ floor-is c = sym c.floor_shape-map_shape.ensures ∙ c.in_default.is
 
 pub returns-in-Refused : goal.returns-in-Refused
 returns-in-Refused c =
-    refused-floor _ _ _ _ _ (sym c.floor_shape-map_shape.ensures ∙ c.in-Refused.is)
+    dirs-refused _ _ _ _ _ (sym c.floor_shape-map_shape.ensures ∙ c.in-Refused.is)
 
 pub returns-in_default-directions_of : goal.returns-in_default-directions_of
 returns-in_default-directions_of c =
-    refused-neighbourhood _ _ _ _ (floor-is (goal.at.returns-in_default-directions_of c).In_default) (sym c.directions_of.ensures ∙ c.in_default-directions_of.is)
+    dirs-unknown _ _ _ _ (floor-is (goal.at.returns-in_default-directions_of c).In_default) (sym c.directions_of.ensures ∙ c.in_default-directions_of.is)
 
 pub returns : goal.returns
 returns c =

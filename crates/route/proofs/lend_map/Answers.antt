@@ -6,7 +6,6 @@ use Prim.Native.Nat.{◌≤◌}
 use native.Mathlib.Omega.{arith}
 use Rattle.route.proofs.Sizes.{taken}
 use Rattle.route.proofs.Running.{few_bytes, map-sides, few-places}
-use borrow.Author.Rules.{rules}
 use Rattle.route.proofs.lend_map.Goals.{After-map_length-n, After-vertex_count-v}
 use Rattle.route.proofs.lend_map.Goals as goal
 
@@ -35,9 +34,8 @@ pub slice_bounds-run_jobs-end-2 : goal.slice_bounds-run_jobs-end-2
 slice_bounds-run_jobs-end-2 c = taken _ _ (few-costs (goal.at.slice_bounds-run_jobs-end-2 c).After-vertex_count-v)
 
 pub run_jobs-requires : goal.run_jobs-requires
-run_jobs-requires c =
-    (
-      c.requires,
-      sym (taken _ _ (few (goal.at.run_jobs-requires c).After-map_length-n)) ∙ c.map_length-n.ensures.0,
-      sym (taken _ _ (few-costs (goal.at.run_jobs-requires c).After-vertex_count-v)) ∙ c.vertex_count-v.ensures.0,
-    )
+run_jobs-requires c = (
+  c.requires,
+  sym (taken _ _ (few (goal.at.run_jobs-requires c).After-map_length-n)) ∙ c.map_length-n.ensures.0,
+  sym (taken _ _ (few-costs (goal.at.run_jobs-requires c).After-vertex_count-v)) ∙ c.vertex_count-v.ensures.0,
+)

@@ -3,7 +3,6 @@
 use Prim.Native.Nat.{◌≤◌}
 use native.Mathlib.Omega.{arith}
 use Rattle.route.proofs.Sizes.{few-vertices, taken, lent}
-use borrow.Author.Rules.{rules}
 use Rattle.route.proofs.lend_turn.Goals.{After-vertex_count-v}
 use Rattle.route.proofs.lend_turn.Goals as goal
 
@@ -54,12 +53,11 @@ pub slice_bounds-write_turn-end-7 : goal.slice_bounds-write_turn-end-7
 slice_bounds-write_turn-end-7 c = taken _ _ (few (goal.at.slice_bounds-write_turn-end-7 c).After-vertex_count-v)
 
 pub write_turn-requires : goal.write_turn-requires
-write_turn-requires c =
-    (
-      c.requires.0,
-      c.requires.1,
-      lent c.requires.2 c.requires.3 c.vertex_count-v.ensures.0 _ _ _ _ _ _ _ _
-          (omega arith) (omega arith) (omega arith) (omega arith) (omega arith) (omega arith) (omega arith)
-          (omega arith),
-      omega arith,
-    )
+write_turn-requires c = (
+  c.requires.0,
+  c.requires.1,
+  lent c.requires.2 c.requires.3 c.vertex_count-v.ensures.0 _ _ _ _ _ _ _ _
+      (omega arith) (omega arith) (omega arith) (omega arith) (omega arith) (omega arith) (omega arith)
+      (omega arith),
+  omega arith,
+)

@@ -1,14 +1,10 @@
 -- `route::read_for` meets its contract: each read leaves what is read before it, and the loop ends where the input is
 -- over or what is read settles what stands at the cursor.
-use Prim.Native.Nat.{◌+◌, ◌-◌}
 use mathlib.Core.Path.{◌≡◌, refl, ◌∙◌}
 use mathlib.Core.Bool.{false}
-use native.Mathlib.Omega.{arith}
-use lib.ListN.{length}
 use Rattle.route.proofs.Sizes.{taken}
-use Rattle.route.proofs.Settling.{open_reads, ReadOn, read_none, read-then, read-less, read-over, read-settled}
+use Rattle.route.proofs.Settling.{read_none, read-then, read-less, read-over, read-settled}
 use Rattle.route.proofs.Settling.{room-left}
-use borrow.Author.Rules.{rules}
 use Rattle.route.proofs.read_for.Goals.{After-slice_known-in-loop-r-1}
 use Rattle.route.proofs.read_for.Goals as goal
 

@@ -3,7 +3,6 @@ use Prim.Native.Nat.{◌-◌}
 use native.Mathlib.Omega.{arith}
 use lib.ListN.{length}
 use Rattle.route.proofs.Settling.{read_more}
-use borrow.Author.Rules.{rules}
 use Rattle.route.proofs.read_more.Goals as goal
 
 pub returns : goal.returns

@@ -3,7 +3,6 @@
 use Prim.Native.Nat.{◌-◌}
 use mathlib.Core.Path.{◌≡◌}
 use lib.ListN.{length}
-use borrow.Author.Rules.{rules}
 use Rattle.route.proofs.read_some.Given as goal
 
 abbrev pub invariant-loop-tries : goal.invariant-loop-tries

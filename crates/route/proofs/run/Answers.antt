@@ -4,7 +4,6 @@ use native.Mathlib.Omega.{arith}
 use Rattle.route.proofs.Sizes.{taken}
 use Rattle.route.proofs.Running.{first_step, first-sure, first-reached}
 use Rattle.route.proofs.Sending.{never-end, never-job}
-use borrow.Author.Rules.{rules}
 use Rattle.route.proofs.run.Goals as goal
 
 pub read_for-first-requires : goal.read_for-first-requires
@@ -27,15 +26,14 @@ lend_map-requires c =
     }
 
 pub write_bad-requires : goal.write_bad-requires
-write_bad-requires c =
-    (
-      record {
-        within = c.read_for-first.ensures.within;
-        found = first_step _ c.new-c.ensures c.step.ensures c.in-Bad.is;
-        sure = first-sure c.new-c.ensures c.read_for-first.ensures.sure;
-      },
-      refl,
-    )
+write_bad-requires c = (
+  record {
+    within = c.read_for-first.ensures.within;
+    found = first_step _ c.new-c.ensures c.step.ensures c.in-Bad.is;
+    sure = first-sure c.new-c.ensures c.read_for-first.ensures.sure;
+  },
+  refl,
+)
 
 pub returns-in-End : goal.returns-in-End
 returns-in-End c =

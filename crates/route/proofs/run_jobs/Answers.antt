@@ -1,14 +1,8 @@
 -- `route::run_jobs` meets its contract: before each turn the text from its cursor on is due, and each turn but the last
 -- moves the cursor on, so that less of the input is left; the costs keep their length.
-use Prim.Native.Nat.{◌-◌, ◌≤◌}
-use mathlib.Core.Path.{◌≡◌, refl, ◌∙◌}
-use borrow.Author.Rules.{rules}
+use mathlib.Core.Path.{refl, ◌∙◌}
 use native.Mathlib.Omega.{arith}
-use lib.ListN.{length, take, length-take}
-use Rattle.floor.specs.Floor.{vertices}
-use Rattle.program_text.specs.Contract.{SmallFloor}
-use Rattle.records.specs.Settled.{longest}
-use Rattle.route.specs.Sent.{Due}
+use lib.ListN.{length-take}
 use Rattle.route.proofs.Sizes.{taken}
 use Rattle.route.proofs.Running.{cells-lent, jobs-small, jobs-due, due-on, sent-more, sent-last}
 use Rattle.route.proofs.run_jobs.Goals as goal
@@ -24,16 +18,15 @@ copy_cells-requires c =
     cells-lent _ _ _ c.requires.0.found _ c.requires.1
 
 pub loop-next_place-init : goal.loop-next_place-init
-loop-next_place-init c =
-    (
-      jobs-due _ _ _ c.requires.0.found _ c.copy_cells.ensures c.requires.0.sure
-          (omega (arith, c.requires.0.room, length-take c.args.first.count c.args.input.now)),
-      jobs-small _ _ _ c.requires.0.found _ c.copy_cells.ensures,
-      c.requires.2,
-      c.requires.0.room,
-      c.requires.0.within,
-      refl,
-    )
+loop-next_place-init c = (
+  jobs-due _ _ _ c.requires.0.found _ c.copy_cells.ensures c.requires.0.sure
+      (omega (arith, c.requires.0.room, length-take c.args.first.count c.args.input.now)),
+  jobs-small _ _ _ c.requires.0.found _ c.copy_cells.ensures,
+  c.requires.2,
+  c.requires.0.room,
+  c.requires.0.within,
+  refl,
+)
 
 pub read_for-r-requires : goal.read_for-r-requires
 read_for-r-requires c =

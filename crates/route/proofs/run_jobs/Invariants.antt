@@ -1,16 +1,12 @@
 -- `route::run_jobs` meets its contract: before each turn the text from its cursor on is due, and each turn but the last
 -- moves the cursor on, so that less of the input is left; the costs keep their length.
 use Prim.Native.Nat.{◌-◌, ◌≤◌}
-use mathlib.Core.Path.{◌≡◌, refl, ◌∙◌}
-use borrow.Author.Rules.{rules}
-use native.Mathlib.Omega.{arith}
-use lib.ListN.{length, take, length-take}
+use mathlib.Core.Path.{◌≡◌}
+use lib.ListN.{length, take}
 use Rattle.floor.specs.Floor.{vertices}
 use Rattle.program_text.specs.Contract.{SmallFloor}
 use Rattle.records.specs.Settled.{longest}
 use Rattle.route.specs.Sent.{Due}
-use Rattle.route.proofs.Sizes.{taken}
-use Rattle.route.proofs.Running.{cells-lent, jobs-small, jobs-due, due-on, sent-more, sent-last}
 use Rattle.route.proofs.run_jobs.Given as goal
 
 abbrev pub invariant-loop-next_place : goal.invariant-loop-next_place

@@ -3,7 +3,6 @@
 use native.Mathlib.Omega.{arith}
 use Rattle.route.proofs.Sizes.{taken}
 use Rattle.route.proofs.Sending.{turn-next, turn_more, turn_last}
-use borrow.Author.Rules.{rules}
 use Rattle.route.proofs.send_turn.Goals as goal
 
 pub slice_bounds-write_next-end : goal.slice_bounds-write_next-end

@@ -3,7 +3,6 @@ use native.Mathlib.Omega.{arith}
 use Rattle.program_text.proofs.Start.{written-within}
 use Rattle.route.proofs.Sizes.{taken}
 use Rattle.route.proofs.Sending.{bad-next, bad-all}
-use borrow.Author.Rules.{rules}
 use Rattle.route.proofs.write_bad.Goals as goal
 
 pub slice_bounds-write_next-end : goal.slice_bounds-write_next-end

@@ -1,10 +1,7 @@
 -- `route::write_next` meets its contract: what is left of the part stands at the place that it is written to, and in
 -- each turn of the loop some of it is written, or there is one try more.
 use Prim.Native.Nat.{◌+◌, ◌-◌, ◌≤◌}
-use native.Mathlib.Omega.{arith}
 use lib.ListN.{length}
-use Rattle.route.proofs.Sending.{next-rest}
-use borrow.Author.Rules.{rules}
 use Rattle.route.proofs.write_next.Given as goal
 
 abbrev pub invariant-loop-done : goal.invariant-loop-done

@@ -1,6 +1,5 @@
 -- `route::write_turn` meets its contract: what the turn leaves is what is written.
 use native.Mathlib.Omega.{arith}
-use borrow.Author.Rules.{rules}
 use Rattle.route.proofs.write_turn.Goals as goal
 
 pub send_turn-requires : goal.send_turn-requires

@@ -1,7 +1,6 @@
 -- `capi::change_reports::lurfanzi_cost_changes` meets its contract: it hands its numbers and slices on to
 -- `changes::cost_changes`. Assumes nothing.
 use Rattle.capi.proofs.Changes.{costs_to}
-use borrow.Author.Rules.{rules}
 use Rattle.capi.proofs.change_reports.lurfanzi_cost_changes.Goals as goal
 
 pub returns : goal.returns

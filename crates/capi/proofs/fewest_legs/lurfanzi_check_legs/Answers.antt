@@ -1,7 +1,6 @@
 -- `capi::fewest_legs::lurfanzi_check_legs` meets its contract: it hands its numbers and slices on to `legs::check`.
 -- Assumes nothing.
 use mathlib.Core.Path.{ap, ◌∙◌}
-use borrow.Author.Rules.{rules}
 use Rattle.floor.specs.Refusals.{shape_number}
 use Rattle.capi.proofs.fewest_legs.lurfanzi_check_legs.Goals as goal
 

@@ -1,6 +1,5 @@
 -- `capi::fewest_legs::lurfanzi_fewest_legs` meets its contract: it hands its numbers and slices on to `legs::propose`.
 -- Assumes nothing.
-use borrow.Author.Rules.{rules}
 use Rattle.capi.proofs.Legs.{proposes-to}
 use Rattle.capi.proofs.fewest_legs.lurfanzi_fewest_legs.Goals as goal
 

@@ -1,7 +1,6 @@
 -- `capi::mend::lurfanzi_mend` meets its contract: it hands its numbers and slices on to `mending::mend`. Assumes
 -- nothing.
 use Rattle.capi.proofs.Mending.{mends-to}
-use borrow.Author.Rules.{rules}
 use Rattle.capi.proofs.mend.lurfanzi_mend.Goals as goal
 
 pub returns : goal.returns

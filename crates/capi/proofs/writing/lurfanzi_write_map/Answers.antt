@@ -1,7 +1,6 @@
 -- `capi::writing::lurfanzi_write_map` meets its contract: it hands its numbers and slices on to
 -- `writer::Writer::put_map`. Assumes nothing.
 use Rattle.capi.proofs.WriterAnswers.{record-to}
-use borrow.Author.Rules.{rules}
 use Rattle.capi.proofs.writing.lurfanzi_write_map.Goals as goal
 
 pub returns : goal.returns
