@@ -67,7 +67,9 @@ fn row_right(
 
 // Whether d holds the true costs from a: 0 at a, and every cost right by its neighbours. It stops at the first row with
 // a false cost. A move to a pinch is read as open, as the checker does. The windows of a line are read once, and kept
-// for the rows above and below.
+// for the rows above and below. It is not inlined, so that its lines of masks have left the stack before the counts are
+// filled.
+#[inline(never)]
 pub fn costs_true(w: usize, h: usize, map: &[u8], dirs: Directions, a: Vertex, d: &[u32]) -> bool
     requires { GoodJob w h map.now dirs a.0 a.0 × (length d.now ≡ vertices w h) }
     ensures { result ≡ costs_true (floor_graph (floor_of w h map.now) dirs) a.0 d.now }
