@@ -1,6 +1,4 @@
 -- `route::lend_map` meets its contract: a map has at most 961 cells, so at most 121 bytes, and at most 1,024 vertices.
--- Depends on libc's read and write, on errno
--- and on sched_yield.
 use mathlib.Core.Path.{sym, ◌∙◌}
 use Prim.Native.Nat.{◌≤◌}
 use native.Mathlib.Omega.{arith}
