@@ -13,8 +13,7 @@ pub struct ChangesResult {
 }
 
 // The first report: which cells differ.
-#[unsafe(no_mangle)]
-pub extern "C" fn lurfanzi_changes(
+pub fn lurfanzi_changes(
     width: u32,
     height: u32,
     map: &[u8],
@@ -44,8 +43,7 @@ pub extern "C" fn lurfanzi_changes(
 }
 
 // The second report: how the costs from a start changed.
-#[unsafe(no_mangle)]
-pub extern "C" fn lurfanzi_cost_changes(
+pub fn lurfanzi_cost_changes(
     width: u32,
     height: u32,
     map: &[u8],

@@ -7,8 +7,7 @@ ghost use Rattle.capi.specs.Legs.{ProposesTo};
 use crate::ThinResult;
 
 // The checker of a proposal.
-#[unsafe(no_mangle)]
-pub extern "C" fn lurfanzi_check_legs(
+pub fn lurfanzi_check_legs(
     width: u32,
     height: u32,
     map: &[u8],
@@ -35,8 +34,7 @@ pub extern "C" fn lurfanzi_check_legs(
 }
 
 // Our own proposer.
-#[unsafe(no_mangle)]
-pub extern "C" fn lurfanzi_fewest_legs(
+pub fn lurfanzi_fewest_legs(
     width: u32,
     height: u32,
     map: &[u8],

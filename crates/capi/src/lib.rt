@@ -1,6 +1,6 @@
 // The C interface: each operation on plain numbers and slices, under the contract of the operation.
-// include/lurfanzi.h declares these functions. Sides, neighbourhood, ends, slots and the numbers of a rectangle are 32
-// bits wide, so that no number is truncated on its way in.
+// include/lurfanzi.h declares these functions, and the crate `capi_c` exports them. Sides, neighbourhood, ends, slots and
+// the numbers of a rectangle are 32 bits wide, so that no number is truncated on its way in.
 #![tactic(auto)]
 
 ghost use Rattle.std.specs.Prelude.{◌≡◌};
@@ -69,8 +69,7 @@ pub struct ReplayResult {
 }
 
 // The sight question.
-#[unsafe(no_mangle)]
-pub extern "C" fn lurfanzi_sight(width: u32, height: u32, map: &[u8], a: u32, b: u32) -> u8
+pub fn lurfanzi_sight(width: u32, height: u32, map: &[u8], a: u32, b: u32) -> u8
     ensures { result ≡ sight_number (sight_answer width height map.now a b) }
 {
     let s = sight::ask(width as usize, height as usize, map, a as usize, b as usize);
@@ -103,14 +102,7 @@ fn obstacle_place(o: Obstacle) -> usize
 }
 
 // What is in the way.
-#[unsafe(no_mangle)]
-pub extern "C" fn lurfanzi_obstacle(
-    width: u32,
-    height: u32,
-    map: &[u8],
-    a: u32,
-    b: u32,
-) -> ObstacleResult
+pub fn lurfanzi_obstacle(width: u32, height: u32, map: &[u8], a: u32, b: u32) -> ObstacleResult
     ensures { result ≡ obstacle_result (sight_answer width height map.now a b) }
 {
     let found = sight::ask(width as usize, height as usize, map, a as usize, b as usize);
@@ -130,8 +122,7 @@ pub extern "C" fn lurfanzi_obstacle(
 }
 
 // The planner's first operation: the costs from a start.
-#[unsafe(no_mangle)]
-pub extern "C" fn lurfanzi_costs(
+pub fn lurfanzi_costs(
     width: u32,
     height: u32,
     map: &[u8],
@@ -156,8 +147,7 @@ pub extern "C" fn lurfanzi_costs(
 }
 
 // The planner's second operation: the rest of a job from given costs.
-#[unsafe(no_mangle)]
-pub extern "C" fn lurfanzi_finish(
+pub fn lurfanzi_finish(
     width: u32,
     height: u32,
     map: &[u8],
@@ -202,8 +192,7 @@ pub extern "C" fn lurfanzi_finish(
 }
 
 // The checker.
-#[unsafe(no_mangle)]
-pub extern "C" fn lurfanzi_check(
+pub fn lurfanzi_check(
     width: u32,
     height: u32,
     map: &[u8],
@@ -240,8 +229,7 @@ pub extern "C" fn lurfanzi_check(
 }
 
 // The thinning.
-#[unsafe(no_mangle)]
-pub extern "C" fn lurfanzi_thin(
+pub fn lurfanzi_thin(
     width: u32,
     height: u32,
     map: &[u8],
@@ -259,8 +247,7 @@ pub extern "C" fn lurfanzi_thin(
 }
 
 // Posting a closure.
-#[unsafe(no_mangle)]
-pub extern "C" fn lurfanzi_post(
+pub fn lurfanzi_post(
     width: u32,
     height: u32,
     slots: &mut [u32; 64],
@@ -289,8 +276,7 @@ pub extern "C" fn lurfanzi_post(
 }
 
 // Striking a closure.
-#[unsafe(no_mangle)]
-pub extern "C" fn lurfanzi_strike(width: u32, height: u32, slots: &mut [u32; 64], slot: u32) -> u8
+pub fn lurfanzi_strike(width: u32, height: u32, slots: &mut [u32; 64], slot: u32) -> u8
     ensures { StrikesTo width height slots.old slot result slots.new }
 {
     let s = stored_closures::strike(width as usize, height as usize, slots, slot as usize);
@@ -298,8 +284,7 @@ pub extern "C" fn lurfanzi_strike(width: u32, height: u32, slots: &mut [u32; 64]
 }
 
 // The working map.
-#[unsafe(no_mangle)]
-pub extern "C" fn lurfanzi_working_map(
+pub fn lurfanzi_working_map(
     width: u32,
     height: u32,
     slots: &[u32; 64],
@@ -323,8 +308,7 @@ fn flag(b: bool) -> u8
 }
 
 // The replay of a log.
-#[unsafe(no_mangle)]
-pub extern "C" fn lurfanzi_replay(
+pub fn lurfanzi_replay(
     width: u32,
     height: u32,
     map: &[u8],

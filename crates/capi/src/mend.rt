@@ -20,8 +20,7 @@ pub struct MendResult {
 }
 
 // Mending a damaged sheet.
-#[unsafe(no_mangle)]
-pub extern "C" fn lurfanzi_mend(
+pub fn lurfanzi_mend(
     width: u32,
     height: u32,
     map: &[u8],

@@ -15,8 +15,7 @@ pub struct WriteResult {
 }
 
 // Writing a map record.
-#[unsafe(no_mangle)]
-pub extern "C" fn lurfanzi_write_map(
+pub fn lurfanzi_write_map(
     writer: Writer,
     width: u32,
     height: u32,
@@ -36,8 +35,7 @@ pub extern "C" fn lurfanzi_write_map(
 }
 
 // Writing a job record.
-#[unsafe(no_mangle)]
-pub extern "C" fn lurfanzi_write_job(
+pub fn lurfanzi_write_job(
     writer: Writer,
     neighbourhood: u8,
     a: u16,
