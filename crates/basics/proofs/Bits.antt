@@ -6,7 +6,7 @@
 --   bit-zero     == bit 0 k = false
 --   pow-bit      == bit (2^j) k = (j = k)
 --   bit_high     == bit n (j + k) = bit (n / 2^j) k
---   pick-bit      == bit (2^j where t holds, else 0) k = (t && j = k)
+--   pick-bit     == bit (2^j where t holds, else 0) k = (t && j = k)
 --   bits_at      == bit (bits_of n p) k = (k < n && p k)
 --   bits-cong    == bits_of n p = bits_of n q where p and q agree below n
 --   byte-of-bits == bits_of 8 (bit x) = x where x < 256

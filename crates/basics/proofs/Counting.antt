@@ -1,17 +1,17 @@
 -- Laws of `count`, `chosen` and `differences`.
 --
---   count-le         == count n p <= n
---   count_next       == count (k + 1) p = count k p, plus 1 where p k
---   count_none       == count n p = 0 where no k < n has p k
---   count-zero       == no k < n has p k where count n p = 0
---   count-or         == the k < n with p k or q k are count n p + count n q, where p and q never hold together
---   length-chosen    == length (chosen n p) = count n p
---   chosen-holds     == each number in chosen n p is below n and passes p
---   chosen-has       == each k < n with p k stands in chosen n p
---   chosen-rises     == the numbers in chosen n p ascend
---   differences-none == k = l where their lengths are equal and differences k l = 0
---   differences-same == differences l l = 0
---   Counted n k c p  == a loop over the numbers below n is at k and has counted c of them
+--   count-le              == count n p <= n
+--   count_next            == count (k + 1) p = count k p, plus 1 where p k
+--   count_none            == count n p = 0 where no k < n has p k
+--   count-zero            == no k < n has p k where count n p = 0
+--   count-or              == the k < n with p k or q k are count n p + count n q, where p and q never hold together
+--   length-chosen         == length (chosen n p) = count n p
+--   chosen-holds          == each number in chosen n p is below n and passes p
+--   chosen-has            == each k < n with p k stands in chosen n p
+--   chosen-rises          == the numbers in chosen n p ascend
+--   differences-none      == k = l where their lengths are equal and differences k l = 0
+--   differences-same      == differences l l = 0
+--   Counted n k c p       == a loop over the numbers below n is at k and has counted c of them
 --   Differing k l end i n == a loop that compares the lists k and l, of length `end` each, is at place i and has found
 --                            n differences
 use Prim.Native.Nat.{ℕ, zero, suc, ◌+◌, ◌≤◌, ◌<◌}

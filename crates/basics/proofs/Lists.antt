@@ -2,16 +2,16 @@
 --
 --   member, length-pos == a list has a member exactly where its length is above 0
 --   get_or-zeros       == each place of zeros n is 0
---   zeros_of         == l = zeros n where l has n places, each 0
---   length-padded    == padded n l has n places, where l has no more
+--   zeros_of           == l = zeros n where l has n places, each 0
+--   length-padded      == padded n l has n places, where l has no more
 --   get_or-padded      == place i of padded n l is that of l, where l has such a place
 --   get_or-padded-past == place i of padded n l is 0 past the places of l
---   padded-more      == to store x at the first place past l in padded n l gives padded n (l ++ x)
---   padded-of        == r = padded n l where r has n places, those of l and then 0
---   length-tabulate  == tabulate n F has n places
---   get_d_tabulate    == place v of tabulate n F is F v, where v < n
---   tabulate-of      == l = tabulate n F where l has n places, and F v at each place v
---   tabulate-cong    == tabulate n F = tabulate n G where F and G agree below n
+--   padded-more        == to store x at the first place past l in padded n l gives padded n (l ++ x)
+--   padded-of          == r = padded n l where r has n places, those of l and then 0
+--   length-tabulate    == tabulate n F has n places
+--   get_d_tabulate     == place v of tabulate n F is F v, where v < n
+--   tabulate-of        == l = tabulate n F where l has n places, and F v at each place v
+--   tabulate-cong      == tabulate n F = tabulate n G where F and G agree below n
 --   same_refl, same-eq == same k l holds exactly where k = l
 use Prim.Native.Nat.{ℕ, zero, suc, ◌+◌, ◌-◌, ◌≤◌, ◌<◌}
 use mathlib.Core.Path.{◌≡◌, refl, sym, ap, ap₂, ◌∙◌}

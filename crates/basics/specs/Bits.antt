@@ -1,7 +1,7 @@
 -- Bits of a number.
 --
---   bit n k      == bit k of n is set, counted from the low end
---   bits_of n p   == the number whose bit k is set exactly where k < n and p k
+--   bit n k     == bit k of n is set, counted from the low end
+--   bits_of n p == the number whose bit k is set exactly where k < n and p k
 use Rattle.std.specs.Prelude.{ℕ, zero, suc, ◌/◌, ◌%◌, ◌^◌, Bool, eqb}
 use Rattle.std.specs.Int.Bits.{bit_or}
 use Rattle.basics.specs.Bounded.{pick}

@@ -2,8 +2,8 @@
 -- values beside them.
 --
 --   changes_result r == the answer r of the first report: its number, and how many cells closed and opened
---   CellsTo ..      == the first report's statement: the answer r, and the slice of cell numbers afterwards
---   CostsTo ..      == the second report's statement: the answer r, and the four lent slices afterwards
+--   CellsTo ..       == the first report's statement: the answer r, and the slice of cell numbers afterwards
+--   CostsTo ..       == the second report's statement: the answer r, and the four lent slices afterwards
 use Rattle.std.specs.Prelude.{ℕ, ◌≡◌, List}
 use Rattle.floor.specs.Refusals.{shape_number}
 use Rattle.changes.specs.Changes.{GivenFloor, cells_answer, cells_left, cells_number, closed_count, opened_count}

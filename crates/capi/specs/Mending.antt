@@ -1,8 +1,8 @@
 -- The C function that mends a damaged sheet (docs/RULES.md, section 14).
 --
 --   mend_result m == the answer m of the mending: its number, the number of points, and for each slice the number of
---                   places where the damaged one and the true one differ
---   MendsTo ..   == the mending's statement: the answer r, and every slice lent to be written afterwards
+--                    places where the damaged one and the true one differ
+--   MendsTo ..    == the mending's statement: the answer r, and every slice lent to be written afterwards
 use Rattle.std.specs.Prelude.{ℕ, ◌≡◌, List}
 use Rattle.paths.specs.Sheet.{Sheet}
 use Rattle.mending.specs.Mending.{MendSlices, mend_answer, mend_left, mend_number, mend_points, mend_differences}

@@ -1,18 +1,18 @@
 -- The answers of the C interface: the operations' own, as numbers with their values beside them.
 --
---   obstacle_result s == the answer s of the sight question as a number, with the place of what is in the way; the place
---                       is 0 where the way is clear and at a refusal
---   plan_result p     == the answer p of the planner's second operation: its number, the cost, the total and n
---   thin_result t     == the answer t of the thinning: its number, and how many positions are kept
---   post_result p     == the answer p of post: its number, and the slot
---   replay_result r   == the answer r of the replay: its number, and the values of rule 12.9; `cheapest` is 1 or 0
---   FillsTo ..       == the statement of the planner's first operation: the answer r, and both lent slices afterwards
---   FinishesTo ..    == the statement of the planner's second operation: the answer r, and every slice lent to be
---                       written afterwards
---   ThinsTo ..       == the thinning's statement: the answer r, and the output slice afterwards
+--   obstacle_result s  == the answer s of the sight question as a number, with the place of what is in the way; the
+--                         place is 0 where the way is clear and at a refusal
+--   plan_result p      == the answer p of the planner's second operation: its number, the cost, the total and n
+--   thin_result t      == the answer t of the thinning: its number, and how many positions are kept
+--   post_result p      == the answer p of post: its number, and the slot
+--   replay_result r    == the answer r of the replay: its number, and the values of rule 12.9; `cheapest` is 1 or 0
+--   FillsTo ..         == the statement of the planner's first operation: the answer r, and both lent slices afterwards
+--   FinishesTo ..      == the statement of the planner's second operation: the answer r, and every slice lent to be
+--                         written afterwards
+--   ThinsTo ..         == the thinning's statement: the answer r, and the output slice afterwards
 --   PostsTo, StrikesTo == the statements of post and strike: the answer, and the 64 numbers afterwards
---   WritesTo ..      == the statement of writing the working map: the answer, and the slice afterwards
---   ReplaysTo ..     == the replay's statement: the answer r, and both lent slices afterwards
+--   WritesTo ..        == the statement of writing the working map: the answer, and the slice afterwards
+--   ReplaysTo ..       == the replay's statement: the answer r, and both lent slices afterwards
 use Rattle.std.specs.Prelude.{ℕ, ◌≡◌, List, length}
 use Rattle.floor.specs.Refusals.{shape_number}
 use Rattle.basics.specs.Bounded.{pick}

@@ -1,7 +1,7 @@
 -- The writer in the C interface: the answer of a call as a number, with the writer afterwards beside it.
 --
 --   write_result c x n == what the call x, of the writer c on a buffer of n bytes, answers
---   WritesRecordTo .. == the statement of writing a record: the answer r, and the buffer afterwards
+--   WritesRecordTo ..  == the statement of writing a record: the answer r, and the buffer afterwards
 use Rattle.std.specs.Prelude.{ℕ, ◌≡◌, List, length}
 use Rattle.floor.specs.Refusals.{shape_number}
 use Rattle.writer.specs.Writing.{Call, call_shape, writer_left, buffer_left}

@@ -2,36 +2,39 @@
 -- first floor is the one before the change, the second the one after it.
 --
 --   GivenFloor, given_floor_of w h map == a floor as it is handed in: its sides, and the bytes of its map
---   shape_of p            == refusals 1 to 3 of the given floor p
---   floor_in p            == the floor that p gives
---   floors_shape p q      == 1 to 3 of the first floor p, then of the second floor q, then 15 where the sizes differ
---   closes f f' c        == cell c is open on the first floor and blocked on the second
---   opens f f' c         == cell c is blocked on the first floor and open on the second
---   differs f f' c       == cell c closes or opens: `closes f f' c || opens f f' c`
---   differing f f'       == the numbers of the differing cells, ascending
---   tally c o            == the counts: c cells closed and o opened
---   tally_of f f'         == how many cells closed and how many opened from f to f'
---   cells_shape p q n     == the refusals of the first report, for a slice of n places: `floors_shape p q`, then 6
---   listed_by s t         == the first report's answer for the shape s: the tally t, or the refusal
---   cells_answer p q l    == the first report's answer, for every input; l is the lent slice
---   cells_left p q l      == the slice l after the first report: the differing cells, then 0; untouched at a refusal
---   ReportsCells ..      == the first report's promise: `cells_answer` and `cells_left`, for every input
---   change_of x y         == how a cost changed from x to y: 0 not at all, 3 from M, 4 to M, otherwise 1 fell, 2 rose
+--   shape_of p                 == refusals 1 to 3 of the given floor p
+--   floor_in p                 == the floor that p gives
+--   floors_shape p q           == 1 to 3 of the first floor p, then of the second floor q, then 15 where the sizes
+--                                 differ
+--   closes f f' c              == cell c is open on the first floor and blocked on the second
+--   opens f f' c               == cell c is blocked on the first floor and open on the second
+--   differs f f' c             == cell c closes or opens: `closes f f' c || opens f f' c`
+--   differing f f'             == the numbers of the differing cells, ascending
+--   tally c o                  == the counts: c cells closed and o opened
+--   tally_of f f'              == how many cells closed and how many opened from f to f'
+--   cells_shape p q n          == the refusals of the first report, for a slice of n places: `floors_shape p q`, then 6
+--   listed_by s t              == the first report's answer for the shape s: the tally t, or the refusal
+--   cells_answer p q l         == the first report's answer, for every input; l is the lent slice
+--   cells_left p q l           == the slice l after the first report: the differing cells, then 0; untouched at a
+--                                 refusal
+--   ReportsCells ..            == the first report's promise: `cells_answer` and `cells_left`, for every input
+--   change_of x y              == how a cost changed from x to y: 0 not at all, 3 from M, 4 to M, otherwise 1 fell, 2
+--                                 rose
 --   ReportSlices, report_slices_of c c' l k == the slices of the second report: the costs on the first floor and on the
 --                           second, the changes, and the working slice
---   slices_shape v c c' n k == refusal 6 of the second report on a floor of v vertices, for slices of c, c', n and k
---                           places
---   start_shape p q a     == 5 of the start a, then 11 where it is a pinch of the first floor or of the second
---   report_shape ..       == the directions of the neighbourhood, or the first refusal of the second report, for slices
---                           of the lengths given: `floors_shape p q`, 4, 5, 11, then 6
---   shape_for p q nb a s  == `report_shape` for the lengths of the slices s
---   costs_on g g' a       == the slices with the costs from a on the graphs of the two floors, and their changes
---   job_answer, job_left   == the second report's answer, and its slices afterwards, from the directions or the refusal
---                           that `report_shape` gives
---   costs_answer ..       == the second report's answer, for every input
---   costs_left ..         == the second report's slices afterwards, for every input: untouched at a refusal
---   ReportsCosts ..      == the second report's promise: `costs_answer` and `costs_left`, for every input
---   cells_number a        == the number of the first report's answer a
+--   slices_shape v c c' n k    == refusal 6 of the second report on a floor of v vertices, for slices of c, c', n and k
+--                                 places
+--   start_shape p q a          == 5 of the start a, then 11 where it is a pinch of the first floor or of the second
+--   report_shape ..            == the directions of the neighbourhood, or the first refusal of the second report, for
+--                                 slices of the lengths given: `floors_shape p q`, 4, 5, 11, then 6
+--   shape_for p q nb a s       == `report_shape` for the lengths of the slices s
+--   costs_on g g' a            == the slices with the costs from a on the graphs of the two floors, and their changes
+--   job_answer, job_left       == the second report's answer, and its slices afterwards, from the directions or the
+--                                 refusal that `report_shape` gives
+--   costs_answer ..            == the second report's answer, for every input
+--   costs_left ..              == the second report's slices afterwards, for every input: untouched at a refusal
+--   ReportsCosts ..            == the second report's promise: `costs_answer` and `costs_left`, for every input
+--   cells_number a             == the number of the first report's answer a
 --   closed_count, opened_count == how many cells closed and opened, as the first report's answer says; 0 at a refusal
 use Rattle.std.specs.Prelude.{ℕ, ◌*◌, ◌≡◌, Bool, ◌&&◌, ◌||◌, not, List, ltb, eqb, length}
 use Rattle.basics.specs.Bounded.{pick, count}

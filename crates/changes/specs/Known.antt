@@ -1,14 +1,14 @@
 -- Used by contracts between functions; nobody has to believe it: laws tie it to the definitions.
 -- What the loops over cells and over vertices have done so far, and what the second report needs.
 --
---   closes_bit map map' c    == `closes` for cell c, by the bits of the two maps
---   opens_bit map map' c     == `opens` for cell c, by the bits of the two maps
---   differs_bit map map' c   == `differs` for cell c, by the bits of the two maps
---   MapsOf map map' n       == each of the two maps has n cells or more, and n <= 127 * 127
---   Noted map map' n k t l  == of the n cells the first k are noted: t counts those that closed and those that opened,
---                              and the slice l of n places holds the numbers of those that differ, then 0
---   change_at c c' v         == how the cost of vertex v changed from the costs c to the costs c'
---   Reportable ..           == the job from a to a is good on both floors, and the four slices have their lengths
+--   closes_bit map map' c  == `closes` for cell c, by the bits of the two maps
+--   opens_bit map map' c   == `opens` for cell c, by the bits of the two maps
+--   differs_bit map map' c == `differs` for cell c, by the bits of the two maps
+--   MapsOf map map' n      == each of the two maps has n cells or more, and n <= 127 * 127
+--   Noted map map' n k t l == of the n cells the first k are noted: t counts those that closed and those that opened,
+--                             and the slice l of n places holds the numbers of those that differ, then 0
+--   change_at c c' v       == how the cost of vertex v changed from the costs c to the costs c'
+--   Reportable ..          == the job from a to a is good on both floors, and the four slices have their lengths
 use Rattle.std.specs.Prelude.{ℕ, ◌*◌, ◌≤◌, ◌≡◌, Bool, ◌&&◌, ◌||◌, not, List, length, get_or}
 use Rattle.basics.specs.Bounded.{count}
 use Rattle.basics.specs.Lists.{padded, chosen}

@@ -1,16 +1,17 @@
 -- The tests that the checker runs say the same as `verdict`.
 --
---   tests-numbers      == where the tests of the costs and counts hold, so does `local_numbers`
---   numbers-tests      == where `local_numbers` holds, so do the tests of the costs and counts
+--   tests-numbers       == where the tests of the costs and counts hold, so does `local_numbers`
+--   numbers-tests       == where `local_numbers` holds, so do the tests of the costs and counts
 --   route_test-local    == route_test g a b s = local_route g a b s
---   no_route_test-local  == no_route_test g a b s = local_no_route g a b s
---   counts-fit         == where costs and counts pass the tests, the traversal counts fit 64 bits
---   counts-lead        == where costs and counts pass the tests, a move leads on from each vertex on the way before b
---   route-..           == `route_test` after each test that the code runs: false where it fails, the rest where it holds
---   no_route-..        == `no_route_test` after each test that the code runs
---   vertices-uncounted == `vertices_test` does not read n
---   nexts-alone        == `nexts_test` reads neither route nor n
---   points-alone       == `points_test` reads no costs and no counts
+--   no_route_test-local == no_route_test g a b s = local_no_route g a b s
+--   counts-fit          == where costs and counts pass the tests, the traversal counts fit 64 bits
+--   counts-lead         == where costs and counts pass the tests, a move leads on from each vertex on the way before b
+--   route-..            == `route_test` after each test that the code runs: false where it fails, the rest where it
+--                          holds
+--   no_route-..         == `no_route_test` after each test that the code runs
+--   vertices-uncounted  == `vertices_test` does not read n
+--   nexts-alone         == `nexts_test` reads neither route nor n
+--   points-alone        == `points_test` reads no costs and no counts
 use Prim.Native.Nat.{ℕ, ◌^◌, ◌<◌}
 use mathlib.Core.Path.{◌≡◌, refl, sym, ◌∙◌}
 use mathlib.Core.Bool.{Bool, true, false, ◌&&◌, not}

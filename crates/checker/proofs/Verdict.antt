@@ -1,10 +1,10 @@
 -- What the answer says: which sheets are accepted as a route, which as no route, and that every other one is refused.
 --
 --   accepts-route     == the first test of `verdict` holds exactly where `TrueRoute` does
---   accepts-no_route   == the second test of `verdict` holds exactly where `TrueNoRoute` does
+--   accepts-no_route  == the second test of `verdict` holds exactly where `TrueNoRoute` does
 --   verdict-tests     == `verdict` in terms of the tests that the checker runs
 --   verdict-route     == `verdict` is Route exactly where `TrueRoute` holds
---   verdict-no_route   == `verdict` is NoRoute exactly where `TrueNoRoute` holds
+--   verdict-no_route  == `verdict` is NoRoute exactly where `TrueNoRoute` holds
 --   verdict-else      == `verdict` is refusal 9 where neither holds
 --   Exactly g a b s c == c is the answer that rule 8.2 asks for, said with walks in place of `joined`
 --   check-exact       == the checker's answer to every job of good shape is `Exactly` right, whatever numbers stand on

@@ -1,11 +1,11 @@
 -- docs/RULES.md, 8.1 to 8.3: what the checker answers. After the refusals over the shape of the job and of the six
 -- slices it is 0 exactly for the true route sheet, 7 exactly for the true no_route sheet, and 9 for every other sheet.
 --
---   verdict g a b s      == the answer to the sheet s of the job from a to b on graph g
---   sheet_sized v s       == refusal 6 does not apply: each slice of the sheet s has v places
---   judged ..            == the answer to a sheet, given the shape of its job
---   check_answer ..       == the answer for every input
---   check_number r        == the number of an answer (rule 6.1)
+--   verdict g a b s == the answer to the sheet s of the job from a to b on graph g
+--   sheet_sized v s == refusal 6 does not apply: each slice of the sheet s has v places
+--   judged ..       == the answer to a sheet, given the shape of its job
+--   check_answer .. == the answer for every input
+--   check_number r  == the number of an answer (rule 6.1)
 use Rattle.std.specs.Prelude.{ℕ, Bool, ◌&&◌, not, List, eqb, length}
 use Rattle.basics.specs.Bounded.{pick}
 use Rattle.floor.specs.Floor.{floor_of, vertices}

@@ -4,28 +4,28 @@
 --   numbers_of d e f b        == a sheet with these costs and counts, for tests that read nothing else
 --   blank_of e f b r x        == a sheet with these slices, for tests that do not read d
 --   chosen_of d e f b x       == a sheet with these slices, for tests that read neither route nor n; x stands for route
---                               and next
+--                                and next
 --   walk_of r x n             == a sheet with the route r, next vertices x and point count n, for tests that read no
---                               more
+--                                more
 --   counts_test g a b s v     == each of the two counts of vertex v is `count_at`: 0 off the way, 1 at its own end, and
---                               elsewhere the sum over the neighbours
---   vertex_test j g a b s v   == the numbers of vertex v pass the test: where j holds, both costs and both counts, as on
---                               a route sheet; otherwise the cost from a, and all others are 0
+--                                elsewhere the sum over the neighbours
+--   vertex_test j g a b s v   == the numbers of vertex v pass the test: where j holds, both costs and both counts, as
+--                                on a route sheet; otherwise the cost from a, and all others are 0
 --   vertices_test j g a b s   == every vertex v passes `vertex_test j g a b s v`
 --   column_test .. w y x      == the vertex in column x and row y of a floor of width w passes `vertex_test`
 --   row_test .. w y           == the vertices of row y of a floor of width w pass `vertex_test`
 --   nexts_test g b s          == every vertex v passes `right_next g b s v`
---   next_column_test .. w y x  == the next vertex of the vertex in column x and row y of a floor of width w is right
---   next_row_test .. w y       == the next vertices of the vertices of row y of a floor of width w are right
+--   next_column_test .. w y x == the next vertex of the vertex in column x and row y of a floor of width w is right
+--   next_row_test .. w y      == the next vertices of the vertices of row y of a floor of width w are right
 --   point_test v b s i        == place i of the route of s is right, on a floor of v vertices
 --   points_test v a b s       == the route of s and its point count are right, on a floor of v vertices
 --   route_test g a b s        == s is the true route sheet
---   no_route_test g a b s      == s is the true no_route sheet
---   Zeros l i j              == places i to j - 1 of the list l are 0
---   PinchesFar f d           == the cost in d of every pinch of the floor f is M
---   CheckInput w h l r a b s == a good job, with a sheet whose slices have a place for each vertex
---   Choosable w h l r b s    == the costs and counts of the sheet s, of a job to b, are such that `nexts_test` can be
---                               run: products of counts fit, and a move leads on from each vertex on the way before b
+--   no_route_test g a b s     == s is the true no_route sheet
+--   Zeros l i j               == places i to j - 1 of the list l are 0
+--   PinchesFar f d            == the cost in d of every pinch of the floor f is M
+--   CheckInput w h l r a b s  == a good job, with a sheet whose slices have a place for each vertex
+--   Choosable w h l r b s     == the costs and counts of the sheet s, of a job to b, are such that `nexts_test` can be
+--                                run: products of counts fit, and a move leads on from each vertex on the way before b
 use Rattle.std.specs.Prelude.{ℕ, suc, ◌≤◌, ◌<◌, ◌≡◌, Bool, true, false, ◌&&◌, List, [], ltb, eqb, length}
 use Rattle.basics.specs.Bounded.{pick, every}
 use Rattle.floor.specs.Floor.{Floor, floor_of, vertices, number, column, row}

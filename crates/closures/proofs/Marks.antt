@@ -1,8 +1,8 @@
 -- The closures put on the base map, slot after slot.
 --
---   closed_to t k           == what the closures of the slots below k cover
---   Marking t base k work  == work is the base map, good for the table's floor, blocked also where the closures of the
---                             slots below k cover
+--   closed_to t k         == what the closures of the slots below k cover
+--   Marking t base k work == work is the base map, good for the table's floor, blocked also where the closures of the
+--                            slots below k cover
 use Prim.Native.Nat.{ℕ, ◌+◌, ◌≤◌, ◌<◌}
 use mathlib.Core.Path.{◌≡◌, sym, ap, ◌∙◌}
 use mathlib.Core.Bool.{Bool}

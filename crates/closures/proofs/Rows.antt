@@ -1,8 +1,8 @@
 -- A rectangle on a map: its cells blocked row after row, and its part that lies on the floor.
 --
---   covers_to r n            == what the rows of r before row n cover
---   Rows r w h old end j s  == s is the map old, of a floor of width w and height h, blocked also where the rows of r
---                              before row j cover; row `end` is the one after the last row of r
+--   covers_to r n          == what the rows of r before row n cover
+--   Rows r w h old end j s == s is the map old, of a floor of width w and height h, blocked also where the rows of r
+--                             before row j cover; row `end` is the one after the last row of r
 use Prim.Native.Nat.{ℕ, ◌+◌, ◌-◌, ◌≤◌, ◌<◌, min}
 use mathlib.Core.Path.{◌≡◌, refl, sym, ap, ap₂, ◌∙◌}
 use mathlib.Core.Bool.{Bool, true, false, ◌&&◌, ◌||◌, and-true, and-false, or-false}

@@ -1,14 +1,14 @@
 -- Any calls from the empty table: what they leave and answer, by the operations' contracts and by the plain map. The
 -- two are the same by the laws of proofs/Simulation.antt.
 --
---   Call                     == a call of post or of strike
---   Answer                   == what a call of post or of strike answers
+--   Call                       == a call of post or of strike
+--   Answer                     == what a call of post or of strike answers
 --   table_left, plain_left     == what one call leaves, of the table and of the plain map
 --   table_answer, plain_answer == what one call answers, by the contracts and by the plain map
---   table_after t cs          == the table t after the calls cs, by what the contracts say that each leaves
---   table_answers t cs        == what the calls cs answer, by the contracts
---   plain_after w h m cs      == the plain map m after the calls cs, for a floor of width w and height h
---   plain_answers w h m cs    == what the calls cs answer by the plain map m, for a floor of width w and height h
+--   table_after t cs           == the table t after the calls cs, by what the contracts say that each leaves
+--   table_answers t cs         == what the calls cs answer, by the contracts
+--   plain_after w h m cs       == the plain map m after the calls cs, for a floor of width w and height h
+--   plain_answers w h m cs     == what the calls cs answer by the plain map m, for a floor of width w and height h
 use Rattle.std.specs.Prelude.{ℕ, List, [], ◌∷◌}
 use Rattle.floor.specs.declared.Shape.{Shape}
 use Rattle.closures.specs.Plain.{Plain, post_answer, post_map, strike_shape, strike_map}

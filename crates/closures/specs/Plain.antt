@@ -1,27 +1,27 @@
 -- docs/RULES.md, 11.1 to 11.5: the table as a plain map from slot to rectangle, and what post, strike and the writing
 -- of the working map answer and leave.
 --
---   Plain                   == a plain map from slot number to rectangle; a slot with none is free
---   nothing_held             == the empty map: every slot is free
---   is_free s                == s is no rectangle, so a slot that holds s is free
---   free_in m k              == slot k is free in m
---   lowest_free m            == the lowest free slot of the sixteen; 16 where none is free
---   changed m k s           == the map m, with s at slot k
---   within w h r            == rectangle r is not empty and does not leave a floor of width w and height h
---   post_shape w h m r       == refusals 1, 12 and 13 of posting r, in order
---   post_answer, post_map     == what post answers, and the map afterwards; at a refusal the same map
---   strike_shape w h m k     == what strike of slot k answers: refusals 1 and 14, in order
---   strike_map w h m k       == the map after strike; at a refusal the same map
---   covers r i j            == the cell in column i and row j lies in rectangle r
---   covered_by s i j         == a slot that holds s covers the cell in column i and row j
---   closed_by m i j          == some closure that m holds covers the cell in column i and row j
---   work_shape w h base n    == what the writing of the working map into a slice of n places answers: refusals 1, 2, 3,
---                              then 6
---   working_map w h base m   == the base map, with every cell blocked that any closure of m covers
---   work_left w h base m l   == the slice l after the writing of the working map; at a refusal the same slice
---   posting_of s k           == what post answers where its refusals are the shape s and the slot is k
---   post_number p            == the number of what post answers (rule 6.1): 0, or that of the refusal
---   post_slot p              == the slot that post answers; 0 at a refusal
+--   Plain                  == a plain map from slot number to rectangle; a slot with none is free
+--   nothing_held           == the empty map: every slot is free
+--   is_free s              == s is no rectangle, so a slot that holds s is free
+--   free_in m k            == slot k is free in m
+--   lowest_free m          == the lowest free slot of the sixteen; 16 where none is free
+--   changed m k s          == the map m, with s at slot k
+--   within w h r           == rectangle r is not empty and does not leave a floor of width w and height h
+--   post_shape w h m r     == refusals 1, 12 and 13 of posting r, in order
+--   post_answer, post_map  == what post answers, and the map afterwards; at a refusal the same map
+--   strike_shape w h m k   == what strike of slot k answers: refusals 1 and 14, in order
+--   strike_map w h m k     == the map after strike; at a refusal the same map
+--   covers r i j           == the cell in column i and row j lies in rectangle r
+--   covered_by s i j       == a slot that holds s covers the cell in column i and row j
+--   closed_by m i j        == some closure that m holds covers the cell in column i and row j
+--   work_shape w h base n  == what the writing of the working map into a slice of n places answers: refusals 1, 2, 3,
+--                             then 6
+--   working_map w h base m == the base map, with every cell blocked that any closure of m covers
+--   work_left w h base m l == the slice l after the writing of the working map; at a refusal the same slice
+--   posting_of s k         == what post answers where its refusals are the shape s and the slot is k
+--   post_number p          == the number of what post answers (rule 6.1): 0, or that of the refusal
+--   post_slot p            == the slot that post answers; 0 at a refusal
 use Rattle.std.specs.Prelude.{ℕ, ◌+◌, Bool, true, false, ◌&&◌, not, List, leb, ltb, eqb, length}
 use Rattle.std.proofs.Math.Option.{Option, none, some}
 use Rattle.basics.specs.Bounded.{pick, any, seek}

@@ -1,12 +1,12 @@
 -- The code's table, and the plain map that it stands for.
 --
---   held_in s          == the rectangle of what a slot holds; none where it is free
---   slot_of s          == the slot that holds s
---   held t            == the plain map that table t stands for
---   with_slot t k s    == table t with s in slot k
---   empty_table w h    == the empty table for a floor of width w and height h
---   post_left t r      == table t once r is posted; the same table at a refusal
---   strike_left t k    == table t once slot k is struck; the same table at a refusal
+--   held_in s       == the rectangle of what a slot holds; none where it is free
+--   slot_of s       == the slot that holds s
+--   held t          == the plain map that table t stands for
+--   with_slot t k s == table t with s in slot k
+--   empty_table w h == the empty table for a floor of width w and height h
+--   post_left t r   == table t once r is posted; the same table at a refusal
+--   strike_left t k == table t once slot k is struck; the same table at a refusal
 --   Posts .., Strikes .., Writes .. == the contracts of post, of strike and of the writing of the working map: the
 --                        answer, and what is left, for every input
 use Rattle.std.specs.Prelude.{ℕ, ◌≡◌, List, length, get_or, set, replicate}

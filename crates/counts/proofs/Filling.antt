@@ -1,15 +1,15 @@
 -- Both passes together. The vertices on the way are kept in the order of their cost to b. The pass from b goes along
 -- that order from the front, the pass from a from the back.
 --
---   input-kept        == `PassInput` holds of the vertices that are kept of an order
---   input-other       == `PassInput` holds of any costs of the same length
---   sums-way          == sums_to d e (d b) u = on_way g b a u
---   order-kept        == the vertices kept are a `WayOrder` from b
+--   input-kept    == `PassInput` holds of the vertices that are kept of an order
+--   input-other   == `PassInput` holds of any costs of the same length
+--   sums-way      == sums_to d e (d b) u = on_way g b a u
+--   order-kept    == the vertices kept are a `WayOrder` from b
 --   passable-back, passable-forth == `Passable` for the pass from b, and for the pass from a
---   counts-turned     == the counts from b on the way to a are the counts to b on the way from a
---   passed-total      == where the pass from b answers true, the total fits: it stands in back[a]
---   filled-both       == `Filled` from what the two passes leave, where the pass from b answers true
---   filled_none       == `Filled` where the pass from b answers false and its slice is cleared
+--   counts-turned == the counts from b on the way to a are the counts to b on the way from a
+--   passed-total  == where the pass from b answers true, the total fits: it stands in back[a]
+--   filled-both   == `Filled` from what the two passes leave, where the pass from b answers true
+--   filled_none   == `Filled` where the pass from b answers false and its slice is cleared
 use Prim.Native.Nat.{ℕ, ◌+◌, ◌*◌, ◌^◌, ◌≤◌, ◌<◌}
 use mathlib.Core.Path.{◌≡◌, refl, sym, ap, ◌∙◌, subst}
 use mathlib.Core.Bool.{Bool, true, false}

@@ -1,21 +1,21 @@
 -- Used by contracts between functions; nobody has to believe it: laws tie it to the definitions.
 -- The counting passes over the vertices on the way, by their cost to b: what they are handed, and what they leave.
 --
---   turn_place n i rev      == the place of n that a pass comes to at turn i: i, or n - 1 - i where rev holds
---   turn_of work n rev i    == the vertex at place turn_place n i rev
---   count_of ..             == the count of vertex u on the way: 1 at s, elsewhere the sum of the counts f over the
---                             moves of the mask by which a cheapest walk comes to u
---   sums_to d e whole u     == d(u) + e(u) = whole
---   Filtered p n k l l'    == of the first n numbers of l, those that pass the test p are the first k of l', in their
---                             order; from place n on l' is l
+--   turn_place n i rev   == the place of n that a pass comes to at turn i: i, or n - 1 - i where rev holds
+--   turn_of work n rev i == the vertex at place turn_place n i rev
+--   count_of ..          == the count of vertex u on the way: 1 at s, elsewhere the sum of the counts f over the moves
+--                           of the mask by which a cheapest walk comes to u
+--   sums_to d e whole u  == d(u) + e(u) = whole
+--   Filtered p n k l l'  == of the first n numbers of l, those that pass the test p are the first k of l', in their
+--                           order; from place n on l' is l
 --   PassInput dirs shifts n d work == a pass can read the order and the moves of every vertex
---   WayOrder g s x n P     == P 0, .. P (n - 1) are the vertices on the way from s to x, by rising cost from s
+--   WayOrder g s x n P   == P 0, .. P (n - 1) are the vertices on the way from s to x, by rising cost from s
 --   Passable g dirs shifts s x n rev d work == a walk leads from s to x; d are the costs from s; the masks are those of
 --                             graph g; the n turns come to the vertices on the way in a WayOrder
 --   Known g dirs shifts a b n d e work == a walk joins a to b; d are the costs from a and e those from b; the masks are
 --                             those of graph g; the order is by rising cost from b
---   Summed g s x f r       == where r holds, f are the counts from s on the way to x; where not, the total is 2^64 or
---                             more
+--   Summed g s x f r     == where r holds, f are the counts from s on the way to x; where not, the total is 2^64 or
+--                           more
 --   Filled g dirs shifts a b r work f back == r says whether the total is below 2^64; where it is, f and back are the
 --                             counts, otherwise they are 0; the working slice has the masks
 use Rattle.std.specs.Prelude.{ℕ, ◌+◌, ◌-◌, ◌*◌, ◌^◌, ◌≤◌, ◌<◌, ◌≡◌, Bool, true, false, List, eqb, length}

@@ -1,13 +1,13 @@
 -- Demand 2: costs, counts, route, "no route" and "too many" are exactly the published method's, and thinning keeps
 -- exactly the points of its rule.
 --
---   job_good        == where none of the lines of a job and of the lines `rest` applies, the job is fit, and none of
---                      `rest` applies
+--   job_good          == where none of the lines of a job and of the lines `rest` applies, the job is fit, and none of
+--                        `rest` applies
 --   GoodJob, good-job == what holds of a fit job: its graph is lawful, has at most 16,384 vertices and both ends
---   costs-true      == demand 2 of the planner's first operation at 0
---   plans           == demand 2 of the planner's second operation, where its shape is good
---   planner         == demand 2 of the first operation at 0 and then the second, on the d of the first
---   thins           == demand 2 of thinning at 0
+--   costs-true        == demand 2 of the planner's first operation at 0
+--   plans             == demand 2 of the planner's second operation, where its shape is good
+--   planner           == demand 2 of the first operation at 0 and then the second, on the d of the first
+--   thins             == demand 2 of thinning at 0
 use Prim.Native.Nat.{ℕ, suc, pred, ◌^◌, ◌≤◌, ◌<◌}
 use mathlib.Core.Path.{◌≡◌, refl, sym, ap, ◌∙◌}
 use mathlib.Core.Logic.{◌⊎◌, inl, inr, ⊎_elim}

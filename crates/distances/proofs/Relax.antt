@@ -1,21 +1,20 @@
 -- The far ends of the open moves of one class from a vertex, offered a key one after the other.
 --
---   Offered ..       == what an offer of a key to x leaves: x costs at most key
---   offered          == an offer to the far end of a move leaves the settled with one more, or as they were
---   offered-known    == an offer to a vertex that has a cost leaves them as they were
---   RelaxedTo ..     == the moves of the first j directions of a class are relaxed: the invariant of the loop over a
---                       class
---   RelaxedOn ..     == `RelaxedTo` on any graph, directions and source that the loop can run on
---   relaxed-none     == `RelaxedTo` of no direction, before the loop
---   far_at ..         == where a direction leads from a vertex by its mask: the vertex itself where that move is shut
---   far_at-is           == `far_at` for the vertex, its mask and the direction as the code reads them
---   vertex-in        == the vertex that is relaxed is one of the graph's
---   class-rows       == a class has an eighth of the directions, four
---   dir-low          == the next direction is below 32
---   reaching         == the far end of the next direction can be worked out
---   offering         == the far end of the next direction can be offered the key
---   relaxed-more     == once the key is offered to the far end of the next direction, that direction is relaxed too
---   relaxed-all      == after four directions all moves of the class are
+--   Offered ..    == what an offer of a key to x leaves: x costs at most key
+--   offered       == an offer to the far end of a move leaves the settled with one more, or as they were
+--   offered-known == an offer to a vertex that has a cost leaves them as they were
+--   RelaxedTo ..  == the moves of the first j directions of a class are relaxed: the invariant of the loop over a class
+--   RelaxedOn ..  == `RelaxedTo` on any graph, directions and source that the loop can run on
+--   relaxed-none  == `RelaxedTo` of no direction, before the loop
+--   far_at ..     == where a direction leads from a vertex by its mask: the vertex itself where that move is shut
+--   far_at-is     == `far_at` for the vertex, its mask and the direction as the code reads them
+--   vertex-in     == the vertex that is relaxed is one of the graph's
+--   class-rows    == a class has an eighth of the directions, four
+--   dir-low       == the next direction is below 32
+--   reaching      == the far end of the next direction can be worked out
+--   offering      == the far end of the next direction can be offered the key
+--   relaxed-more  == once the key is offered to the far end of the next direction, that direction is relaxed too
+--   relaxed-all   == after four directions all moves of the class are
 use Prim.Native.Nat.{ℕ, ◌+◌, ◌/◌, ◌≤◌, ◌<◌}
 use mathlib.Core.Path.{◌≡◌, refl, sym, ap, ◌∙◌, subst}
 use mathlib.Core.Logic.{⊎_elim}

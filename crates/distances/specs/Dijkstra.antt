@@ -3,23 +3,23 @@
 --
 --   cost_given c key          == the cost c after key was offered: the key where there was none
 --   count_given c             == 1 where the cost c is `unreachable`, else 0: how many vertices an offer settles
---   Given ..                 == what an offer stores: the cost, and the vertex at the end of the order
+--   Given ..                  == what an offer stores: the cost, and the vertex at the end of the order
 --   key_of n p c d work       == the key of place p of the order for moves of cost c; `unreachable` past the n settled
---   Keyed n d work           == the keys of the first n places can be worked out
---   reached l                == how many costs of the list l are below `unreachable`
---   Settled g a n d work     == n vertices have a cost, each that of a walk from a; they stand in order
---   Ready ..                 == n vertices are settled, each at a cost of at most key, and key may be given to more
---   KeyWalk g a u c key      == a walk from a to u and a move of cost c from there cost key together
---   Grown ..                 == from n settled vertices to r, those added at cost key; all else is as it was
---   Relaxing ..              == what the relaxing of a class of moves takes
---   Relaxed ..               == the far ends of the moves of class c from u cost at most key
---   Placed ..                == what holds of one class and its position p in the order
---   Running ..               == what holds at each turn of the algorithm, of the classes l and their positions pos
---   Runnable ..              == what the algorithm takes
---   OnlySource ..            == the source a alone has a cost, 0, and stands first in the order
---   Begun ..                 == `Runnable`, and the source alone is settled: the algorithm can go on
---   two_classes, four_classes  == two classes and two of no move, and four classes, as the loops take them one by one
---   remaining v pos          == what the positions have before them: the algorithm's measure
+--   Keyed n d work            == the keys of the first n places can be worked out
+--   reached l                 == how many costs of the list l are below `unreachable`
+--   Settled g a n d work      == n vertices have a cost, each that of a walk from a; they stand in order
+--   Ready ..                  == n vertices are settled, each at a cost of at most key, and key may be given to more
+--   KeyWalk g a u c key       == a walk from a to u and a move of cost c from there cost key together
+--   Grown ..                  == from n settled vertices to r, those added at cost key; all else is as it was
+--   Relaxing ..               == what the relaxing of a class of moves takes
+--   Relaxed ..                == the far ends of the moves of class c from u cost at most key
+--   Placed ..                 == what holds of one class and its position p in the order
+--   Running ..                == what holds at each turn of the algorithm, of the classes l and their positions pos
+--   Runnable ..               == what the algorithm takes
+--   OnlySource ..             == the source a alone has a cost, 0, and stands first in the order
+--   Begun ..                  == `Runnable`, and the source alone is settled: the algorithm can go on
+--   two_classes, four_classes == two classes and two of no move, and four classes, as the loops take them one by one
+--   remaining v pos           == what the positions have before them: the algorithm's measure
 use Rattle.std.specs.Prelude.{ℕ, ◌+◌, ◌-◌, ◌*◌, ◌≤◌, ◌<◌, ◌≡◌, List, [], ◌∷◌, ltb, eqb, length, get_or, set, replicate}
 use Rattle.std.proofs.Math.Option.{some}
 use Rattle.basics.specs.Bounded.{pick}

@@ -1,6 +1,6 @@
 -- Cells blocked on a map, one after the other.
 --
---   in_span a n c         == cell c is one of the n cells from number a on
+--   in_span a n c        == cell c is one of the n cells from number a on
 --   blocked-bit          == bit_at (blocked_from a n l) c = (bit_at l c || in_span a n c)
 --   block_one            == to set the bit of a cell in its byte is to block that cell
 --   Blocking a n l e c s == a loop over the n cells from number a on, to its end e, is at cell c: s is the map l with

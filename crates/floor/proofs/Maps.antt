@@ -6,7 +6,7 @@
 --   map-good         == the map of a floor with good sides is of good shape
 --   map_same         == floors of one size with the same cells have the same map
 --   blocked-more     == to block the cells p and then, on the map, the cells q is to block both
---   in_row i j n x y  == the cell in column x and row y is one of the n cells of row j from column i on
+--   in_row i j n x y == the cell in column x and row y is one of the n cells of row j from column i on
 --   cell-numbered    == bit_at l c is the cell with number c of the floor whose map is l
 --   good-map         == l = map_of (floor_of w h l) where l is of good shape
 use Prim.Native.Nat.{ℕ, zero, suc, ◌+◌, ◌*◌, ◌/◌, ◌%◌, ◌≤◌, ◌<◌}

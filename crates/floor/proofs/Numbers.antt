@@ -1,15 +1,15 @@
 -- Vertex and cell numbers stay in range, and a vertex number is made of its column and row.
 --
---   vertices-le, cells-le   == with sides up to 127 a floor has at most 16,384 vertices and 16,129 cells
---   mul-fits, mul-add-fits  == a * b and a * b + c fit 64 bits where none of the numbers is above 128
---   vertices-pos            == 1 <= vertices w h
---   column-le, row-le       == the column of a vertex is at most w, its row at most h
---   column-by, row_by       == column and row of v are remainder and quotient by d, where d = w + 1
---   number_lt               == number w x y < vertices w h where x <= w and y <= h
+--   vertices-le, cells-le     == with sides up to 127 a floor has at most 16,384 vertices and 16,129 cells
+--   mul-fits, mul-add-fits    == a * b and a * b + c fit 64 bits where none of the numbers is above 128
+--   vertices-pos              == 1 <= vertices w h
+--   column-le, row-le         == the column of a vertex is at most w, its row at most h
+--   column-by, row_by         == column and row of v are remainder and quotient by d, where d = w + 1
+--   number_lt                 == number w x y < vertices w h where x <= w and y <= h
 --   column-number, row_number == column and row of number w x y are x and y
---   number_of               == number w (column w v) (row w v) = v
---   cell-lt                 == j * w + i < w * h where i < w and j < h
---   cell-inside             == the cell before the vertex (x, y) has a bit in the map, where x and y are 1 or more
+--   number_of                 == number w (column w v) (row w v) = v
+--   cell-lt                   == j * w + i < w * h where i < w and j < h
+--   cell-inside               == the cell before the vertex (x, y) has a bit in the map, where x and y are 1 or more
 use Prim.Native.Nat.{ℕ, suc, ◌+◌, ◌-◌, ◌*◌, ◌/◌, ◌%◌, ◌^◌, ◌≤◌, ◌<◌}
 use mathlib.Core.Path.{◌≡◌, refl}
 use mathlib.Core.List.{List}

@@ -1,26 +1,27 @@
 -- docs/RULES.md, section 1: the floor, and how a map is stored, a bit to a cell.
 --
---   Floor            == a floor: its sides in cells, and whether the cell in column i and row j is blocked
---   cell_number w i j == the number of the cell in column i and row j
---   bit_at l c        == bit c of the bytes l: bit c % 8, counted from the low end, of byte c / 8
---   bit_bytes m p     == the m bytes whose bit c is set where p c holds
---   map_length n      == the number of bytes of a map of n cells: n / 8 rounded up
---   packed n p       == the map of n cells of which cell c is blocked where p c holds. Cell c is bit c; the bits of the
---                       last byte past the cells are 0
---   byte_blocked l c  == byte c of l is not 0: cell c is blocked, where the bytes l give the cells
---   stored_cells l    == the map that stores the cells given by the bytes l, 0 open and 1 blocked, row by row
---   cell_of w l i j   == the cell in column i and row j, as the map l of a floor of width w has it
---   floor_of w h l    == the floor of width w and height h whose map is the list of bytes l
---   byte_floor w h l  == the floor of width w and height h whose cells are given by the bytes l, row by row
---   cell_numbered f c == the cell of floor f with number c
---   map_of f          == the map of floor f
---   cell_bytes f      == the cells of floor f, a byte for each, 1 where it is blocked and 0 where it is open
---   with_blocked f p  == the floor f, blocked also where p holds
---   blocked f x y    == the cell that has the vertex (x, y) as its lower right corner, cell (x - 1, y - 1), is blocked;
---                       everything outside the map is. So cell (i, j) is `blocked f (suc i) (suc j)`, and the four
---                       cells at the vertex (x, y) are `blocked f` at (x, y), (suc x, y), (x, suc y) and (suc x, suc y)
---   vertices w h     == the number of vertices, V
---   number w x y     == the number of the vertex in column x and row y
+--   Floor               == a floor: its sides in cells, and whether the cell in column i and row j is blocked
+--   cell_number w i j   == the number of the cell in column i and row j
+--   bit_at l c          == bit c of the bytes l: bit c % 8, counted from the low end, of byte c / 8
+--   bit_bytes m p       == the m bytes whose bit c is set where p c holds
+--   map_length n        == the number of bytes of a map of n cells: n / 8 rounded up
+--   packed n p          == the map of n cells of which cell c is blocked where p c holds. Cell c is bit c; the bits of
+--                          the last byte past the cells are 0
+--   byte_blocked l c    == byte c of l is not 0: cell c is blocked, where the bytes l give the cells
+--   stored_cells l      == the map that stores the cells given by the bytes l, 0 open and 1 blocked, row by row
+--   cell_of w l i j     == the cell in column i and row j, as the map l of a floor of width w has it
+--   floor_of w h l      == the floor of width w and height h whose map is the list of bytes l
+--   byte_floor w h l    == the floor of width w and height h whose cells are given by the bytes l, row by row
+--   cell_numbered f c   == the cell of floor f with number c
+--   map_of f            == the map of floor f
+--   cell_bytes f        == the cells of floor f, a byte for each, 1 where it is blocked and 0 where it is open
+--   with_blocked f p    == the floor f, blocked also where p holds
+--   blocked f x y       == the cell that has the vertex (x, y) as its lower right corner, cell (x - 1, y - 1), is
+--                          blocked; everything outside the map is. So cell (i, j) is `blocked f (suc i) (suc j)`, and
+--                          the four cells at the vertex (x, y) are `blocked f` at (x, y), (suc x, y), (x, suc y) and
+--                          (suc x, suc y)
+--   vertices w h        == the number of vertices, V
+--   number w x y        == the number of the vertex in column x and row y
 --   column w v, row w v == the column and the row of vertex v
 use Rattle.std.specs.Prelude.{ℕ, zero, suc, ◌+◌, ◌*◌, ◌/◌, ◌%◌, Bool, true, ◌&&◌, ◌||◌, not, List, ltb, eqb, length, get_or}
 use Rattle.basics.specs.Bounded.{pick}

@@ -1,11 +1,11 @@
 -- A floor with a neighbourhood as a graph, and the shape of a job: refusals 1 to 5, then 11.
 --
---   table_graph f n M     == the graph of floor f with the moves M 0, .. M (n - 1)
---   floor_graph f r       == the graph of floor f with the moves of the neighbourhood whose directions are r
---   pinch_shape f v       == refusal 11 of one end: it is a pinch (rule 6.5)
---   ends_shape w h l a b  == the refusals of both ends: 5 of either, then 11 of either
+--   table_graph f n M      == the graph of floor f with the moves M 0, .. M (n - 1)
+--   floor_graph f r        == the graph of floor f with the moves of the neighbourhood whose directions are r
+--   pinch_shape f v        == refusal 11 of one end: it is a pinch (rule 6.5)
+--   ends_shape w h l a b   == the refusals of both ends: 5 of either, then 11 of either
 --   job_shape w h l nb a b == `Fit` with the directions of the neighbourhood where floor, neighbourhood and both ends
---                           have a good shape, else the first refusal that applies, of 1 to 5 and then 11
+--                             have a good shape, else the first refusal that applies, of 1 to 5 and then 11
 use Rattle.std.specs.Prelude.{ℕ, List}
 use Rattle.basics.specs.Bounded.{pick}
 use Rattle.floor.specs.Floor.{Floor, floor_of, vertices, column, row}

@@ -2,9 +2,9 @@
 -- What the tests of a job find on the way, and what planner and checker know of a job whose shape is good, by the law
 -- `good-job`.
 --
---   shape_with w h l nb s == the floor, then the neighbourhood, then the shape s of the rest: `job_shape` with that of
---                           the ends
---   dirs_shape w h l nb   == the floor and the neighbourhood alone: refusals 1 to 4
+--   shape_with w h l nb s    == the floor, then the neighbourhood, then the shape s of the rest: `job_shape` with that
+--                               of the ends
+--   dirs_shape w h l nb      == the floor and the neighbourhood alone: refusals 1 to 4
 --   GoodJob w h map dirs a b == the floor, the directions of the neighbourhood and both ends are good; no end is a
 --                               pinch
 use Rattle.std.specs.Prelude.{ℕ, ◌<◌, ◌≡◌, false, List}

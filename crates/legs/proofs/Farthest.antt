@@ -1,11 +1,11 @@
 -- The proposer's next position, and what it proposes.
 --
---   last_found     == the greatest number that passes a test, where one does
---   Far s n i j    == of the positions to which i has a leg, j is the farthest with the fewest legs left, which are one
---                     fewer than i has
---   farthest-is    == `farthest_next` is that position
---   proposed-chain == the proposed positions are those that `farthest_next` names one after the other
---   goes-..        == the test of a leg that leaves one leg fewer
+--   last_found      == the greatest number that passes a test, where one does
+--   Far s n i j     == of the positions to which i has a leg, j is the farthest with the fewest legs left, which are
+--                      one fewer than i has
+--   farthest-is     == `farthest_next` is that position
+--   proposed-chain  == the proposed positions are those that `farthest_next` names one after the other
+--   goes-..         == the test of a leg that leaves one leg fewer
 --   Seeking s n i j == the search for that position, from the last down, has come to j and not passed it
 use Prim.Native.Nat.{ℕ, zero, suc, ◌≤◌, ◌<◌}
 use mathlib.Core.Path.{◌≡◌, refl, sym, ap, ◌∙◌}

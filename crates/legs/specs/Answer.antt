@@ -1,26 +1,26 @@
 -- docs/RULES.md, 10.3 to 10.7: what the checker of a proposal and our own proposer answer and leave, for every input.
 --
---   legs_shape ..        == refusals 1, 2, 3, then 6 for the list slice and two proposed slices of k and m places, then
---                          10
---   kept_right s n l c   == the first c numbers of l are positions that start at 0, end at n - 1, rise, and see each the
---                          next
---   numbers_right s n l  == the first n numbers of l are the fewest legs from their positions
---   zero_from k l        == the slice l has 0 from place k on
+--   legs_shape ..         == refusals 1, 2, 3, then 6 for the list slice and two proposed slices of k and m places,
+--                            then 10
+--   kept_right s n l c    == the first c numbers of l are positions that start at 0, end at n - 1, rise, and see each
+--                            the next
+--   numbers_right s n l   == the first n numbers of l are the fewest legs from their positions
+--   zero_from k l         == the slice l has 0 from place k on
 --   true_choice s n kept c legs == what is accepted: the first c of `kept` are right and have as many legs as the number
 --                          at position 0 says, the numbers `legs` are right, and the rest of both slices is 0
---   check_answer ..      == the checker's answer: the first refusal that applies, the last 19 for a choice that is not
---                          true
---   last_below n p       == the greatest k below n with p k; 0 where there is none
---   farthest_next s n i  == of the positions to which i has a leg, the farthest with the fewest legs left: these are one
---                          fewer than i has
+--   check_answer ..       == the checker's answer: the first refusal that applies, the last 19 for a choice that is not
+--                            true
+--   last_below n p        == the greatest k below n with p k; 0 where there is none
+--   farthest_next s n i   == of the positions to which i has a leg, the farthest with the fewest legs left: these are
+--                            one fewer than i has
 --   proposed_from s n c i == the proposed positions from i on, at most c of them; the last is n - 1
---   proposed s n        == the proposed positions, from 0 on
---   propose_answer ..    == the proposer's answer: how many positions are kept, or the refusal
---   kept_left ..         == the proposer's first slice afterwards: the proposed positions, then 0; untouched at a
---                          refusal
---   legs_left ..         == the proposer's second slice afterwards: the fewest legs from each position, then 0;
---                          untouched at a refusal
---   Proposes ..         == the proposer's promise: `propose_answer`, `kept_left` and `legs_left`, for every input
+--   proposed s n          == the proposed positions, from 0 on
+--   propose_answer ..     == the proposer's answer: how many positions are kept, or the refusal
+--   kept_left ..          == the proposer's first slice afterwards: the proposed positions, then 0; untouched at a
+--                            refusal
+--   legs_left ..          == the proposer's second slice afterwards: the fewest legs from each position, then 0;
+--                            untouched at a refusal
+--   Proposes ..           == the proposer's promise: `propose_answer`, `kept_left` and `legs_left`, for every input
 use Rattle.std.specs.Prelude.{ℕ, zero, suc, pred, ◌≡◌, Bool, ◌&&◌, ◌||◌, List, [], ◌∷◌, leb, ltb, eqb, length, get_or}
 use Rattle.basics.specs.Bounded.{pick, every}
 use Rattle.basics.specs.Lists.{tabulate, padded}

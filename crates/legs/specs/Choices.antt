@@ -2,12 +2,12 @@
 -- the last one. `s i j` says that the vertices at positions i and j see each other; the list has n positions.
 --
 --   Leg s n i j       == a leg from position i to position j: j is one of the later positions, and i sees it
---   Choice s n i l    == the positions l are a rising clear choice from i to the last: they start with i and end with
---                        n - 1, and from each to the next is a leg. It has one leg fewer than positions
+--   Choice s n i l    == the positions l are a rising clear choice from i to the last: they start with i and end with n
+--                        - 1, and from each to the next is a leg. It has one leg fewer than positions
 --   Fewest s n i k    == k is the fewest legs from i over all rising clear choices: one has k legs, and none has fewer
---   is_leg s n i j     == the test of a leg
---   leads_in s n k i   == some rising clear choice from i has k legs
---   fewest_legs s n i  == the least such k: the fewest legs from i, where each position sees the next
+--   is_leg s n i j    == the test of a leg
+--   leads_in s n k i  == some rising clear choice from i has k legs
+--   fewest_legs s n i == the least such k: the fewest legs from i, where each position sees the next
 --
 -- That `fewest_legs` is the minimum that `Fewest` says is a law: `fewest-legs` of proofs/Fewest.antt.
 use Rattle.std.specs.Prelude.{ℕ, zero, suc, ◌≤◌, ◌<◌, ◌≡◌, Bool, true, ◌&&◌, List, [], ◌∷◌, ltb, eqb, length}

@@ -1,7 +1,7 @@
 -- Used by contracts between functions; nobody has to believe it: laws tie it to the definitions.
 -- What the code knows at the steps of `check` and `propose`.
 --
---   sight_on w h map list    == which positions of the list see each other, on the floor with this map
+--   sight_on w h map list   == which positions of the list see each other, on the floor with this map
 --   JoinedOn w h map list n == the floor is good, and the first n numbers of the list, which is not too long, are
 --                              vertices of which each sees the next
 --   RightFrom s n l i       == the numbers l from position i on are the fewest legs

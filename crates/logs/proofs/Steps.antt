@@ -1,11 +1,12 @@
 -- A log is what stepping finds: the bound on the number of steps in its definition is never reached.
 --
---   log-step   == log_from s v c is what the step at c finds, then the log from the cursor that the step hands back
+--   log-step        == log_from s v c is what the step at c finds, then the log from the cursor that the step hands
+--                      back
 --   Finding s v c r == r is what a step at c may find: the end, a stop or a bad record, each with its conditions
---   finding    == `Finding` holds of what the step finds
---   stop-found == where a step finds a stop, its four bytes lie in the log, the cursor has moved past them, and the
---                 vertex number is below v
---   stops-few  == a log has at most a quarter as many stops as bytes
+--   finding         == `Finding` holds of what the step finds
+--   stop-found      == where a step finds a stop, its four bytes lie in the log, the cursor has moved past them, and
+--                      the vertex number is below v
+--   stops-few       == a log has at most a quarter as many stops as bytes
 --   is-end, is_cut, is-unmarked, is-off, is_stop == `stop_at` for each outcome of the code's tests
 use Prim.Native.Nat.{ℕ, zero, suc, ◌+◌, ◌-◌, ◌*◌, ◌≤◌, ◌<◌}
 use mathlib.Core.Path.{◌≡◌, refl, sym, ap, ◌∙◌}

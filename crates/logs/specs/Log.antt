@@ -1,13 +1,13 @@
 -- docs/RULES.md, 12.1 and 12.2: the bytes of a log, for each stop a record 56 54 hex and a 16-bit little-endian vertex
 -- number.
 --
---   cursor_at p      == the cursor at place p
---   good_stop s v p  == a whole record with the mark 56 54 hex stands at place p of s and names one of v vertices
---   stop_at s v c    == what a step of the cursor c finds: a stop with the cursor moved past it, the end, or a bad
+--   cursor_at p     == the cursor at place p
+--   good_stop s v p == a whole record with the mark 56 54 hex stands at place p of s and names one of v vertices
+--   stop_at s v c   == what a step of the cursor c finds: a stop with the cursor moved past it, the end, or a bad
 --                      record, which is cut short, has a wrong mark or names no vertex
 --   Log             == the stops read in turn, and whether a bad record ended the reading
---   log_from s v c   == the log s read from the cursor c on
---   log_of s v       == the log s read from its start
+--   log_from s v c  == the log s read from the cursor c on
+--   log_of s v      == the log s read from its start
 use Rattle.std.specs.Prelude.{ℕ, zero, suc, ◌+◌, ◌-◌, Bool, true, false, ◌&&◌, List, [], ◌∷◌, leb, ltb, length}
 use Rattle.basics.specs.Bounded.{pick}
 use Rattle.records.specs.Format.{word_at, marked_at, whole_at}

@@ -1,16 +1,17 @@
 -- The masks of the moves that leave each vertex become those of the open moves: at each pinch in turn, the bits of the
 -- moves that lead to it are cleared.
 --
---   move-off, move-cleared  == `ClearsMove` of a move that leads off the floor, and of one that leads to a vertex
---   clears-none, clears-more == `ClearsTo` of no moves, and of one move more
---   turned-twice, turned-xor == opposite_of r (opposite_of r m) = m; the direction opposite to k is k xor 8
---   far-back                == where a move leads from v to u, the opposite move leads from u to v
---   leads-all               == the moves that lead from v to u, turned, are those that lead from u to v
---   cleared-none            == masks of the moves that leave each vertex are `Cleared` before vertex 0
+--   move-off, move-cleared    == `ClearsMove` of a move that leads off the floor, and of one that leads to a vertex
+--   clears-none, clears-more  == `ClearsTo` of no moves, and of one move more
+--   turned-twice, turned-xor  == opposite_of r (opposite_of r m) = m; the direction opposite to k is k xor 8
+--   far-back                  == where a move leads from v to u, the opposite move leads from u to v
+--   leads-all                 == the moves that lead from v to u, turned, are those that lead from u to v
+--   cleared-none              == masks of the moves that leave each vertex are `Cleared` before vertex 0
 --   cleared-skip, cleared-hit == `Cleared` past a vertex that is no pinch, with the same masks; and past one that is,
---                              once the moves to it are cleared
---   past_skip, past-hit     == `Cleared` one vertex past (x, y), where its mask marks no pinch, and where it marks one
---   cleared-all             == masks that are `Cleared` past the last vertex are those of the open moves
+--                                once the moves to it are cleared
+--   past_skip, past-hit       == `Cleared` one vertex past (x, y), where its mask marks no pinch, and where it marks
+--                                one
+--   cleared-all               == masks that are `Cleared` past the last vertex are those of the open moves
 use Prim.Native.Nat.{ℕ, suc, ◌≤◌, ◌<◌}
 use mathlib.Core.Path.{◌≡◌, refl, sym, ap, ap₂, subst, ◌∙◌}
 use mathlib.Core.Logic.{⊎_elim}

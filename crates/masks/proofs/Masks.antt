@@ -1,7 +1,7 @@
 -- The masks of the moves that leave the vertices of a row, and of all vertices, stored one after the other.
 --
---   leaves-dir    == a direction leaves a vertex where nothing is in the way and the vertex is no pinch
---   mask-number   == the mask of the vertex (x, y) is the mask at its number
+--   leaves-dir      == a direction leaves a vertex where nothing is in the way and the vertex is no pinch
+--   mask-number     == the mask of the vertex (x, y) is the mask at its number
 --   row-none, -more == `LeavingRow` of no vertices, and of one vertex more
 --   leaving-none, -more, -fewer == `LeavingTo` before vertex 0, one vertex further, and of fewer vertices
 use Prim.Native.Nat.{ℕ, suc, ◌≤◌, ◌<◌}

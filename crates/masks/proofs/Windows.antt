@@ -2,30 +2,31 @@
 -- sight on a floor of 2 by 2 cells, holds wherever that window is on a floor. Outside the floor cells are blocked.
 --
 --   window-bits, window-cells == the bits of the number of a window are its four cells
---   start-centre    == centre d (start_of d) = 1: a move by d from its start has its cells at the middle of a floor of 2
---                      by 2
---   open-window     == whether a move is open in a floor of 2 by 2 cells, by the bits of the number of its window
---   pinch-window    == whether the middle of a floor of 2 by 2 cells is a pinch, by the bits of the number of its
---                      window
+--   start-centre        == centre d (start_of d) = 1: a move by d from its start has its cells at the middle of a floor
+--                          of 2 by 2
+--   open-window         == whether a move is open in a floor of 2 by 2 cells, by the bits of the number of its window
+--   pinch-window        == whether the middle of a floor of 2 by 2 cells is a pinch, by the bits of the number of its
+--                          window
 --   Gathered r T n mask == the mask has the directions of those of the first n moves of r that pass the test T, and no
---                      other bit
+--                          other bit
 --   gathered_none, -more, -all == `Gathered` of no move, and of one move more; of all moves it is the mask of a window
---   open_by b m      == move m is open where the four cells beside it are the bits of b
+--   open_by b m         == move m is open where the four cells beside it are the bits of b
 --   move_needs, gathered-open == what the code's test of one move takes, and the mask with its answer
---   dir-apart       == no direction of a neighbourhood has the bit of a pinch
---   pinch-alone     == the mask with the bit of a pinch alone is that of a window that is a pinch
---   window-within   == the mask of a window for a table is its mask for any directions of that table
+--   dir-apart           == no direction of a neighbourhood has the bit of a pinch
+--   pinch-alone         == the mask with the bit of a pinch alone is that of a window that is a pinch
+--   window-within       == the mask of a window for a table is its mask for any directions of that table
 --   windows-none, -more == `WindowsTo` of no window, and of one window more
---   Cells r f x y n == n is the mask of the window at (x, y) of the floor f
---   window-read     == the mask at the number of the window at (x, y) is the mask of that window
---   read_none, -more == `WindowRow` of no vertices, and of one vertex more
+--   Cells r f x y n     == n is the mask of the window at (x, y) of the floor f
+--   window-read         == the mask at the number of the window at (x, y) is the mask of that window
+--   read_none, -more    == `WindowRow` of no vertices, and of one vertex more
 --   listed-sixteen, listed-unit == a neighbourhood of sixteen has the table of sixteen, and no move of another goes two
 --                      columns or rows
---   unit-leaving    == where no move goes two columns or rows, the mask of the window at (x, y) is that of the moves
---                      that leave (x, y)
---   joined-leaving  == the masks of five windows, joined, are that of the sixteen moves that leave (x, y)
---   past-right      == on the right of the floor all cells are blocked
---   line-leaving    == the masks of three lines of windows, joined, are those of the sixteen moves that leave a vertex
+--   unit-leaving        == where no move goes two columns or rows, the mask of the window at (x, y) is that of the
+--                          moves that leave (x, y)
+--   joined-leaving      == the masks of five windows, joined, are that of the sixteen moves that leave (x, y)
+--   past-right          == on the right of the floor all cells are blocked
+--   line-leaving        == the masks of three lines of windows, joined, are those of the sixteen moves that leave a
+--                          vertex
 use Prim.Native.Nat.{ℕ, zero, suc, ◌+◌, ◌-◌, ◌*◌, ◌%◌, ◌^◌, ◌≤◌, ◌<◌}
 use mathlib.Core.Path.{◌≡◌, refl, sym, ap, ap₂, ◌∙◌, subst}
 use mathlib.Core.Logic.{⊎_elim}

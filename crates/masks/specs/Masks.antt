@@ -2,31 +2,32 @@
 -- The moves of a vertex as a mask, a bit for each direction of the tables. A mask of open moves says the same as
 -- `open_end`.
 --
---   dir_if S f x y k         == the move of direction k leads from (x, y) to a vertex of the floor, and S holds of the
---                              segment between the two
---   MaskOf S f r x y n      == bit n k = dir_if S f x y k for each direction k of r
---   MaskAt S f r v n        == `MaskOf S f r x y n`, where (x, y) is the vertex with number v
---   OpenAt f r v n          == `MaskAt sees f r v n`: n is the mask of the open moves from the vertex with number v
---   OpenMasks f r l         == the list l has the mask of the open moves of each vertex
---   pinch_bit, pinch_mask     == the bit of a mask that says that the vertex is a pinch, and the mask with that bit alone
---   Leaving f r x y n       == n is a mask of the moves that leave (x, y), and its bit `pinch_bit` says whether (x, y)
---                              is a pinch
---   LeavingRow f r y n l    == the list l begins with masks of the moves that leave the first n vertices of row y
---                              (`Leaving`)
---   LeavingTo f r n l       == the list l, of V places, has a mask of the moves that leave each vertex before n
---                              (`Leaving`)
---   cleared_to t f s         == s leaves its first end, and its last end is no pinch with a number below t
---   Cleared f r t l         == the list l has for each vertex the mask of its moves that pass `cleared_to t`, and marks
---                              the pinches
---   WithoutBit k n n'       == the bits of n' are those of n, but bit k, which is 0
---   dir_end_at w h x y k      == the vertex to which direction k leads from (x, y), where that is on the floor
---   leads_to o v             == the end o is vertex v
---   turned_dir r m           == the direction opposite to that of move m of r
---   leads_back w h r x y u j m == move m leads from (x, y) to vertex u, and j is the direction opposite to it
+--   dir_if S f x y k            == the move of direction k leads from (x, y) to a vertex of the floor, and S holds of
+--                                  the segment between the two
+--   MaskOf S f r x y n          == bit n k = dir_if S f x y k for each direction k of r
+--   MaskAt S f r v n            == `MaskOf S f r x y n`, where (x, y) is the vertex with number v
+--   OpenAt f r v n              == `MaskAt sees f r v n`: n is the mask of the open moves from the vertex with number v
+--   OpenMasks f r l             == the list l has the mask of the open moves of each vertex
+--   pinch_bit, pinch_mask       == the bit of a mask that says that the vertex is a pinch, and the mask with that bit
+--                                  alone
+--   Leaving f r x y n           == n is a mask of the moves that leave (x, y), and its bit `pinch_bit` says whether (x,
+--                                  y) is a pinch
+--   LeavingRow f r y n l        == the list l begins with masks of the moves that leave the first n vertices of row y
+--                                  (`Leaving`)
+--   LeavingTo f r n l           == the list l, of V places, has a mask of the moves that leave each vertex before n
+--                                  (`Leaving`)
+--   cleared_to t f s            == s leaves its first end, and its last end is no pinch with a number below t
+--   Cleared f r t l             == the list l has for each vertex the mask of its moves that pass `cleared_to t`, and
+--                                  marks the pinches
+--   WithoutBit k n n'           == the bits of n' are those of n, but bit k, which is 0
+--   dir_end_at w h x y k        == the vertex to which direction k leads from (x, y), where that is on the floor
+--   leads_to o v                == the end o is vertex v
+--   turned_dir r m              == the direction opposite to that of move m of r
+--   leads_back w h r x y u j m  == move m leads from (x, y) to vertex u, and j is the direction opposite to it
 --   ClearsMove w h r x y m l l' == the masks l' are the masks l, with bit j of vertex u cleared where `leads_back w h r
---                              x y u j m`
---   ClearsTo w h r x y n l l' == the masks l' are the masks l, with bit j of vertex u cleared where `leads_back w h r x
---                              y u j m` for an m below n
+--                                  x y u j m`
+--   ClearsTo w h r x y n l l'   == the masks l' are the masks l, with bit j of vertex u cleared where `leads_back w h r
+--                                  x y u j m` for an m below n
 use Rattle.std.specs.Prelude.{ℕ, ◌<◌, ◌≡◌, Bool, false, ◌&&◌, not, List, ltb, eqb, length, get_or}
 use Rattle.std.proofs.Math.Option.{Option, none, some}
 use Rattle.basics.specs.Bounded.{any}

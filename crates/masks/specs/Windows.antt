@@ -2,20 +2,21 @@
 -- A window is the four cells at a vertex, as a number below 16: bit c says that cell c of a floor of 2 by 2 is blocked.
 -- The masks of the sixteen windows, joined, say the same as `Leaving`.
 --
---   pair_at f x y     == the two cells to the left of column line x at row line y: 1 where the upper is blocked, and 4
---                       where the lower is
---   window_at f x y   == the number of the window at the vertex (x, y)
---   pinch_of ul ur ll lr == a vertex with these cells, upper left to lower right, is a pinch
+--   pair_at f x y         == the two cells to the left of column line x at row line y: 1 where the upper is blocked,
+--                            and 4 where the lower is
+--   window_at f x y       == the number of the window at the vertex (x, y)
+--   pinch_of ul ur ll lr  == a vertex with these cells, upper left to lower right, is a pinch
 --   open_in m ul ur ll lr == no cell and no step is in the way of a move of the offsets of m that has these four cells
---                       beside it, and their vertex is no pinch
---   start_of d        == the line of a floor of 2 by 2, 0, 1 or 2, from which a move by d has its cells in that floor
---   Window r b n     == n is the mask of window b for the directions r
---   WindowsTo r k l  == the list l has at each place b below k the mask of window b for the directions r
---   WindowRow f y t n l == the list l begins with the masks, read from the list t, of the windows at the first n
---                       vertices of row y
+--                            beside it, and their vertex is no pinch
+--   start_of d            == the line of a floor of 2 by 2, 0, 1 or 2, from which a move by d has its cells in that
+--                            floor
+--   Window r b n          == n is the mask of window b for the directions r
+--   WindowsTo r k l       == the list l has at each place b below k the mask of window b for the directions r
+--   WindowRow f y t n l   == the list l begins with the masks, read from the list t, of the windows at the first n
+--                            vertices of row y
 --   WindowLines f y t above here below == `WindowRow` of the list above at y - 1, of here at y and of below at y + 1
---   unit_dirs r       == no move of the directions r goes two columns or two rows
---   all_bits          == the mask with the bits of all directions
+--   unit_dirs r           == no move of the directions r goes two columns or two rows
+--   all_bits              == the mask with the bits of all directions
 --   unit_mask, left_mask, right_mask, upper_mask, lower_mask == of the directions of the sixteen, those of the eight moves
 --                       by at most one column and one row, with the bit of a pinch; and of the moves by two, those to
 --                       the left, right, up and down

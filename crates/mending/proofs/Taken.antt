@@ -2,14 +2,14 @@
 -- which slices were damaged.
 --
 --   takes-route, takes_none == the checker accepts a true route sheet as a route, and a true no_route sheet as no route
---   Ending ..     == the three ways in which a call ends: with the true route sheet in the second set, with the true
---                    no_route sheet there, or with a refusal
---   ending        == `Ending` of every call
---   mended-route  == at 0 the checker accepts the second set, with the n answered, as a route
---   mended-none   == at 7 the checker accepts the second set, with the n answered, as no route
---   Exact c s t   == each count of c is 0 exactly when that slice of the sheets s and t is the same
---   counts-exact  == at 0 and 7 the counts answered are `Exact` of the damaged sheet and the second set
---   undamaged     == at 0 and 7 all six counts are 0 exactly when every slice of the damaged sheet is the true one
+--   Ending ..    == the three ways in which a call ends: with the true route sheet in the second set, with the true
+--                   no_route sheet there, or with a refusal
+--   ending       == `Ending` of every call
+--   mended-route == at 0 the checker accepts the second set, with the n answered, as a route
+--   mended-none  == at 7 the checker accepts the second set, with the n answered, as no route
+--   Exact c s t  == each count of c is 0 exactly when that slice of the sheets s and t is the same
+--   counts-exact == at 0 and 7 the counts answered are `Exact` of the damaged sheet and the second set
+--   undamaged    == at 0 and 7 all six counts are 0 exactly when every slice of the damaged sheet is the true one
 use Prim.Native.Nat.{ℕ}
 use mathlib.Core.Path.{◌≡◌, refl, ap}
 use mathlib.Core.Logic.{◌⊎◌, ⊎_elim, ◌↔◌}

@@ -1,7 +1,7 @@
 -- Used by contracts between functions; nobody has to believe it: laws tie it to the definitions.
 -- What the functions of the operation require and leave.
 --
---   answer_by k n c         == the answer of the operation, where the planner's has the number k and n points, and the
+--   answer_by k n c        == the answer of the operation, where the planner's has the number k and n points, and the
 --                             differences are c
 --   AlikeSheets s t        == each slice of the sheet s is as long as that of the sheet t
 --   Plannable ..           == a good job, and slices of the lengths that the planner needs

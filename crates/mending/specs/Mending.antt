@@ -2,23 +2,23 @@
 -- only read. The true sheet is written into a second set of slices, and the answer says for each slice at how many
 -- places the damaged one and the true one differ.
 --
---   MendSlices           == the slices lent to be written: those of the second set, and the working slice
+--   MendSlices            == the slices lent to be written: those of the second set, and the working slice
 --   sheet_in s n          == the sheet in the second set of s, with point count n
 --   sheet_differences s t == for each slice, at how many places the sheets s and t differ
 --   no_differences        == 0 for each slice: `sheet_differences` of two sheets that differ nowhere
 --   sheet_answer g a b s  == the answer for the damaged sheet s of the job from a to b on graph g, where the shape is
---                           good: 0, 7 or 8
---   sheet_left g a b      == the slices that the answer `sheet_answer` leaves: d has the costs from a, and the others are
---                           as the planner leaves them
+--                            good: 0, 7 or 8
+--   sheet_left g a b      == the slices that the answer `sheet_answer` leaves: d has the costs from a, and the others
+--                            are as the planner leaves them
 --   sheet_sized v l       == the slices of a sheet have v places each, by their lengths l
 --   sheet_lengths s       == the lengths of the slices of the sheet s
 --   mend_shape ..         == the directions of the neighbourhood, or the first refusal of 1 to 5, 11 and 6, by the
---                           lengths of the slices of both sheets and of the working slice
+--                            lengths of the slices of both sheets and of the working slice
 --   shape_for ..          == `mend_shape` by the slices themselves
---   job_answer, job_left   == the answer and the slices afterwards, by the shape: a refusal, or fit
+--   job_answer, job_left  == the answer and the slices afterwards, by the shape: a refusal, or fit
 --   mend_answer ..        == the answer, for every input
 --   mend_left ..          == the slices afterwards, for every input: unchanged at answers 1 to 6 and 11
---   Mends ..             == the operation's promise: `mend_answer` and `mend_left`, for every input
+--   Mends ..              == the operation's promise: `mend_answer` and `mend_left`, for every input
 --   mend_number, mend_points, mend_differences == the number (rule 6.1) and the values (rule 6.4) of an answer
 --
 -- A damaged sheet is a `Sheet`; its point count is not read.

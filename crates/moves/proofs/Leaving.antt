@@ -1,12 +1,12 @@
 -- A move of the tables is narrow: it passes no vertex between its ends. So it is open exactly when no cell and no step
 -- is in its way and neither of its ends is a pinch. `leaves` is that without the pinch at the last end.
 --
---   sees-narrow   == sees f s = leaves f s and the last end of s is no pinch, for a narrow segment s
---   seen-far      == `sees-narrow` of a move of a table, its ends given by their numbers
---   leaves_none   == no move leaves a pinch
---   leaves-shut   == a move that does not leave is not open
+--   sees-narrow     == sees f s = leaves f s and the last end of s is no pinch, for a narrow segment s
+--   seen-far        == `sees-narrow` of a move of a table, its ends given by their numbers
+--   leaves_none     == no move leaves a pinch
+--   leaves-shut     == a move that does not leave is not open
 --   LeadsTo f m v w == move m is open from v to w, or it is shut and w is a pinch
---   leaves-leads  == where a move leaves v with the far end w, `LeadsTo f m v w`
+--   leaves-leads    == where a move leaves v with the far end w, `LeadsTo f m v w`
 use Prim.Native.Nat.{ℕ, zero, suc, ◌≤◌, ◌<◌}
 use mathlib.Core.Path.{◌≡◌, refl, sym, ap, ap₂, ◌∙◌}
 use mathlib.Core.Bool.{Bool, true, false, ◌&&◌, ◌||◌, not, and_assoc}

@@ -1,12 +1,12 @@
 -- A signed byte from -2 to 2: the machine reads it back unchanged, and its parts up and down.
 --
---   back, back-neg   == d, and -d, as the machine reads them back, are d and -d
---   parts-abs        == up d + down d ≡ nat_abs d
---   parts-back       == the two parts of an offset that the machine reads back
+--   back, back-neg        == d, and -d, as the machine reads them back, are d and -d
+--   parts-abs             == up d + down d ≡ nat_abs d
+--   parts-back            == the two parts of an offset that the machine reads back
 --   handed m, handed-back == a short move by its two offsets as the machine reads them back
---   neg-up           == up (-d) = down d
---   below, Above d   == where d is below 0, up d = 0; where it is not, up d = nat_abs d
---   narrow_one       == a narrow move goes one column or one row
+--   neg-up                == up (-d) = down d
+--   below, Above d        == where d is below 0, up d = 0; where it is not, up d = nat_abs d
+--   narrow_one            == a narrow move goes one column or one row
 use Prim.Native.Nat.{ℕ, zero, suc, ◌+◌, ◌≤◌}
 use mathlib.Core.Path.{◌≡◌, refl, ap, ap₂}
 use mathlib.Core.Logic.{◌⊎◌, inl, inr, ⊎_elim}

@@ -1,11 +1,11 @@
 -- Used by contracts between functions; nobody has to believe it: laws tie it to the definitions.
 -- A cell or a step is in the way of a move exactly where the four cells in its middle say so.
 --
---   beside d l r  == along one axis, an offset d is shut by the cells l before and r after a line; true stands for
---                    blocked
+--   beside d l r == along one axis, an offset d is shut by the cells l before and r after a line; true stands for
+--                   blocked
 --   window_blocked dx dy ul ur ll lr == a move by dx and dy is shut by the four cells at the vertex in its middle: upper
 --                    left, upper right, lower left, lower right
---   centre d a    == the line between the two cells that an offset d from line a passes or goes between
+--   centre d a   == the line between the two cells that an offset d from line a passes or goes between
 use Rattle.std.specs.Prelude.{ℕ, zero, suc, ◌-◌, Bool, ◌&&◌, ◌||◌, ℤ, pos, negsuc}
 
 -- An offset of one line passes the cell on that side. An offset of two passes both cells, and is shut where either is

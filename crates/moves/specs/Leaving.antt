@@ -2,8 +2,8 @@
 -- The test of a move that looks at the pinch of its first end alone. A move is open exactly when it passes this test
 -- from both of its ends.
 --
---   leaves f s         == no cell and no step is in the way of s, and its first end is no pinch
---   leaving_end f m v   == `end_if leaves` of move m at the vertex with number v: the far end of a move that leaves v
+--   leaves f s        == no cell and no step is in the way of s, and its first end is no pinch
+--   leaving_end f m v == `end_if leaves` of move m at the vertex with number v: the far end of a move that leaves v
 use Rattle.std.specs.Prelude.{ℕ, Bool, ◌&&◌, not}
 use Rattle.std.proofs.Math.Option.{Option}
 use Rattle.floor.specs.Floor.{Floor, column, row}

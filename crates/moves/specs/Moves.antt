@@ -4,14 +4,14 @@
 --   moves               == the table of eight moves, direction by direction: signed offsets and cost
 --   sixteen             == the table of sixteen moves: the eight moves and, between each two of them, their sum, in
 --                          order of angle, with costs of their own
---   move_of x y c        == the move by x columns and y rows at cost c
---   dir_move k           == the move of direction k of 32: directions 0 to 15 have the eight moves, each at two of them,
+--   move_of x y c       == the move by x columns and y rows at cost c
+--   dir_move k          == the move of direction k of 32: directions 0 to 15 have the eight moves, each at two of them,
 --                          and directions 16 to 31 the sixteen. In both a direction is a sixteenth of a turn, so that
 --                          four make a quarter turn
---   dir_at r m           == the direction of move m of a neighbourhood with the directions r
---   directions_of i s n  == n directions, from i on, each s after the one before
---   move_at r m          == move m of a neighbourhood with the directions r
---   neighbourhood_of n   == the directions of neighbourhood n: 8 has the table of eight, 4 its cardinal directions in
+--   dir_at r m          == the direction of move m of a neighbourhood with the directions r
+--   directions_of i s n == n directions, from i on, each s after the one before
+--   move_at r m         == move m of a neighbourhood with the directions r
+--   neighbourhood_of n  == the directions of neighbourhood n: 8 has the table of eight, 4 its cardinal directions in
 --                          the same order, 16 the table of sixteen; every other n is refused (refusal 4)
 use Rattle.std.specs.Prelude.{ℕ, ◌+◌, ◌-◌, ◌*◌, ◌/◌, List, [], ◌∷◌, ltb, eqb, ℤ, pos, negsuc, get_or}
 use Rattle.basics.specs.Bounded.{pick}

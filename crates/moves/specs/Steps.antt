@@ -1,10 +1,10 @@
 -- docs/RULES.md, 3.4 and 3.5: the far end of a move, and when a move is open.
 --
---   shifted n a d       == a + d, where that is from 0 to n; else none
---   far_end_at w h m x y  == the number of the vertex to which move m leads from (x, y); none where it leaves the floor
+--   shifted n a d        == a + d, where that is from 0 to n; else none
+--   far_end_at w h m x y == the number of the vertex to which move m leads from (x, y); none where it leaves the floor
 --   end_if S f m x y     == the number of the vertex to which move m leads from (x, y), where S holds of the segment
---                          between the two; else none
---   open_end_at f m x y   == `end_if sees f m x y`: the far end of move m from (x, y), where the move is open
+--                           between the two; else none
+--   open_end_at f m x y  == `end_if sees f m x y`: the far end of move m from (x, y), where the move is open
 --   open_end f m v       == `open_end_at f m x y`, where (x, y) is the vertex with number v
 --   step_of o            == the far end o, a vertex or off the floor, as the code answers it
 use Rattle.std.specs.Prelude.{ℕ, suc, ◌+◌, ◌-◌, Bool, true, false, ◌&&◌, leb, ℤ, pos, negsuc}

@@ -1,14 +1,14 @@
 -- A graph h has the moves of g, and others that lead to dead ends only: vertices that no move leaves. The tests of
 -- costs and counts over all vertices then say the same on both.
 --
---   HalfOf P g h a     == h has the moves of g, and others only to vertices w with P w, which no move of h leaves; P a
---                         is false
---   right-small        == a cost that passes the test is at most `unreachable`
---   far-of, half-far   == where every cost passes the test on g, or on h, the vertices w with P w are unreached
---   half-costs         == the test of every cost is the same on g and on h
---   counts-half, next-half == `count_at` and `next_vertex` are the same on g and on h, where the vertices w with P w are
---                         unreached
---   leads-half         == `Leads` on g is `Leads` on h, where the vertices w with P w are unreached
+--   HalfOf P g h a         == h has the moves of g, and others only to vertices w with P w, which no move of h leaves;
+--                             P a is false
+--   right-small            == a cost that passes the test is at most `unreachable`
+--   far-of, half-far       == where every cost passes the test on g, or on h, the vertices w with P w are unreached
+--   half-costs             == the test of every cost is the same on g and on h
+--   counts-half, next-half == `count_at` and `next_vertex` are the same on g and on h, where the vertices w with P w
+--                             are unreached
+--   leads-half             == `Leads` on g is `Leads` on h, where the vertices w with P w are unreached
 use Prim.Native.Nat.{ℕ, zero, suc, ◌+◌, ◌≤◌, ◌<◌}
 use mathlib.Core.Path.{◌≡◌, refl, sym, ap, ◌∙◌}
 use mathlib.Core.Bool.{Bool, true, false, ◌&&◌, ◌||◌}

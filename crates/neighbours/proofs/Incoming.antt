@@ -3,7 +3,7 @@
 -- the same cost.
 --
 --   relaxed_in-cases, -all == `relaxed_in g D v` is `D v ≤ D w + cost m` for each open move m from v to w
---   costs-in              == every vertex passes `right_cost_in` exactly when every vertex passes `right_cost`
+--   costs-in               == every vertex passes `right_cost_in` exactly when every vertex passes `right_cost`
 use Prim.Native.Nat.{ℕ, ◌+◌, ◌≤◌, ◌<◌}
 use mathlib.Core.Path.{◌≡◌}
 use mathlib.Core.Bool.{Bool, true, ◌&&◌, ◌||◌}

@@ -1,16 +1,16 @@
 -- Used by contracts between functions; nobody has to believe it: laws tie it to the definitions.
 -- The next vertex of the central route, as the code reads it from slices of costs and counts.
 --
---   Choosing r s mask d e goal v   == the moves from v can be read, and the slices of costs have v and the goal
---   Counted n f b                  == the slices of counts have n places, and the traversal counts fit 64 bits
---   OffWay d e goal i j            == no vertex v with i ≤ v < j is on the way to the goal
---   follows_by on D v w c           == the far end w of a move from v that costs c is on the way, and D w = D v + c: the
---                                     test of `candidate`
+--   Choosing r s mask d e goal v     == the moves from v can be read, and the slices of costs have v and the goal
+--   Counted n f b                    == the slices of counts have n places, and the traversal counts fit 64 bits
+--   OffWay d e goal i j              == no vertex v with i ≤ v < j is on the way to the goal
+--   follows_by on D v w c            == the far end w of a move from v that costs c is on the way, and D w = D v + c:
+--                                       the test of `candidate`
 --   candidate_of, traversal_of       == `candidate`, and the traversal count f(v) * b(v), by the slices
---   next_of r s mask d e f b goal v == `next_vertex`, by the slices
+--   next_of r s mask d e f b goal v  == `next_vertex`, by the slices
 --   OnwardBy r s mask d e f b goal v == some move leads on from v, by the slices (`Onward` of paths)
---   LeadsBy r s mask d e f b goal v == where v is on the way and not the goal, some move leads on from v, by the slices
---                                     (`Leads` of paths)
+--   LeadsBy r s mask d e f b goal v  == where v is on the way and not the goal, some move leads on from v, by the
+--                                       slices (`Leads` of paths)
 use Rattle.std.specs.Prelude.{ℕ, ◌+◌, ◌*◌, ◌^◌, ◌≤◌, ◌<◌, ◌≡◌, Bool, false, ◌&&◌, List, eqb, length}
 use Rattle.std.proofs.Math.Option.{Option}
 use Rattle.paths.specs.Route.{on_shortest, candidate, next_vertex}

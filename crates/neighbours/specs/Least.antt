@@ -3,27 +3,27 @@
 -- one cost. The law `least-right` says that this test is `right_cost_in`, and the law `costs-in` that over all vertices
 -- `right_cost_in` says the same as `right_cost`.
 --
---   relaxed_by g D v m        == D v ≤ D w and the cost of move m, where m leads from v to w
---   relaxed_in g D v          == `relaxed_by g D v m` for every move m; `relaxed` of paths has v and w exchanged
+--   relaxed_by g D v m         == D v ≤ D w and the cost of move m, where m leads from v to w
+--   relaxed_in g D v           == `relaxed_by g D v m` for every move m; `relaxed` of paths has v and w exchanged
 --   right_cost_in g a D v      == `right_cost` with `relaxed_in` in place of `relaxed`
---   nowhere                  == a cost above every other
---   least_of F n              == the least of `nowhere` and F 0, .. F (n - 1)
---   end_or v e                == the far end e; v itself where there is none
---   end_at s mask v k         == the far end of direction k from v by its mask and the shifts s; v itself where the move
---                               is shut
---   least_by s mask D v c     == the least of D w and the cost of class c, over the four far ends w of c from v;
---                               `nowhere` for a class of no move
---   least_two s mask D v c e  == the lesser of `least_by` of the classes c and e
+--   nowhere                    == a cost above every other
+--   least_of F n               == the least of `nowhere` and F 0, .. F (n - 1)
+--   end_or v e                 == the far end e; v itself where there is none
+--   end_at s mask v k          == the far end of direction k from v by its mask and the shifts s; v itself where the
+--                                 move is shut
+--   least_by s mask D v c      == the least of D w and the cost of class c, over the four far ends w of c from v;
+--                                 `nowhere` for a class of no move
+--   least_two s mask D v c e   == the lesser of `least_by` of the classes c and e
 --   least_first, least_further == `least_two` of the first two classes of l, and of the last two
---   least_at s l mask D v     == the least by all classes of l; the last two are left out where the third has no move
---   right_by x a D v          == D v is x, or it is below x and v is the source a or unreached
+--   least_at s l mask D v      == the least by all classes of l; the last two are left out where the third has no move
+--   right_by x a D v           == D v is x, or it is below x and v is the source a or unreached
 --   right_least s l mask a D v == `right_by x a D v` with x = least_at s l mask D v
---   DirLent n s mask v k     == the far end of direction k from v can be worked out, and it is below n
---   ClassesLent n s l mask v == the far ends of every class of l from v can be worked out and are below n, and v is
---                               below n
---   MoveBy g s mask v c j m  == move m of the graph g from v has the far end of direction j of class c, and its cost
---   ClassMoves g s l mask v  == the moves of the graph g from v are those of the classes of l, and the last two classes
---                               have the same cost
+--   DirLent n s mask v k       == the far end of direction k from v can be worked out, and it is below n
+--   ClassesLent n s l mask v   == the far ends of every class of l from v can be worked out and are below n, and v is
+--                                 below n
+--   MoveBy g s mask v c j m    == move m of the graph g from v has the far end of direction j of class c, and its cost
+--   ClassMoves g s l mask v    == the moves of the graph g from v are those of the classes of l, and the last two
+--                                 classes have the same cost
 use Rattle.std.specs.Prelude.{ℕ, zero, suc, ◌+◌, ◌<◌, min, ◌≡◌, Bool, ◌&&◌, ◌||◌, List, leb, eqb, length}
 use Rattle.std.proofs.Math.Option.{Option, none, some}
 use Rattle.basics.specs.Bounded.{pick, every}

@@ -3,14 +3,14 @@
 -- direction changes a vertex number, and the mask of the vertex's open moves. The contracts of the loops are stated by
 -- the definitions of paths, over the graph `mask_graph` of the moves whose bits are set in the mask.
 --
---   read_step r s mask v m     == the far end of move m of the directions r from v, by its mask and the shifts s; none
---                                where the bit is not set
---   mask_graph n r s mask      == the graph of n vertices with the steps `read_step` and the costs of the directions r
---   Readable n r s mask v     == every move from v can be worked out, and leads to a vertex below n
---   tight_by g D v m           == D w and the cost of move m make D v, where m leads from v to w: the test of `tight`
---   inflow_by g D F v m        == F w where `tight_by g D v m` and m leads from v to w, else 0: what move m adds to
---                                `inflow`
---   sum_of x                   == x as the code answers a sum: x where it fits 64 bits, else over
+--   read_step r s mask v m == the far end of move m of the directions r from v, by its mask and the shifts s; none
+--                             where the bit is not set
+--   mask_graph n r s mask  == the graph of n vertices with the steps `read_step` and the costs of the directions r
+--   Readable n r s mask v  == every move from v can be worked out, and leads to a vertex below n
+--   tight_by g D v m       == D w and the cost of move m make D v, where m leads from v to w: the test of `tight`
+--   inflow_by g D F v m    == F w where `tight_by g D v m` and m leads from v to w, else 0: what move m adds to
+--                             `inflow`
+--   sum_of x               == x as the code answers a sum: x where it fits 64 bits, else over
 use Rattle.std.specs.Prelude.{ℕ, ◌+◌, ◌^◌, ◌<◌, ◌≡◌, Bool, true, List, ltb, eqb, length}
 use Rattle.std.proofs.Math.Option.{Option, some}
 use Rattle.basics.specs.Bounded.{pick}

@@ -1,19 +1,19 @@
 -- Used by contracts between functions; nobody has to believe it: laws tie it to the definitions.
 -- The moves of a neighbourhood by cost: classes of four moves, each a quarter turn after the one before.
 --
---   class_count     == the number of classes of a neighbourhood; where it has fewer, the others are of no move
---   quarter        == the number of directions in a quarter turn
+--   class_count   == the number of classes of a neighbourhood; where it has fewer, the others are of no move
+--   quarter       == the number of directions in a quarter turn
 --   class_of dir cost, class_at l k == a class by its first direction and its cost, 0 for a class of no move; class k of
 --                     the list l
---   class_dir c j   == direction j of class c, for j from 0 to 3: dir + 4 * j
---   Member r c m   == move m of the directions r is one of class c
---   CostClass r c  == the cost of c is at most 4,095; and where it is not 0, each of the four directions of c is that
---                     of a move of r at that cost
---   Classes r l    == the classes of l have every move of the directions r, and the last two have the same cost
---   class_for r m   == the class of move m where m is among the first quarter of the moves of r; else m is a turn of one
---                     of these, and the class has no move
---   middle_of r     == the move in the middle of a quarter turn; 1, past it, where a quarter turn has one move only
---   classes_for r   == the classes of the first move, of the middle one, and of the other two of moves 0 to 3
+--   class_dir c j == direction j of class c, for j from 0 to 3: dir + 4 * j
+--   Member r c m  == move m of the directions r is one of class c
+--   CostClass r c == the cost of c is at most 4,095; and where it is not 0, each of the four directions of c is that of
+--                    a move of r at that cost
+--   Classes r l   == the classes of l have every move of the directions r, and the last two have the same cost
+--   class_for r m == the class of move m where m is among the first quarter of the moves of r; else m is a turn of one
+--                    of these, and the class has no move
+--   middle_of r   == the move in the middle of a quarter turn; 1, past it, where a quarter turn has one move only
+--   classes_for r == the classes of the first move, of the middle one, and of the other two of moves 0 to 3
 use Rattle.std.specs.Prelude.{ℕ, ◌+◌, ◌-◌, ◌*◌, ◌/◌, ◌≤◌, ◌<◌, ◌≡◌, List, [], ◌∷◌, ltb, get_or}
 use Rattle.basics.specs.Bounded.{pick}
 use Rattle.moves.specs.declared.Directions.{Directions}

@@ -1,15 +1,15 @@
 -- Used by contracts between functions; nobody has to believe it: laws tie it to the definitions.
 -- A move as a change of a vertex number. With the mask of the open moves it gives the same far end as `open_end`.
 --
---   offset_of w m           == by how much move m changes a vertex number: by `up` less `down`
---   masked_end n v k o      == v + up - down, by the offset o, where bit k of n is set; else none
---   Movable n v k o        == `masked_end n v k o` can be worked out: k is below 32, and no number is negative or too
---                             large
---   shift_base, Shifts w r l == place k of l is `shift_base` = 512 plus the offset of direction k, for each direction k
---                             of r: a number that is never negative
+--   offset_of w m              == by how much move m changes a vertex number: by `up` less `down`
+--   masked_end n v k o         == v + up - down, by the offset o, where bit k of n is set; else none
+--   Movable n v k o            == `masked_end n v k o` can be worked out: k is below 32, and no number is negative or
+--                                 too large
+--   shift_base, Shifts w r l   == place k of l is `shift_base` = 512 plus the offset of direction k, for each direction
+--                                 k of r: a number that is never negative
 --   by_shift x, shifted_by l k == the offset x - 512, and that of place k of the list l
---   dir_end l n v k         == the far end of direction k from v by the mask n and the shifts l, if the move is open
---   end_of o                == the far end o as the code answers it
+--   dir_end l n v k            == the far end of direction k from v by the mask n and the shifts l, if the move is open
+--   end_of o                   == the far end o as the code answers it
 use Rattle.std.specs.Prelude.{ℕ, suc, ◌+◌, ◌-◌, ◌*◌, ◌^◌, ◌≤◌, ◌<◌, ◌≡◌, true, List, length, get_or}
 use Rattle.std.proofs.Math.Option.{Option, none, some}
 use Rattle.basics.specs.Bounded.{pick}

@@ -2,11 +2,11 @@
 --
 --   Candidate g on D v m w == w is the far end of the open move m from v, on the way, with D w = D v + the cost of m
 --   candidate-cases, candidate-at == `candidate g on D v m` is w exactly where w is a `Candidate`
---   Best T c n w      == w is one of the candidates c 0, .. c (n - 1), none of them has a higher count, and each before
---                        it a lower one
---   best-exact        == `best T c n` is w exactly where `Best T c n w`
---   best_none         == where `best T c n` is none, so is each of c 0, .. c (n - 1)
---   next_vertex-exact  == `next_vertex g on D T v` is w exactly where w is the `Best` of the candidates of v
+--   Best T c n w           == w is one of the candidates c 0, .. c (n - 1), none of them has a higher count, and each
+--                             before it a lower one
+--   best-exact             == `best T c n` is w exactly where `Best T c n w`
+--   best_none              == where `best T c n` is none, so is each of c 0, .. c (n - 1)
+--   next_vertex-exact      == `next_vertex g on D T v` is w exactly where w is the `Best` of the candidates of v
 --   candidate-same, next-same == `candidate` and `next_vertex` are the same by functions that agree at every vertex,
 --                        such as lists of the true numbers
 use Prim.Native.Nat.{ℕ, zero, suc, ◌+◌, ◌≤◌, ◌<◌}

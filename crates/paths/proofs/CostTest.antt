@@ -1,10 +1,10 @@
 -- The test `right_costs` of a list of costs passes on the true costs, and on nothing else.
 --
---   costs-true         == costs that pass are the distances from a
---   true-costs         == the distances from a pass
---   right_costs-exact   == `right_costs g a D` holds exactly where D v = distance g a v for every vertex v
---   right_costs-list    == `right_costs` of a list of the right length holds exactly where it is the list of the
---                         distances from a
+--   costs-true        == costs that pass are the distances from a
+--   true-costs        == the distances from a pass
+--   right_costs-exact == `right_costs g a D` holds exactly where D v = distance g a v for every vertex v
+--   right_costs-list  == `right_costs` of a list of the right length holds exactly where it is the list of the
+--                        distances from a
 use Prim.Native.Nat.{ℕ, ◌+◌, ◌≤◌, ◌<◌}
 use mathlib.Core.Path.{◌≡◌, ap, ◌∙◌}
 use mathlib.Core.Logic.{⊎_elim, ◌↔◌}

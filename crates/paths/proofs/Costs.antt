@@ -1,11 +1,11 @@
 -- Conditions on costs D, each about one move, that hold of the true costs and of no others.
 --
---   Stable g a D     == D a = 0, D v ≤ unreachable for every vertex v, and D w ≤ D v + cost for every move from v to w
---   Tight g D v      == D w + cost = D v for some move from v to w
---   TightAll g a D   == `Tight g D v` for each vertex v but a whose cost is below `unreachable`
---   walked-true      == D v = distance g a v for every vertex v, where D is `Stable` and each cost below `unreachable`
---                       is that of a walk
---   tight-true       == D v = distance g a v for every vertex v, where D is `Stable` and `TightAll`
+--   Stable g a D   == D a = 0, D v ≤ unreachable for every vertex v, and D w ≤ D v + cost for every move from v to w
+--   Tight g D v    == D w + cost = D v for some move from v to w
+--   TightAll g a D == `Tight g D v` for each vertex v but a whose cost is below `unreachable`
+--   walked-true    == D v = distance g a v for every vertex v, where D is `Stable` and each cost below `unreachable` is
+--                     that of a walk
+--   tight-true     == D v = distance g a v for every vertex v, where D is `Stable` and `TightAll`
 --   distance-stable, distance-tight == the distances from a are `Stable`, and `TightAll`
 use Prim.Native.Nat.{ℕ, zero, suc, ◌+◌, ◌≤◌, ◌<◌}
 use mathlib.Core.Path.{◌≡◌, sym, subst}

@@ -1,12 +1,13 @@
 -- The number of walks of a cost, as a sum over the first move.
 --
---   count g k u t        == the number of open walks from u to t that cost k
---   still_count k u t     == the number of open walks from u to t that cost k and have one vertex: 1 where u ≡ t and k ≡
---                           0, else 0
---   along g k u F m      == F r w, where move m from u leads to w and leaves r of the cost k; else 0
---   walks-step           == `walks g k u t` by its first move: the walk of one vertex, then for each move the walks
---                           from its far end
---   count-step           == count g k u t = still_count k u t + the sum over the moves m of `along g k u (count ..) m`
+--   count g k u t          == the number of open walks from u to t that cost k
+--   still_count k u t      == the number of open walks from u to t that cost k and have one vertex: 1 where u ≡ t and k
+--                             ≡ 0, else 0
+--   along g k u F m        == F r w, where move m from u leads to w and leaves r of the cost k; else 0
+--   walks-step             == `walks g k u t` by its first move: the walk of one vertex, then for each move the walks
+--                             from its far end
+--   count-step             == count g k u t = still_count k u t + the sum over the moves m of `along g k u (count ..)
+--                             m`
 --   count-walk, walk-count == a count is not 0 exactly where there is a walk
 use Prim.Native.Nat.{ℕ, zero, suc, ◌+◌, ◌-◌, ◌≤◌, ◌<◌}
 use mathlib.Core.Path.{◌≡◌, refl, sym, ap, ap₂, ◌∙◌}

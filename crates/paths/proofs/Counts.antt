@@ -1,16 +1,16 @@
 -- The numbers of cheapest walks meet equations between a vertex and its neighbours, and no other numbers meet them.
 --
---   path_count-self   == path_count g u u = 1
---   path_count-pos    == where a walk joins u to t, 0 < path_count g u t
---   path_count-to     == for u other than t, path_count g u t is the sum of path_count g w t over the moves from u to w
---                       with which a cheapest walk begins
---   path_count-from   == for v other than a, path_count g a v = inflow g (distance g a) (path_count g a) v, the sum over
---                       the tight neighbours of v
---   counts-unique    == counts that meet the equations are the path counts from a
---   flow-out         == the product path_count g a u * path_count g u b is the sum over the moves by which a cheapest
---                       walk leaves u
---   flow-in          == the product path_count g a v * path_count g v b is the sum over the moves by which a cheapest
---                       walk comes to v
+--   path_count-self == path_count g u u = 1
+--   path_count-pos  == where a walk joins u to t, 0 < path_count g u t
+--   path_count-to   == for u other than t, path_count g u t is the sum of path_count g w t over the moves from u to w
+--                      with which a cheapest walk begins
+--   path_count-from == for v other than a, path_count g a v = inflow g (distance g a) (path_count g a) v, the sum over
+--                      the tight neighbours of v
+--   counts-unique   == counts that meet the equations are the path counts from a
+--   flow-out        == the product path_count g a u * path_count g u b is the sum over the moves by which a cheapest
+--                      walk leaves u
+--   flow-in         == the product path_count g a v * path_count g v b is the sum over the moves by which a cheapest
+--                      walk comes to v
 use Prim.Native.Nat.{ℕ, zero, suc, ◌+◌, ◌*◌, ◌≤◌, ◌<◌}
 use mathlib.Core.Path.{◌≡◌, sym, ap, ◌∙◌}
 use mathlib.Core.Logic.{⊎_elim}

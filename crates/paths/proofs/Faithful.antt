@@ -1,9 +1,9 @@
 -- Distances and path counts are what rules 4.2 and 4.4 say, in terms of walks alone: one statement for a reader who
 -- does not want to look into the listing.
 --
---   walks-listed     == `walks g k u t` has exactly the open walks from u to t that cost k, each once
---   faithful         == `Faithful g u t` in any lawful graph of at most 16,384 vertices
---   path_count-none   == path_count g u t = 0 where no walk joins u to t
+--   walks-listed    == `walks g k u t` has exactly the open walks from u to t that cost k, each once
+--   faithful        == `Faithful g u t` in any lawful graph of at most 16,384 vertices
+--   path_count-none == path_count g u t = 0 where no walk joins u to t
 use Prim.Native.Nat.{ℕ, ◌≤◌, ◌<◌}
 use mathlib.Core.Path.{◌≡◌, refl}
 use mathlib.Core.Logic.{⊎_elim}

@@ -1,16 +1,16 @@
 -- The equations of flow (`Flow`) hold of the true numbers of a job with a route. From the equations alone it follows
 -- that the central rule always finds a next vertex before b.
 --
---   flow-true      == `Flow` of the true costs and counts
---   flow-same      == `Flow` is the same by functions that agree at every vertex, such as lists of the true numbers
---   flow-onward    == `Onward` of a vertex on the way before b with a positive traversal count, where the equations
---                     hold with a positive total
---   flow_next      == from a vertex on the way before b with a positive traversal count, the central rule finds a next
---                     one that is on the way with a positive traversal count, where the equations hold with a positive
---                     total
+--   flow-true        == `Flow` of the true costs and counts
+--   flow-same        == `Flow` is the same by functions that agree at every vertex, such as lists of the true numbers
+--   flow-onward      == `Onward` of a vertex on the way before b with a positive traversal count, where the equations
+--                       hold with a positive total
+--   flow_next        == from a vertex on the way before b with a positive traversal count, the central rule finds a
+--                       next one that is on the way with a positive traversal count, where the equations hold with a
+--                       positive total
 --   Comes next a b v == the walk by the rule `next` from a, which ends at b, comes to v
---   flow-walk      == where the equations hold with a positive total, every vertex before b to which the central rule
---                     comes from a has a next one
+--   flow-walk        == where the equations hold with a positive total, every vertex before b to which the central rule
+--                       comes from a has a next one
 use Prim.Native.Nat.{ℕ, ◌+◌, ◌*◌, ◌≤◌, ◌<◌}
 use mathlib.Core.Path.{◌≡◌, refl, sym, ap, ap₂, ◌∙◌, subst}
 use mathlib.Core.Logic.{⊎_elim}

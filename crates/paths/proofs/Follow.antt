@@ -1,11 +1,11 @@
 -- Following a rule from vertex to vertex.
 --
---   follow-end, follow-on  == `follow next b (n + 1) v` is the list of v alone where v is b, and else v before `follow`
---                             from the next vertex
---   follow-length          == `follow next b n v` has at most n points
---   follow-inside          == the points of `follow` are vertices, where the rule leads from each vertex to a vertex
---   Arrives next b f v     == from v the rule comes to b within f points
---   arrives-begins         == where the rule arrives at b from v, the list of `follow` begins with v
+--   follow-end, follow-on     == `follow next b (n + 1) v` is the list of v alone where v is b, and else v before
+--                                `follow` from the next vertex
+--   follow-length             == `follow next b n v` has at most n points
+--   follow-inside             == the points of `follow` are vertices, where the rule leads from each vertex to a vertex
+--   Arrives next b f v        == from v the rule comes to b within f points
+--   arrives-begins            == where the rule arrives at b from v, the list of `follow` begins with v
 --   follow-cong, arrives-cong == two rules that agree at every vertex have the same list, and both arrive or neither
 use Prim.Native.Nat.{ℕ, zero, suc, ◌≤◌, ◌<◌}
 use mathlib.Core.Path.{◌≡◌, refl, sym, ap, ◌∙◌}

@@ -1,11 +1,11 @@
 -- Walks turned round: as many lead from u to t as from t to u, at each cost. The argument sums over the first move and
 -- over the last in either order; walks of one move are turned round by the opposite move.
 --
---   along-cong      == along g k u F m ≡ along g k u G m, where F r w ≡ G r w for the w and r of move m
---   count-last      == count g k u t by the last move, which is the opposite of a move from t
---   count-sym       == count g k u t ≡ count g k t u
---   distance-sym    == distance g u t ≡ distance g t u
---   path_count-sym   == path_count g u t ≡ path_count g t u
+--   along-cong     == along g k u F m ≡ along g k u G m, where F r w ≡ G r w for the w and r of move m
+--   count-last     == count g k u t by the last move, which is the opposite of a move from t
+--   count-sym      == count g k u t ≡ count g k t u
+--   distance-sym   == distance g u t ≡ distance g t u
+--   path_count-sym == path_count g u t ≡ path_count g t u
 use Prim.Native.Nat.{ℕ, zero, suc, ◌+◌, ◌-◌, ◌≤◌, ◌<◌}
 use mathlib.Core.Path.{◌≡◌, refl, sym, ap, ap₂, ◌∙◌, fun_ext}
 use mathlib.Core.Logic.{⊎_elim}

@@ -1,9 +1,9 @@
 -- The central route: there is always a next vertex before b, and the route is a cheapest walk from a to b.
 --
---   next-there        == on the way before b there is a next vertex, whatever counts T the rule goes by
---   next-arrives      == the rule comes from a vertex v on the way to b within n points, where fewer than n vertices
---                        are nearer to b than v, whatever T is
---   next-walk         == the list that the rule follows from a vertex on the way to b is a cheapest walk, whatever T is
+--   next-there   == on the way before b there is a next vertex, whatever counts T the rule goes by
+--   next-arrives == the rule comes from a vertex v on the way to b within n points, where fewer than n vertices are
+--                   nearer to b than v, whatever T is
+--   next-walk    == the list that the rule follows from a vertex on the way to b is a cheapest walk, whatever T is
 --   route-arrives, route-walk, route-length, route-begins, route_inside == the central route comes to b, is a cheapest
 --                        walk, has at most as many points as there are vertices, begins with a, and its points are
 --                        vertices

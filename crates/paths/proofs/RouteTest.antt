@@ -3,9 +3,8 @@
 --
 --   point-last, point-on, point-past == `right_point` at place i, where its point is b, where it is before b, and where
 --                            i is past the points
---   route-true            == a list that passes is the route from a with zeros after it, and n is the length of the
---                            route
---   true-route            == the route from a with zeros after it, and its length, pass, where the rule arrives at b
+--   route-true == a list that passes is the route from a with zeros after it, and n is the length of the route
+--   true-route == the route from a with zeros after it, and its length, pass, where the rule arrives at b
 use Prim.Native.Nat.{ℕ, zero, suc, ◌+◌, ◌≤◌, ◌<◌}
 use mathlib.Core.Path.{◌≡◌, refl, sym, ap, ◌∙◌}
 use mathlib.Core.Logic.{⊎_elim}

@@ -1,20 +1,20 @@
 -- The tests of a whole sheet, vertex by vertex, are exact: they pass on the true sheets and on nothing else.
 --
---   numbers-exact         == `local_numbers` passes exactly where the costs and counts of a sheet are those of a job
---                            with a route (`TrueNumbers`)
---   numbers_fit           == where `local_numbers` passes, f(v) * b(v) is at most f(B) at each vertex v, so that it fits
---                            where the total does
---   local-on, local-next  == where `local_numbers` passes, `local_on` and `local_next` are `on_way` and `next_vertex` of the
---                            true numbers
---   sheet-flow            == where `local_numbers` passes, the sheet's numbers meet the equations of flow
---   sheet-leads           == where `local_numbers` passes, a move leads on from each vertex on the way before b
---   right-next            == where `local_numbers` passes, `right_next` says that the next vertex on the sheet is
---                            `next_number`
+--   numbers-exact          == `local_numbers` passes exactly where the costs and counts of a sheet are those of a job
+--                             with a route (`TrueNumbers`)
+--   numbers_fit            == where `local_numbers` passes, f(v) * b(v) is at most f(B) at each vertex v, so that it
+--                             fits where the total does
+--   local-on, local-next   == where `local_numbers` passes, `local_on` and `local_next` are `on_way` and `next_vertex`
+--                             of the true numbers
+--   sheet-flow             == where `local_numbers` passes, the sheet's numbers meet the equations of flow
+--   sheet-leads            == where `local_numbers` passes, a move leads on from each vertex on the way before b
+--   right-next             == where `local_numbers` passes, `right_next` says that the next vertex on the sheet is
+--                             `next_number`
 --   local-true, true-local == among the sheets whose total fits, `local_route` passes on the true route sheet alone
 --   local_route-exact      == `local_route` passes on a sheet whose total fits exactly where it is the true route sheet
 --   route-flow                   == the numbers of the true route sheet meet the equations of flow
 --   local-no_route, no_route-local == `local_no_route` passes on the true no_route sheet alone
---   local_no_route-exact    == `local_no_route` passes exactly where a sheet is the true no_route sheet
+--   local_no_route-exact   == `local_no_route` passes exactly where a sheet is the true no_route sheet
 use Prim.Native.Nat.{ℕ, ◌*◌, ◌^◌, ◌≤◌, ◌<◌}
 use mathlib.Core.Path.{◌≡◌, sym, ap, ap₂, ◌∙◌}
 use mathlib.Core.Logic.{◌↔◌, ⊎_elim}

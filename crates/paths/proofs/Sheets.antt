@@ -4,14 +4,14 @@
 --   Outcome, outcome    == each job has a true route sheet, or a true no_route sheet, or neither because the total is
 --                          above 2^64 - 1
 --   true_route-one, true_no_route-one == a job has at most one true sheet of each kind
---   lengths_are n s      == the test that each slice of the sheet s has n places
+--   lengths_are n s     == the test that each slice of the sheet s has n places
 --   lengths-shaped, shaped-lengths == it passes exactly where `Shaped n s`
 --   sheet-eq            == two sheets are equal whose parts are equal
---   same_sheet-exact     == `same_sheet s t` holds exactly where s ≡ t
+--   same_sheet-exact    == `same_sheet s t` holds exactly where s ≡ t
 --   TrueNumbers g a b s == the sheet s has the true costs and counts of a job with a route
---   route_sheet-of       == a sheet with `TrueNumbers`, the next vertices and the central route is the true route sheet
+--   route_sheet-of      == a sheet with `TrueNumbers`, the next vertices and the central route is the true route sheet
 --   Blank s v           == s has 0 for vertex v in every slice but d
---   no_route_sheet-of     == a sheet with the true costs, no points and `Blank` at each vertex is the true no_route sheet
+--   no_route_sheet-of   == a sheet with the true costs, no points and `Blank` at each vertex is the true no_route sheet
 --   RouteEntries, route-entries == what a true route sheet holds, place by place, and its bounds
 --   NoRouteEntries, no_route-entries == what a true no_route sheet holds, place by place, and its bounds
 --   d-bound, e-bound    == a cost on a true route sheet that is below `unreachable` is at most the dearest move times

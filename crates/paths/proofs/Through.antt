@@ -1,10 +1,10 @@
 -- The walks from a through v to b are among the walks from a to b. So where the total fits, every count and traversal
 -- count on the way does.
 --
---   count-through         == count g j a v * count g k v b ≤ count g (j + k) a b
---   path_count-through     == on the way, path_count a v * path_count v b ≤ path_count a b
---   path_count-le-from     == on the way, path_count a v ≤ path_count a b
---   path_count-le-to       == on the way, path_count v b ≤ path_count a b
+--   count-through      == count g j a v * count g k v b ≤ count g (j + k) a b
+--   path_count-through == on the way, path_count a v * path_count v b ≤ path_count a b
+--   path_count-le-from == on the way, path_count a v ≤ path_count a b
+--   path_count-le-to   == on the way, path_count v b ≤ path_count a b
 use Prim.Native.Nat.{ℕ, zero, suc, ◌+◌, ◌-◌, ◌*◌, ◌≤◌, ◌<◌}
 use mathlib.Core.Path.{◌≡◌, sym, subst}
 use mathlib.Core.Logic.{⊎_elim}

@@ -1,9 +1,9 @@
 -- The cheapest cost between two vertices, and the number of cheapest walks.
 --
---   unreachable       == M of rule 4.2, the cost where no walk joins two vertices
---   distance g u t    == the least cost of an open walk from u to t; d(v) is `distance g a v`, e(v) is `distance g v b`
---   path_count g u t   == the number of different open walks from u to t that cost `distance g u t`
---   nonempty l        == the list l is not empty
+--   unreachable      == M of rule 4.2, the cost where no walk joins two vertices
+--   distance g u t   == the least cost of an open walk from u to t; d(v) is `distance g a v`, e(v) is `distance g v b`
+--   path_count g u t == the number of different open walks from u to t that cost `distance g u t`
+--   nonempty l       == the list l is not empty
 use Rattle.std.specs.Prelude.{ℕ, Bool, true, false, List, [], ◌∷◌, length}
 use Rattle.basics.specs.Bounded.{seek}
 use Rattle.paths.specs.Graph.{Graph}

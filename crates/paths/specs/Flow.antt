@@ -2,12 +2,12 @@
 -- specs/Route, the test `on` of what is on the way, the costs D and the counts F and B are functions of the vertex.
 --
 --   flow_along g on D F B v m == the flow along move m of v: F v * B w where the move is open and leads to a w on the
---                               way with D w = D v + its cost, else 0
+--                                way with D w = D v + its cost, else 0
 --   flow_out g on D F B v     == the sum of `flow_along g on D F B v m` over the moves m
 --   leads_to g u m v          == move m of u is open and leads to v
 --   flow_in g on D F B v      == the sum of the flow along the moves that lead to v, from every u on the way
---   Flow g a b on D F B t    == at each vertex on the way, F v * B v = flow_out but at b, and F v * B v = flow_in but at
---                               a; at a and at b it is the total t
+--   Flow g a b on D F B t     == at each vertex on the way, F v * B v = flow_out but at b, and F v * B v = flow_in but
+--                                at a; at a and at b it is the total t
 use Rattle.std.specs.Prelude.{ℕ, ◌*◌, ◌<◌, ◌≡◌, Bool, true, false, eqb}
 use Rattle.std.proofs.Math.Option.{none, some}
 use Rattle.basics.specs.Bounded.{pick, sum}

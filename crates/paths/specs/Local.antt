@@ -2,28 +2,28 @@
 -- Tests of a sheet vertex by vertex, each of which reads a vertex and its neighbours alone. They pass on the true
 -- numbers and on no others. The checker runs them; the planner establishes them.
 --
---   inflow g D F v          == the sum of F w over the neighbours w of v with D w + cost = D v
---   relaxed g D v           == D w ≤ D v + cost for every neighbour w of v
---   tight g D v             == D w + cost = D v for some neighbour w of v
---   right_costs g a D        == D a = 0, and D v is right by its neighbours (`right_cost`) for every vertex v: D has the
---                              distances from a
---   count_at g a on D F v    == 1 at a, `inflow g D F v` at another vertex v with `on`, and 0 elsewhere
---   right_counts g a on D F  == F v = count_at g a on D F v for every vertex v: F has the path counts from a where `on`,
---                              and 0 elsewhere
+--   inflow g D F v             == the sum of F w over the neighbours w of v with D w + cost = D v
+--   relaxed g D v              == D w ≤ D v + cost for every neighbour w of v
+--   tight g D v                == D w + cost = D v for some neighbour w of v
+--   right_costs g a D          == D a = 0, and D v is right by its neighbours (`right_cost`) for every vertex v: D has
+--                                 the distances from a
+--   count_at g a on D F v      == 1 at a, `inflow g D F v` at another vertex v with `on`, and 0 elsewhere
+--   right_counts g a on D F    == F v = count_at g a on D F v for every vertex v: F has the path counts from a where
+--                                 `on`, and 0 elsewhere
 --   right_point v next b n R i == place i of a route R of n points, each a number below v: where i < n, R i is b at the
---                              last place, and elsewhere R (i + 1) is the next vertex of R i; where n ≤ i, R i is 0
+--                                 last place, and elsewhere R (i + 1) is the next vertex of R i; where n ≤ i, R i is 0
 --   right_route v next a b n R == R has the n points from a to b by the rule `next`, then 0
---   Shaped n s              == the slices of the sheet s have n places each
---   local_on, local_next      == whether a vertex is on the way, and its next vertex, by the numbers of a sheet
---   local_numbers g a b s    == d, e, f and b of the sheet s are those of a job with a route
---   right_next g b s v       == the next vertex of v on the sheet s is right: that of the central rule on the way before
---                              b, b at b, 0 elsewhere
---   by_next s v              == the rule that leads from v to its next vertex on the sheet s
---   local_route g a b s      == costs, counts, next vertices, route and n of the sheet s are right: where its total
---                              fits, s is the true route sheet
---   blank_at s v             == s has 0 for vertex v in every slice but d
---   local_no_route g a b s    == the costs from a of the sheet s are right and b is unreached, n is 0 and `blank_at` every
---                              vertex: s is the true no_route sheet
+--   Shaped n s                 == the slices of the sheet s have n places each
+--   local_on, local_next       == whether a vertex is on the way, and its next vertex, by the numbers of a sheet
+--   local_numbers g a b s      == d, e, f and b of the sheet s are those of a job with a route
+--   right_next g b s v         == the next vertex of v on the sheet s is right: that of the central rule on the way
+--                                 before b, b at b, 0 elsewhere
+--   by_next s v                == the rule that leads from v to its next vertex on the sheet s
+--   local_route g a b s        == costs, counts, next vertices, route and n of the sheet s are right: where its total
+--                                 fits, s is the true route sheet
+--   blank_at s v               == s has 0 for vertex v in every slice but d
+--   local_no_route g a b s     == the costs from a of the sheet s are right and b is unreached, n is 0 and `blank_at`
+--                                 every vertex: s is the true no_route sheet
 use Rattle.std.specs.Prelude.{ℕ, suc, ◌+◌, ◌*◌, ◌≡◌, Bool, true, false, ◌&&◌, ◌||◌, List, leb, ltb, eqb, length, get_or}
 use Rattle.std.proofs.Math.Option.{Option, none, some}
 use Rattle.basics.specs.Bounded.{pick, every, any, sum}

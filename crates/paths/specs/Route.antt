@@ -6,14 +6,14 @@
 --   on_way g a b v         == v is on the way from a to b, by the true costs
 --   count_from g a b v     == f(v) of the sheet: the path count from a to v where v is on the way, 0 elsewhere
 --   count_to g a b v       == b(v) of the sheet: the path count from v to b where v is on the way, 0 elsewhere
---   traversals g a b v    == the traversal count f(v) * b(v)
---   candidate g on D v m  == the far end w of move m from v where the route may go on to w, else none
+--   traversals g a b v     == the traversal count f(v) * b(v)
+--   candidate g on D v m   == the far end w of move m from v where the route may go on to w, else none
 --   next_vertex g on D T v == the vertex to which the route goes from v; none where there is no candidate. On the way
---                            before b there always is one (`flow-walk`, `next-there`)
---   follow next b n v     == the vertices from v to b by the rule `next`, at most n of them
+--                             before b there always is one (`flow-walk`, `next-there`)
+--   follow next b n v      == the vertices from v to b by the rule `next`, at most n of them
 --   central_route g a b    == the vertices of the central route, a and b among them
 --   next_number g a b v    == the next vertex of the sheet: that of the central rule on the way before b, b at b, 0
---                            elsewhere
+--                             elsewhere
 use Rattle.std.specs.Prelude.{ℕ, zero, suc, ◌+◌, ◌*◌, Bool, true, false, ◌&&◌, List, [], ◌∷◌, ltb, eqb}
 use Rattle.std.proofs.Math.Option.{Option, none, some}
 use Rattle.basics.specs.Bounded.{pick}

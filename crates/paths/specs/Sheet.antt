@@ -1,13 +1,13 @@
 -- docs/RULES.md, section 5: the sheet, and the two true ones.
 --
---   Sheet                 == the slices d, e, f, b and route (rule 5.1), the slice next, and the point count n
+--   Sheet                  == the slices d, e, f, b and route (rule 5.1), the slice next, and the point count n
 --   sheet_of d e f b r x n == the sheet with these slices and this point count
---   joined g a b          == an open walk joins a to b
---   fits g a b            == the total f(B) is at most 2^64 - 1
+--   joined g a b           == an open walk joins a to b
+--   fits g a b             == the total f(B) is at most 2^64 - 1
 --   route_sheet g a b      == the one true route sheet, where a walk joins a to b and the total fits
---   no_route_sheet g a      == the one true no_route sheet, where no walk joins the ends
---   TrueRoute g a b s     == s is the true route sheet of the job from a to b, and the job has one
---   TrueNoRoute g a b s   == s is the true no_route sheet of the job from a to b, and the job has one
+--   no_route_sheet g a     == the one true no_route sheet, where no walk joins the ends
+--   TrueRoute g a b s      == s is the true route sheet of the job from a to b, and the job has one
+--   TrueNoRoute g a b s    == s is the true no_route sheet of the job from a to b, and the job has one
 --   same_sheet s t         == the two sheets have the same numbers, tested
 use Rattle.std.specs.Prelude.{ℕ, ◌^◌, ◌≡◌, Bool, true, false, ◌&&◌, List, ltb, eqb, length}
 use Rattle.basics.specs.Lists.{tabulate, padded, zeros, same}

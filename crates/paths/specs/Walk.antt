@@ -1,11 +1,12 @@
 -- Open walks (rule 4.1): "a list of vertices, each joined to the next by an open move. Its cost is the sum"; and the
 -- open walks of a given cost, listed ("The definition lists walks; it doesn't run the summing").
 --
---   Walk g k u t l   == the list l is an open walk from u to t that costs k
---   HasWalk g k u t  == there is an open walk from u to t that costs k
---   Distinct l       == no two places of the list l have the same element
+--   Walk g k u t l        == the list l is an open walk from u to t that costs k
+--   HasWalk g k u t       == there is an open walk from u to t that costs k
+--   Distinct l            == no two places of the list l have the same element
 --   ListsWalks g k u t ls == ls has exactly the open walks from u to t that cost k, each once
---   walks g k u t    == the list of the open walks from u to t that cost k (`walks-listed`, in proofs/Faithful.antt)
+--   walks g k u t         == the list of the open walks from u to t that cost k (`walks-listed`, in
+--                            proofs/Faithful.antt)
 --
 -- The listing goes by the first move: a walk is the vertex u alone, at cost 0, or an open move from u and then a walk
 -- from its far end. Every move costs 1 or more, so a walk of cost k has at most k moves: that number bounds the

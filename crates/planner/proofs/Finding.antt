@@ -1,14 +1,14 @@
 -- A route is found: each part of `find_route` has what it requires, by what the part before it leaves.
 --
---   found-costing               == the costs from b can be filled; they are the costs to b
+--   found-costing                  == the costs from b can be filled; they are the costs to b
 --   found-few, found-sized, found-same, found-input, found-known == what the counting passes require of the lengths,
 --                                  the masks and the costs
 --   found-choosable, found-numbers == where the total fits, the next vertices can be chosen, and are those of the sheet
---   found-walkable              == the route can be written
---   found-many, found-route     == `Finished` where the total does not fit, and where it does
---   finish-none                 == `Finished` where no walk joins the ends
---   finish-findable             == `Findable` where a walk joins the ends
---   finish-cleared              == `Finished` of slices whose working slice was cleared
+--   found-walkable                 == the route can be written
+--   found-many, found-route        == `Finished` where the total does not fit, and where it does
+--   finish-none                    == `Finished` where no walk joins the ends
+--   finish-findable                == `Findable` where a walk joins the ends
+--   finish-cleared                 == `Finished` of slices whose working slice was cleared
 use Prim.Native.Nat.{ℕ, ◌*◌, ◌≤◌, ◌<◌}
 use mathlib.Core.Path.{◌≡◌, refl, sym, ap, ◌∙◌, subst}
 use mathlib.Core.Bool.{Bool, true, false}

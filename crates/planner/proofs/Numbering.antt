@@ -2,8 +2,8 @@
 --
 --   TrueLists g dirs shifts a b d e f back work == the lists have the true costs and counts of a job on graph g that
 --                          has a route and whose total fits, and the masks
---   true-choosable      == where `TrueLists`, `Choosable`
---   true-numbers        == where `TrueLists`, `number_at` of every vertex is `next_number`
+--   true-choosable         == where `TrueLists`, `Choosable`
+--   true-numbers           == where `TrueLists`, `number_at` of every vertex is `next_number`
 --   number-off, -goal, -to == `number_of` of a vertex off the way, of b, and of a vertex on the way before b
 --   numbered-none, -more, -off, -all == `NumberedTo` at the start, one vertex further, past vertices off the way, and
 --                          at the end

@@ -1,14 +1,14 @@
 -- The tests of the shape of a job in the planner's operations, and what each says of the answer.
 --
---   lent_of                       == `FullSlices`, where `lengths_good`
---   full-sized                    == `slices_sized`, where `FullSlices`
---   lengths-bad                   == `slices_sized` is false, where `lengths_good` is
---   fills-refused, fills-fit      == the first operation's answer by the shape of the job
---   costs-long, -cramped, -filled == the first operation's answer by the lengths of its slices
+--   lent_of                        == `FullSlices`, where `lengths_good`
+--   full-sized                     == `slices_sized`, where `FullSlices`
+--   lengths-bad                    == `slices_sized` is false, where `lengths_good` is
+--   fills-refused, fills-fit       == the first operation's answer by the shape of the job
+--   costs-long, -cramped, -filled  == the first operation's answer by the lengths of its slices
 --   finishes-refused, finishes-fit == the second operation's answer by the shape of the job
---   job-unsized, -false, -true    == the second operation's answer by the lengths of its slices and the test of d
---   job-finishable                == `Finishable`, where d has passed its test
---   finishable-on                 == `Finishable` with another working slice of the same length
+--   job-unsized, -false, -true     == the second operation's answer by the lengths of its slices and the test of d
+--   job-finishable                 == `Finishable`, where d has passed its test
+--   finishable-on                  == `Finishable` with another working slice of the same length
 use Prim.Native.Nat.{ℕ, ◌*◌}
 use mathlib.Core.Path.{◌≡◌, sym, ◌∙◌}
 use mathlib.Core.Bool.{Bool, true, false, not}

@@ -1,13 +1,13 @@
 -- The loop that writes the central route: after n points, v is where the route goes on.
 --
---   by_number g a b v      == the rule that leads from v to `next_number g a b v`
---   Walking g a b n v r   == r has the first n points and 0 after them, and the rest of the route begins with v
---   walking_start         == `Walking` with no point written, at a
---   walking-room          == where `Walking` holds after n points, r has a place for one more
---   next-number           == the number that the code reads from the slice is `next_number`
---   walking-more          == `Walking` one point further
---   walking-end           == at b, with one point more, r is the whole route
---   Stepping ..           == the invariant of the loop: `Walking` on every graph of which the lists are `Walkable`
+--   by_number g a b v   == the rule that leads from v to `next_number g a b v`
+--   Walking g a b n v r == r has the first n points and 0 after them, and the rest of the route begins with v
+--   walking_start       == `Walking` with no point written, at a
+--   walking-room        == where `Walking` holds after n points, r has a place for one more
+--   next-number         == the number that the code reads from the slice is `next_number`
+--   walking-more        == `Walking` one point further
+--   walking-end         == at b, with one point more, r is the whole route
+--   Stepping ..         == the invariant of the loop: `Walking` on every graph of which the lists are `Walkable`
 --   step_start, step-more, step_end == `Stepping` at the start and one turn further; what it gives at the end
 use Prim.Native.Nat.{ℕ, suc, ◌+◌, ◌-◌, ◌≤◌, ◌<◌}
 use mathlib.Core.Path.{◌≡◌, refl, sym, ap, ◌∙◌, subst}

@@ -1,12 +1,12 @@
 -- The central route is a joined list, which thinning requires: each of its moves is open, and the ends of an open move
 -- see each other. The zeros after it in the route slice change neither the kept positions nor the lines.
 --
---   open-sees       == the ends of an open move see each other
---   walk-sees       == each vertex of an open walk sees the next
---   central-joined  == the central route in the route slice is a joined list
---   get_or-pad        == get_or (padded n l) i 0 = get_or l i 0
---   kept-padded     == the kept positions of a list are the same with zeros after it
---   route-padded    == the two lines of a route are the same with zeros after its points
+--   open-sees      == the ends of an open move see each other
+--   walk-sees      == each vertex of an open walk sees the next
+--   central-joined == the central route in the route slice is a joined list
+--   get_or-pad     == get_or (padded n l) i 0 = get_or l i 0
+--   kept-padded    == the kept positions of a list are the same with zeros after it
+--   route-padded   == the two lines of a route are the same with zeros after its points
 use Prim.Native.Nat.{ℕ, zero, suc, ◌≤◌, ◌<◌, pred}
 use mathlib.Core.Path.{◌≡◌, refl, sym, ap, ap₂, ◌∙◌, subst, fun_ext}
 use mathlib.Core.Logic.{⊎_elim}

@@ -1,10 +1,9 @@
 -- The lines of a job are those of the answer that the planner gives.
 --
---   slices-sized   == slices of the lengths that a small floor needs are not refused with 6
---   answer-text    == job_text is `answer_text` of the planner's answer
---   found-route    == where the answer is a route, the job is fit and the route slice has the central route
---   ready-room     == what is ready for a job has room for its lines
---   routable       == `Routable` of the route slice, where the answer is a route
+--   planned-as   == `JobPlanned` of an equal answer
+--   found-route  == where the answer is a route, the job is fit and the route slice has the central route
+--   ready-room   == what is ready for a job has room for its lines
+--   routable     == `Routable` of the route slice, where the answer is a route
 --   refused-written, found-written == `JobWritten` where the answer is a refusal, and where it is a route
 use Prim.Native.Nat.{ℕ, ◌≤◌, ◌<◌}
 use mathlib.Core.Path.{◌≡◌, refl, sym, ap, ap₂, ◌∙◌}

@@ -1,30 +1,30 @@
 -- Used by contracts between functions; nobody has to believe it: laws tie it to the definitions.
 -- What the functions of this crate require, and what they leave.
 --
---   SmallFloor w h map   == a floor of good shape with sides of at most 31 cells
---   JobSlices v ..       == the slices of the sheet and the slice of kept positions have v places, the working slice 4
---                           * v
---   room_of v             == the bytes that the lines of a job on v vertices may take: 160 for the first line, and for
---                           the second 6 for each vertex, and 3 for "at" and its end
---   Ready ..             == `SmallFloor`, `JobSlices` for its vertices, and room for the lines of a job
---   Room ..              == of these, what the writing of a job's lines takes
---   JobPlanned ..        == r is the answer to the job, and after a route the route slice has its points; of the other
---                           slices nothing is said
+--   SmallFloor w h map        == a floor of good shape with sides of at most 31 cells
+--   JobSlices v ..            == the slices of the sheet and the slice of kept positions have v places, the working
+--                                slice 4 * v
+--   room_of v                 == the bytes that the lines of a job on v vertices may take: 160 for the first line, and
+--                                for the second 6 for each vertex, and 3 for "at" and its end
+--   Ready ..                  == `SmallFloor`, `JobSlices` for its vertices, and room for the lines of a job
+--   Room ..                   == of these, what the writing of a job's lines takes
+--   JobPlanned ..             == r is the answer to the job, and after a route the route slice has its points; of the
+--                                other slices nothing is said
 --   answer_kept f points kept r == the slice of kept positions after the answer r, where it held `kept` before
---   kept_left ..          == the slice of kept positions after a job: the kept positions of its central route, then 0;
---                           unchanged where the job is refused
---   JobWritten ..        == the lines of the job are in the buffer, and the kept positions in their slice
---   Routable ..          == a small floor and a list of its vertices, each of which sees the next
---   RouteWritten ..      == the two lines of the route are in the buffer, from its start on
---   CellsIn s m map      == the cells of the map m are within the input s, and the slice has the length of a stored map
---                           of them
---   text_from s w h map c == what the program writes from the cursor c on, which is past the map
---   turn_text r out rest  == the text that the turn r wrote into `out`, then `rest` of the cursor that it answers
---   bytes_of r            == the number of bytes that the turn r wrote
+--   kept_left ..              == the slice of kept positions after a job: the kept positions of its central route, then
+--                                0; unchanged where the job is refused
+--   JobWritten ..             == the lines of the job are in the buffer, and the kept positions in their slice
+--   Routable ..               == a small floor and a list of its vertices, each of which sees the next
+--   RouteWritten ..           == the two lines of the route are in the buffer, from its start on
+--   CellsIn s m map           == the cells of the map m are within the input s, and the slice has the length of a
+--                                stored map of them
+--   text_from s w h map c     == what the program writes from the cursor c on, which is past the map
+--   turn_text r out rest      == the text that the turn r wrote into `out`, then `rest` of the cursor that it answers
+--   bytes_of r                == the number of bytes that the turn r wrote
 --   Moves s c r, GoesOn s c r == the cursor that the turn r answers, if any, is further on than c and within the input
---                           s, a job is due there, and it is `Reached` where c is
---   TurnWritten ..       == the text of the turn r and the text from the cursor that it answers are the text from c on,
---                           for every input with the same record at c; of the other slices nothing is said
+--                                s, a job is due there, and it is `Reached` where c is
+--   TurnWritten ..            == the text of the turn r and the text from the cursor that it answers are the text from
+--                                c on, for every input with the same record at c; of the other slices nothing is said
 use Rattle.std.specs.Prelude.{ℕ, ◌+◌, ◌*◌, ◌≤◌, ◌<◌, ◌≡◌, true, List, ◌++◌, length, take}
 use Rattle.basics.specs.Lists.{padded}
 use Rattle.floor.specs.Floor.{Floor, map_length, floor_of, vertices}

@@ -1,10 +1,10 @@
 -- The decimal digits of a number: their recursion, their number, and that they are the right ones.
 --
---   value l          == the number with the digits l
---   all_digits l      == each byte of l is a digit, 30 to 39 hex
---   decimal-value    == value (decimal n) = n
---   decimal-digits   == all_digits (decimal n)
---   decimal-leading  == the first digit of `decimal n` is not 0 where 1 ≤ n
+--   value l         == the number with the digits l
+--   all_digits l    == each byte of l is a digit, 30 to 39 hex
+--   decimal-value   == value (decimal n) = n
+--   decimal-digits  == all_digits (decimal n)
+--   decimal-leading == the first digit of `decimal n` is not 0 where 1 ≤ n
 use Prim.Native.Nat.{ℕ, zero, suc, ◌+◌, ◌-◌, ◌*◌, ◌/◌, ◌%◌, ◌^◌, ◌≤◌, ◌<◌}
 use mathlib.Core.Path.{◌≡◌, refl, sym, ap, ◌∙◌}
 use mathlib.Core.Logic.{⊎_elim}

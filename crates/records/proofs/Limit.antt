@@ -1,8 +1,8 @@
 -- How many bytes of an input can matter: the map, 1,000 jobs, and one byte more, which is a job too many.
 --
---   stream-limit   == stream_of s = stream_of (take longest s)
---   cells-limit    == the cells of the map of s are those of the map of `take longest s`
---   limit-settled  == `Settled p c` for every cursor c that is `Reached`, where p has `longest` bytes or more
+--   stream-limit  == stream_of s = stream_of (take longest s)
+--   cells-limit   == the cells of the map of s are those of the map of `take longest s`
+--   limit-settled == `Settled p c` for every cursor c that is `Reached`, where p has `longest` bytes or more
 --   reached-first, reached-map, reached-job == `Reached` of the first cursor, and of the cursor past a map and past a
 --                     job
 use Prim.Native.Nat.{ℕ, zero, suc, ◌+◌, ◌*◌, ◌≤◌, ◌<◌}

@@ -1,22 +1,24 @@
 -- docs/RULES.md, 16.1 to 16.5: the byte stream of one map record and up to 1,000 job records.
 --
---   word_at s p         == the 16-bit little-endian number at place p of the bytes s
---   marked_at s p a b   == the two bytes at p are a and b
---   whole_at s p n      == s has the n bytes from place p on
+--   word_at s p              == the 16-bit little-endian number at place p of the bytes s
+--   marked_at s p a b        == the two bytes at p are a and b
+--   whole_at s p n           == s has the n bytes from place p on
 --   wide_at s p, high_at s p == the sides of a map record at place p
 --   good_map s p, good_job s p == the bytes from place p on are a good map record, and a good job record
 --   map_in, past_map, job_in, past_job == the map or the job of a good record, and the cursor past it
---   map_at s p          == the record at place p where the map is due: the map, or a bad record
---   job_at s p k        == the record at place p where job k is due: the job, or a bad record
---   record_at s c       == what a step of the cursor c finds in s: a map, a job, the end of the input, or the place of a
---                         bad record
---   start_cursor        == the cursor at the start of a stream
---   cells_of s m        == the bytes of the cells of the map m, row by row
---   Stream             == what is read of a stream: its map, its jobs, and the place of a bad record
---   ended, bad_at p     == the stream of which nothing is left to read, and one that goes on with a bad record at p
+--   map_at s p               == the record at place p where the map is due: the map, or a bad record
+--   job_at s p k             == the record at place p where job k is due: the job, or a bad record
+--   record_at s c            == what a step of the cursor c finds in s: a map, a job, the end of the input, or the
+--                               place of a bad record
+--   start_cursor             == the cursor at the start of a stream
+--   cells_of s m             == the bytes of the cells of the map m, row by row
+--   Stream                   == what is read of a stream: its map, its jobs, and the place of a bad record
+--   ended, bad_at p          == the stream of which nothing is left to read, and one that goes on with a bad record at
+--                               p
 --   with_map m t, with_job j t == the stream t with the map m, and with the job j in front of its jobs
---   stream_from s c     == what is read from the cursor c on: the map, the jobs in order, the place of the bad record
---   stream_of s         == what is read of the whole input s
+--   stream_from s c          == what is read from the cursor c on: the map, the jobs in order, the place of the bad
+--                               record
+--   stream_of s              == what is read of the whole input s
 --
 -- A cursor has the place of the next record, `at`, and the number of that record, `due`: 0 for the map, k for job k. A
 -- cursor past the end of the input finds what one at the end finds. A byte past the end reads as 0, which is no mark

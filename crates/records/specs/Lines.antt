@@ -1,14 +1,14 @@
 -- docs/RULES.md, 16.6 to 16.9: the lines of the output, as bytes.
 --
---   ascii t        == the bytes of the text t
---   decimal n      == the digits of n, the highest first: no leading zero, and 0 is "0"
---   field t n      == the text t, then the digits of n
---   fields vs      == the numbers vs, each after a space
+--   ascii t          == the bytes of the text t
+--   decimal n        == the digits of n, the highest first: no leading zero, and 0 is "0"
+--   field t n        == the text t, then the digits of n
+--   fields vs        == the numbers vs, each after a space
 --   refused_line n r == job N: refused R
 --   route_line n cost routes points kept == job N: cost C routes T points P kept K
---   at_line vs      == at V1 V2 .., the vertices vs with one space between and none at the end
---   bad_line k      == bad record at K
---   kept_of k ps vs == the elements of vs at the first k positions of ps
+--   at_line vs       == at V1 V2 .., the vertices vs with one space between and none at the end
+--   bad_line k       == bad record at K
+--   kept_of k ps vs  == the elements of vs at the first k positions of ps
 --
 -- Each line ends with the byte 0A hex, "\n".
 use Rattle.std.specs.Prelude.{ℕ, zero, suc, ◌+◌, ◌/◌, ◌%◌, true, false, List, [], ◌∷◌, ◌++◌, ltb, get_or}

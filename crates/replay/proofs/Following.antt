@@ -1,8 +1,8 @@
 -- One more record, as the code takes it: each of its tests decides the cost at which the record follows, and the
 -- progress after it.
 --
---   follow-pinch, -first, -still, -move == `follow_cost` on a pinch, for the first record, for standing still, and for a
---                                          move
+--   follow-pinch, -first, -still, -move == `follow_cost` on a pinch, for the first record, for standing still, and for
+--                                          a move
 --   first-is, first-stays               == the vertex of the first record, where none was read before, and where some
 --                                          were
 --   taken-later, -shut, -at             == `after_stop` where a record before could not follow, where this one cannot,

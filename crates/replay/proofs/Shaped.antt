@@ -1,14 +1,14 @@
 -- The tests of the shape of a replay, and the answer for the reading of a log.
 --
---   log-long, -costs, -work, -fits       == `log_shape` by the lengths: refusals 16 and 6, and a good shape
---   replay-refused, replay-rest          == the shape, once floor and neighbourhood are tested
+--   log-long, -costs, -work, -fits == `log_shape` by the lengths: refusals 16 and 6, and a good shape
+--   replay-refused, replay-rest    == the shape, once floor and neighbourhood are tested
 --   refused-floor, -neighbourhood, -log, fit-log == the shape by the tests in order
---   job-replayable                       == `Replayable` where the shape is fit
---   replays-refused, replays-fit         == `Replays` where the shape is refused, and where it is fit
---   faultless-is                         == `faultless_in` of the reading is `faultless` of the log
+--   job-replayable                 == `Replayable` where the shape is fit
+--   replays-refused, replays-fit   == `Replays` where the shape is refused, and where it is fit
+--   faultless-is                   == `faultless_in` of the reading is `faultless` of the log
 --   faulty-judged, start-good, faultless-judged == `Judged` of a log with a fault and of a faultless one, whose first
 --                                           record is a good start for the costs
---   answered                             == `ReplaysLog` of the answer `answer_in` of the reading
+--   answered                       == `ReplaysLog` of the answer `answer_in` of the reading
 use Prim.Native.Nat.{ℕ, ◌+◌, ◌*◌, ◌≤◌, ◌<◌}
 use mathlib.Core.Path.{◌≡◌, refl, sym, ap, ap₂, ◌∙◌}
 use mathlib.Core.Bool.{Bool, true, false, ◌&&◌, not}

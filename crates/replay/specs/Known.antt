@@ -1,25 +1,25 @@
 -- Used by contracts between functions; nobody has to believe it: laws tie it to the definitions.
 -- What the functions of the replay require and leave.
 --
---   leg_of o                  == the cost o at which a record follows, as the code answers it
---   Drivable w h map dirs    == the floor and the directions of the neighbourhood are good
---   progress_of n c f a b     == the progress with n records read, cost c, followed f, and first and last stops a and b
---   before s                 == the vertex of the last record read; none where none was read
---   after_stop g p s v        == the progress s after one more record, of vertex v
---   after_stops g p s l       == the progress s after records of the stops l, one by one
---   start_progress            == the progress before the first record
---   Bounded v s              == on a floor of v vertices: the stops of s are vertices, and its cost is at most 4,095
---                               for each record
---   Taking ..                == what one more record requires: a good floor, a vertex of it, `Bounded`, and fewer than
---                               4,096 records before
---   LogRead ..               == the reading r is that of the whole log
---   faultless_in r            == the reading r has a record and neither fault
---   drive_in, answer_in        == the answer for the reading r, where b says whether the log is cheapest
---   Replayable ..            == what the replay of a log requires: `Drivable`, a log of at most 16,384 bytes, and
---                               slices of the right lengths
---   Judged ..                == r says whether the log is cheapest, and the two slices are left as the operation leaves
---                               them
---   ReplaysLog ..            == r is the answer for the log, and the two slices are left as the operation leaves them
+--   leg_of o              == the cost o at which a record follows, as the code answers it
+--   Drivable w h map dirs == the floor and the directions of the neighbourhood are good
+--   progress_of n c f a b == the progress with n records read, cost c, followed f, and first and last stops a and b
+--   before s              == the vertex of the last record read; none where none was read
+--   after_stop g p s v    == the progress s after one more record, of vertex v
+--   after_stops g p s l   == the progress s after records of the stops l, one by one
+--   start_progress        == the progress before the first record
+--   Bounded v s           == on a floor of v vertices: the stops of s are vertices, and its cost is at most 4,095 for
+--                            each record
+--   Taking ..             == what one more record requires: a good floor, a vertex of it, `Bounded`, and fewer than
+--                            4,096 records before
+--   LogRead ..            == the reading r is that of the whole log
+--   faultless_in r        == the reading r has a record and neither fault
+--   drive_in, answer_in   == the answer for the reading r, where b says whether the log is cheapest
+--   Replayable ..         == what the replay of a log requires: `Drivable`, a log of at most 16,384 bytes, and slices
+--                            of the right lengths
+--   Judged ..             == r says whether the log is cheapest, and the two slices are left as the operation leaves
+--                            them
+--   ReplaysLog ..         == r is the answer for the log, and the two slices are left as the operation leaves them
 use Rattle.std.specs.Prelude.{ℕ, ◌+◌, ◌*◌, ◌≤◌, ◌<◌, ◌≡◌, Bool, ◌&&◌, not, List, [], ◌∷◌, leb, eqb, length}
 use Rattle.std.proofs.Math.Option.{Option, none, some}
 use Rattle.basics.specs.Bounded.{pick}

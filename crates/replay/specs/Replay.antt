@@ -1,31 +1,32 @@
 -- docs/RULES.md, 12.3 to 12.10: what is driven by a log, what the operation answers, and what it leaves in the two lent
 -- slices. A log is the list of its stops in order, and whether a bad record ended the reading (logs/specs/Log.antt).
 --
---   goes_to o v            == the far end o is the vertex v
---   move_cost g u v        == the cost of the open move from u to v; none where there is none
---   leg_cost g o v         == 0 where o is none or v, else the cost of the open move from o to v
---   follow_cost g p o v    == the cost at which a record of vertex v follows one of the vertex o, or is the first where
---                            o is none; none where it cannot follow. p v says that v is a pinch, where no record can be
---   Driven                == the cost driven, and the first record that cannot follow, if any
---   throughout f          == every record could follow
---   drive g p k o c l     == what is driven by the stops l, after the cost c; the first of them is record k, and o is
---                            the vertex of the record before it
---   driven g p l          == what is driven by the log l
---   faultless g p l       == the log l has a record and neither fault
+--   goes_to o v             == the far end o is the vertex v
+--   move_cost g u v         == the cost of the open move from u to v; none where there is none
+--   leg_cost g o v          == 0 where o is none or v, else the cost of the open move from o to v
+--   follow_cost g p o v     == the cost at which a record of vertex v follows one of the vertex o, or is the first
+--                              where o is none; none where it cannot follow. p v says that v is a pinch, where no
+--                              record can be
+--   Driven                  == the cost driven, and the first record that cannot follow, if any
+--   throughout f            == every record could follow
+--   drive g p k o c l       == what is driven by the stops l, after the cost c; the first of them is record k, and o is
+--                              the vertex of the record before it
+--   driven g p l            == what is driven by the log l
+--   faultless g p l         == the log l has a record and neither fault
 --   first_stop, last_stop   == the vertices of the first and the last record
---   last_of v l            == the last vertex of the list l; v where it is empty
---   cheapest g p l        == l is faultless, and its cost is the distance between its first and its last stop
+--   last_of v l             == the last vertex of the list l; v where it is empty
+--   cheapest g p l          == l is faultless, and its cost is the distance between its first and its last stop
 --   log_drive, log_answer, log_costs == what is answered of the log l, and the cost slice afterwards, where the shape is
 --                            good
---   ReplaySlices          == the two lent slices: the costs and the working slice
---   log_shape v n c k      == refusals 16 and then 6 on a floor of v vertices, for a log of n bytes and slices of c and
---                            k places
+--   ReplaySlices            == the two lent slices: the costs and the working slice
+--   log_shape v n c k       == refusals 16 and then 6 on a floor of v vertices, for a log of n bytes and slices of c
+--                              and k places
 --   replay_shape, shape_for == the directions of the neighbourhood, or the first refusal of 1, 2, 3, 4, 16 and 6
---   pinch_at f v           == the vertex with number v is a pinch of the floor f
+--   pinch_at f v            == the vertex with number v is a pinch of the floor f
 --   job_answer, job_left    == the answer and the slices afterwards, by the shape: a refusal, or fit
---   replay_answer ..       == the answer, for every input
---   replay_left ..         == the two slices afterwards, for every input: unchanged at every refusal but 17
---   Replays ..            == the operation's promise: `replay_answer` and `replay_left`, for every input
+--   replay_answer ..        == the answer, for every input
+--   replay_left ..          == the two slices afterwards, for every input: unchanged at every refusal but 17
+--   Replays ..              == the operation's promise: `replay_answer` and `replay_left`, for every input
 --   replay_number, replay_read, replay_cost, replay_unfollowed, replay_bad, replay_cheapest == the number and the values of
 --                            an answer; 0 for the number of a record that there is not
 use Rattle.std.specs.Prelude.{ℕ, ◌+◌, ◌*◌, ◌≡◌, Bool, true, false, ◌&&◌, not, List, [], ◌∷◌, leb, ltb, eqb, length, get_or}

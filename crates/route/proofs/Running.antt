@@ -1,14 +1,14 @@
 -- The loop over the jobs: what holds before it, and after each turn.
 --
---   cells-lent   == the slice lent for the cells of the map fits them
---   few_bytes    == the map of a record has at most 31 * 31 cells, so 121 bytes at most
---   map-sides    == the sides of a record's map are within the bound of a floor
---   few-places   == the floor of a record's map has at most 32 * 32 vertices
---   jobs-small   == the cells that were stored are a small floor
---   jobs-due     == past the map nothing is written, and the text from there on is due
---   due-on       == while more is read, what is due stays so
---   first_step   == what the first step found stands at the start of the input
---   first-sure   == what the first step found is sure
+--   cells-lent    == the slice lent for the cells of the map fits them
+--   few_bytes     == the map of a record has at most 31 * 31 cells, so 121 bytes at most
+--   map-sides     == the sides of a record's map are within the bound of a floor
+--   few-places    == the floor of a record's map has at most 32 * 32 vertices
+--   jobs-small    == the cells that were stored are a small floor
+--   jobs-due      == past the map nothing is written, and the text from there on is due
+--   due-on        == while more is read, what is due stays so
+--   first_step    == what the first step found stands at the start of the input
+--   first-sure    == what the first step found is sure
 --   first-reached == stepping comes to the first cursor
 --   sent-more, sent-last == what a turn leaves, by its answer
 use Prim.Native.Nat.{ℕ, ◌*◌, ◌≤◌, ◌<◌}

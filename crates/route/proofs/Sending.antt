@@ -1,15 +1,15 @@
 -- Writing the program's text part by part: what a part leaves to be written.
 --
---   left-first   == before the first part all of the text is left
---   left-more    == past a part the rest is left
---   left-stands  == the part stands at the place that it is written to
---   next-rest    == what is left of a part stands at the place that it is written to
---   left-all     == where nothing is left all is written
---   turn-next    == the text of a turn stands at the place that it is written to
---   turn_more    == past it the text from the turn's cursor on is due
---   turn_last    == past the last turn all is written
+--   left-first        == before the first part all of the text is left
+--   left-more         == past a part the rest is left
+--   left-stands       == the part stands at the place that it is written to
+--   next-rest         == what is left of a part stands at the place that it is written to
+--   left-all          == where nothing is left all is written
+--   turn-next         == the text of a turn stands at the place that it is written to
+--   turn_more         == past it the text from the turn's cursor on is due
+--   turn_last         == past the last turn all is written
 --   bad-next, bad-all == the line of a bad record where the map is due is all of the text
---   never-first  == what stands where the map is due is a map or a bad record
+--   never-end, never-job == what stands where the map is due is a map or a bad record
 use Prim.Native.Nat.{ℕ, zero, suc, ◌+◌, ◌-◌, ◌≤◌, ◌<◌}
 use mathlib.Core.Path.{◌≡◌, refl, sym, ap, ◌∙◌, subst}
 use mathlib.Core.Bool.{Bool}

@@ -1,11 +1,11 @@
 -- Reading on: each read leaves what is read before it, so that the whole input stays what it could be.
 --
---   read_more      == one read past the first n bytes of the buffer
---   room-left      == where what is read settles nothing, the buffer is not full
---   ReadOn ..      == reading on from q to r, as in ReadFor, while nothing is sure
---   read_none      == before the first read
---   read-then      == one read more
---   read-less      == one read more leaves less to read
+--   read_more == one read past the first n bytes of the buffer
+--   room-left == where what is read settles nothing, the buffer is not full
+--   ReadOn .. == reading on from q to r, as in ReadFor, while nothing is sure
+--   read_none == before the first read
+--   read-then == one read more
+--   read-less == one read more leaves less to read
 --   read-over, read-settled == where the input is over, or what is read settles it, what stands at the cursor is sure
 --   sure-over, sure-settled == where the input is over, or the bytes read settle it, what stands at the cursor is sure
 use Prim.Native.Nat.{ℕ, suc, ◌+◌, ◌-◌, ◌≤◌, ◌<◌}

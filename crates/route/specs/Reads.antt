@@ -1,15 +1,15 @@
 -- Reading the input piece by piece into a buffer, whose first bytes are what is read.
 -- Used by contracts between functions; nobody has to believe it: laws tie it to the definitions.
 --
---   bytes_read input r      == what the reading r has read, at the start of the buffer
---   ReadMore i n i' r      == one read past the first n bytes of the buffer, which leaves these as they are: a byte
---                             more at least, or the input is over
---   ReadFor i q i' r c     == reading on from q to r: the whole input stays what q left possible, and what stands at
---                             the cursor c is sure
---   MapRead i r m c        == what stands first is the map m, past which the cursor c stands, and that is sure; the
---                             buffer holds all that can matter
---   BadRead i r k          == what stands first is a bad record at place k, and that is sure
---   Ended i r              == at the end of a run all of the text is written, or a part could not be written
+--   bytes_read input r == what the reading r has read, at the start of the buffer
+--   ReadMore i n i' r  == one read past the first n bytes of the buffer, which leaves these as they are: a byte more at
+--                         least, or the input is over
+--   ReadFor i q i' r c == reading on from q to r: the whole input stays what q left possible, and what stands at the
+--                         cursor c is sure
+--   MapRead i r m c    == what stands first is the map m, past which the cursor c stands, and that is sure; the buffer
+--                         holds all that can matter
+--   BadRead i r k      == what stands first is a bad record at place k, and that is sure
+--   Ended i r          == at the end of a run all of the text is written, or a part could not be written
 use Rattle.std.specs.Prelude.{ℕ, ◌≤◌, ◌<◌, ◌≡◌, false, List, length, take}
 use Rattle.records.specs.Format.{record_at, start_cursor}
 use Rattle.records.specs.Settled.{longest}

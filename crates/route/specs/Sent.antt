@@ -7,8 +7,8 @@
 --   Due p over w h map c k == k bytes are written, and the text from the cursor c on is still to be written, whatever
 --                             the whole input is
 --   AllSent p over k       == the program's text has k bytes, whatever the whole input is
---   turn_room               == the bytes that the text of one turn may take
---   most_sent               == no more bytes are written than that: turn_room * (longest + 1)
+--   turn_room              == the bytes that the text of one turn may take
+--   most_sent              == no more bytes are written than that: turn_room * (longest + 1)
 --   SentTurn .. c r        == after the turn at the cursor c: more is due from a later cursor on, all is written, or a
 --                             part could not be written
 use Rattle.std.specs.Prelude.{ℕ, ◌+◌, ◌*◌, ◌≤◌, ◌<◌, ◌≡◌, Bool, true, List, [], ◌++◌, length, take, drop}

@@ -1,11 +1,11 @@
 -- Whether a cell or a step is in the way of a segment of one column and at most two rows, or of one row and at most two
 -- columns, is decided axis by axis.
 --
---   axis_blocked n b p    == on an axis on which a segment goes n lines to or from the higher line b, with p the blocked
---                           cells: for n = 0 both cells beside b are blocked, for n = 1 the one before b is, for n = 2
---                           one of the two before b is
---   narrow-unblocked     == `unblocked` of a segment of one column or one row, and at most two of the other, by
---                           `axis_blocked` of its axes
+--   axis_blocked n b p == on an axis on which a segment goes n lines to or from the higher line b, with p the blocked
+--                         cells: for n = 0 both cells beside b are blocked, for n = 1 the one before b is, for n = 2
+--                         one of the two before b is
+--   narrow-unblocked   == `unblocked` of a segment of one column or one row, and at most two of the other, by
+--                         `axis_blocked` of its axes
 use Prim.Native.Nat.{ℕ, zero, suc, ◌-◌, ◌≤◌, max}
 use mathlib.Core.Path.{◌≡◌, refl}
 use mathlib.Core.Bool.{Bool, ◌&&◌, ◌||◌, not}

@@ -1,12 +1,12 @@
 -- The first of n answers that is not Clear, and when columns first and rows first find the same.
 --
---   first-every    == `first n F` is Clear exactly when each of F 0, .. F (n - 1) is
+--   first-every  == `first n F` is Clear exactly when each of F 0, .. F (n - 1) is
 --   first-none, -hit, -cong == `first n F` is Clear where all are; F k where it is not Clear and all before it are; and
 --                     the same for F and G that agree
---   Hit n F        == the place of the first of n answers that is not Clear
---   first-look     == each answer is Clear, or `Hit n F`; by first_found `Hit n F` where `first n F` is not Clear
---   Looked n k F   == the invariant of a loop over n answers: the first k are Clear
---   stairs-first   == columns first and rows first find the same, where no hit in a later row is in an earlier column
+--   Hit n F      == the place of the first of n answers that is not Clear
+--   first-look   == each answer is Clear, or `Hit n F`; by first_found `Hit n F` where `first n F` is not Clear
+--   Looked n k F == the invariant of a loop over n answers: the first k are Clear
+--   stairs-first == columns first and rows first find the same, where no hit in a later row is in an earlier column
 use Prim.Native.Nat.{ℕ, zero, suc, ◌+◌, ◌≤◌, ◌<◌}
 use mathlib.Core.Path.{◌≡◌, refl, sym, ap, ap₂, ◌∙◌}
 use mathlib.Core.Bool.{true, false, ◌&&◌, true≢false}

@@ -2,15 +2,15 @@
 -- the first end, of equals the least far in rows. A named step is shut, and no step before it is. Where a pinch is
 -- named, no cell and no step is in the way, and it is the nearest of the pinches passed.
 --
---   far a i            == the number of cells between the grid line a and cell i
---   Nearest f s i j    == of the blocked cells that s enters, cell (i, j) is the least far in columns from the first
---                         end, of equals the least far in rows
---   NamesCell f s n    == n is the number of a cell of the floor that is `Nearest`
---   NamesStep n p q v  == of n steps, the k-th of which is open where p k and begins in the vertex q k, the first that
---                         is shut begins in v
+--   far a i              == the number of cells between the grid line a and cell i
+--   Nearest f s i j      == of the blocked cells that s enters, cell (i, j) is the least far in columns from the first
+--                           end, of equals the least far in rows
+--   NamesCell f s n      == n is the number of a cell of the floor that is `Nearest`
+--   NamesStep n p q v    == of n steps, the k-th of which is open where p k and begins in the vertex q k, the first
+--                           that is shut begins in v
 --   NearestPinch f s x y == of the pinches that s passes, the vertex (x, y) is the least far in columns from the first
---                         end, of equals the least far in rows
---   NamesPinch f s n   == s is unblocked, and n is the number of a vertex of the floor that is `NearestPinch`
+--                           end, of equals the least far in rows
+--   NamesPinch f s n     == s is unblocked, and n is the number of a vertex of the floor that is `NearestPinch`
 --   cell-named, step-named, pinch-named == where the obstacle of a segment is a cell, `NamesCell`; a step, `NamesStep`;
 --                         a pinch, `NamesPinch`
 use Prim.Native.Nat.{ℕ, zero, suc, ◌+◌, ◌-◌, ◌*◌, ◌≤◌, ◌<◌}

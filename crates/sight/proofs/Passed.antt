@@ -1,15 +1,15 @@
 -- Sight with the pinches counted (rules 2.4 to 2.7).
 --
---   edge-no-pinch   == no vertex on the edge of the floor is a pinch; edge-left, -above, -right, -below for each side
+--   edge-no-pinch == no vertex on the edge of the floor is a pinch; edge-left, -above, -right, -below for each side
 --   first-differ, last-differ, pairs-differ == `pinch_of` of four cells by the comparisons that the code makes
---   pinch-read      == `pinch` from the four cells that the code reads
---   obstacle-sees   == nothing is in the way exactly when the ends see each other; obstacle-sees-segment for two
---                      vertices by their numbers
---   obstacle-back   == the obstacle of a segment is Clear exactly when that of the segment turned round is
+--   pinch-read    == `pinch` from the four cells that the code reads
+--   obstacle-sees == nothing is in the way exactly when the ends see each other; obstacle-sees-segment for two vertices
+--                    by their numbers
+--   obstacle-back == the obstacle of a segment is Clear exactly when that of the segment turned round is
 --   obstacle-blocked, -still, -pinch == `obstacle` by what the code finds first: a cell or a step, no length, or
 --                      pinches
---   still-..        == `still` of a segment by its spans
---   unit-nearest    == the nearest pinch of a segment of at most one column and one row is one of its ends
+--   still-..      == `still` of a segment by its spans
+--   unit-nearest  == the nearest pinch of a segment of at most one column and one row is one of its ends
 --   one-row, one-level, two-rows == a segment of one row, of one column and no row, or of one column and two rows
 --                      passes no pinch exactly when neither end is one
 use Prim.Native.Nat.{ℕ, suc, ◌+◌, ◌≤◌, ◌<◌}

@@ -1,9 +1,9 @@
 -- Sight is the same both ways; a vertex sees itself, even a pinch; and two floors with the same cells see the same.
 --
---   back s     == the segment from the last end to the first
---   sees_back  == sees f (back s) ≡ sees f s; sees-segment-back for two vertices by their numbers
---   sees-self  == a vertex sees itself, even a pinch; sees-segment-self for a vertex by its number
---   sees-same  == two floors with the same cells see the same
+--   back s    == the segment from the last end to the first
+--   sees_back == sees f (back s) ≡ sees f s; sees-segment-back for two vertices by their numbers
+--   sees-self == a vertex sees itself, even a pinch; sees-segment-self for a vertex by its number
+--   sees-same == two floors with the same cells see the same
 --   unblocked-back, -self, -same == unblocked f (back s) ≡ unblocked f s; `unblocked` from a vertex to itself;
 --                 `unblocked` is the same on floors with the same cells; passes-back of the vertices passed
 use Prim.Native.Nat.{ℕ, suc, ◌<◌, min, max}

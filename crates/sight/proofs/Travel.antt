@@ -1,10 +1,10 @@
 -- Cells counted along an axis from a towards b, whichever is higher.
 --
---   span-..    == `span a b` is the difference of a and b
---   cellOn-..  == the k-th cell from a towards b
+--   span-..        == `span a b` is the difference of a and b
+--   cell_on-..     == the k-th cell from a towards b
 --   index_on a b i == the k for which cell i is the k-th from a towards b
---   between-.. == the cells between a and b
---   every-on   == a test of every cell between a and b, made in order from a towards b
+--   between-..     == the cells between a and b
+--   every-on       == a test of every cell between a and b, made in order from a towards b
 --   line-.., start-.. == the far line of a cell, and the line where its step begins, as the code computes them
 use Prim.Native.Nat.{ℕ, suc, ◌+◌, ◌-◌, ◌≤◌, ◌<◌, min, max}
 use mathlib.Core.Path.{◌≡◌, refl, sym}

@@ -1,10 +1,10 @@
 -- The vertices that a segment passes, counted from its first end: with dx and dy its spans, the one c columns and r
 -- rows from that end is passed exactly when dy * c = dx * r.
 --
---   spans-..         == the lines from a to b, both included
+--   spans-..          == the lines from a to b, both included
 --   point-.., away-.. == the line k lines from a towards b is from a to b, and each line p from a to b is `span a p`
---                       lines from a
---   passes_on        == the vertex c columns and r rows from the first end is passed exactly where dy * c ≡ dx * r
+--                        lines from a
+--   passes_on         == the vertex c columns and r rows from the first end is passed exactly where dy * c ≡ dx * r
 --   passed-column, passed-row == a vertex that is passed is between the ends, in columns and in rows
 use Prim.Native.Nat.{ℕ, suc, ◌*◌, ◌≤◌, ◌<◌, min, max}
 use mathlib.Core.Path.{◌≡◌, sym, ◌∙◌}

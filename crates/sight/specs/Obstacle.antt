@@ -1,24 +1,24 @@
 -- docs/RULES.md, 2.8 to 2.10: the first obstacle of a segment, going from its first end.
 --
---   span a b              == the number of cells between the grid lines a and b
+--   span a b               == the number of cells between the grid lines a and b
 --   cell_on a b k          == the k-th cell from grid line a towards grid line b, counted from 0
 --   start_on a b k         == the grid line where the step past the k-th cell from a towards b begins
 --   or_else o p            == o where it is not Clear, else p
---   first n F             == of F 0, F 1, .., F (n - 1) the first that is not Clear; Clear where each is
+--   first n F              == of F 0, F 1, .., F (n - 1) the first that is not Clear; Clear where each is
 --   blocked_cell f s c r   == the cell c columns and r rows from the first end where it is blocked and entered, else
---                            Clear
---   upright_step f x a b k == the vertex where the k-th step along column line x begins, from row a towards row b, where
---                            the step is shut, else Clear
+--                             Clear
+--   upright_step f x a b k == the vertex where the k-th step along column line x begins, from row a towards row b,
+--                             where the step is shut, else Clear
 --   level_step f y a b k   == the vertex where the k-th step along row line y begins, from column a towards column b,
---                            where the step is shut, else Clear
---   blockage f s          == the first shut step of a segment along a grid line; of the blocked cells that a slanted
---                            segment enters, the one least far in columns from the first end, of equals least far in
---                            rows; Clear where there is none
+--                             where the step is shut, else Clear
+--   blockage f s           == the first shut step of a segment along a grid line; of the blocked cells that a slanted
+--                             segment enters, the one least far in columns from the first end, of equals least far in
+--                             rows; Clear where there is none
 --   passed_pinch f s c r   == the vertex c columns and r rows from the first end where it is a pinch and passed, else
---                            Clear
+--                             Clear
 --   nearest_pinch f s      == of the pinches that s passes, the one least far in columns from the first end, of equals
---                            least far in rows: the nearest, since all are on one line
---   obstacle f s          == the blockage; where that is Clear and s has a length, the nearest pinch
+--                             least far in rows: the nearest, since all are on one line
+--   obstacle f s           == the blockage; where that is Clear and s has a length, the nearest pinch
 --   is_clear o             == nothing is in the way
 use Rattle.std.specs.Prelude.{ℕ, zero, suc, ◌+◌, ◌-◌, min, max, Bool, true, false, ◌&&◌, leb, eqb}
 use Rattle.basics.specs.Bounded.{pick}

@@ -1,24 +1,24 @@
 -- docs/RULES.md, 2.1 to 2.7: the three faults of a segment between vertices, in whole numbers: it enters a blocked
 -- cell, it has a shut step, or it is longer than zero and starts at, ends at or passes through a pinch.
 --
---   Segment           == from the vertex (x0, y0) to the vertex (x1, y1)
---   segment_of a b c d == the segment from the vertex (a, b) to the vertex (c, d)
---   cross s p q       == the cross product (x1-x0)(q-y0) - (y1-y0)(p-x0); `pos n` is the number n of ℕ in ℤ
+--   Segment             == from the vertex (x0, y0) to the vertex (x1, y1)
+--   segment_of a b c d  == the segment from the vertex (a, b) to the vertex (c, d)
+--   cross s p q         == the cross product (x1-x0)(q-y0) - (y1-y0)(p-x0); `pos n` is the number n of ℕ in ℤ
 --   positive s p q, negative s p q == cross s p q > 0, and cross s p q < 0
---   enters s i j      == the segment enters cell (i, j)
+--   enters s i j        == the segment enters cell (i, j)
 --   no_cell_entered f s == no blocked cell is entered by s
---   no_step_shut f s    == where s goes along a grid line, no unit step of s has blocked cells on both sides; outside the
---                        floor counts as blocked
---   unblocked f s     == s enters no blocked cell and has no shut step
---   pinch f x y       == exactly two of the four cells at the vertex (x, y) are blocked, and they are diagonal to each
---                        other
---   passes s p q      == s starts at, ends at or passes through the vertex (p, q)
+--   no_step_shut f s    == where s goes along a grid line, no unit step of s has blocked cells on both sides; outside
+--                          the floor counts as blocked
+--   unblocked f s       == s enters no blocked cell and has no shut step
+--   pinch f x y         == exactly two of the four cells at the vertex (x, y) are blocked, and they are diagonal to
+--                          each other
+--   passes s p q        == s starts at, ends at or passes through the vertex (p, q)
 --   no_pinch_passed f s == no vertex that s passes is a pinch
---   still s           == s has no length: its two ends are the same vertex
---   sees f s          == the ends of s see each other: s is unblocked, and passes no pinch unless it has no length
---   between a b k     == min a b ≤ k and k + 1 ≤ max a b
---   spans a b p       == min a b ≤ p and p ≤ max a b
---   segment w a b     == the segment from vertex number a to vertex number b
+--   still s             == s has no length: its two ends are the same vertex
+--   sees f s            == the ends of s see each other: s is unblocked, and passes no pinch unless it has no length
+--   between a b k       == min a b ≤ k and k + 1 ≤ max a b
+--   spans a b p         == min a b ≤ p and p ≤ max a b
+--   segment w a b       == the segment from vertex number a to vertex number b
 use Rattle.std.specs.Prelude.{ℕ, suc, min, max, Bool, ◌&&◌, ◌||◌, not, leb, ltb, eqb, ℤ, pos, ◌-ℤ◌, ◌*ℤ◌}
 use Rattle.std.specs.Int.Signed.{lt_z}
 use Rattle.basics.specs.Bounded.{every}

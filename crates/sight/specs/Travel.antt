@@ -2,38 +2,38 @@
 -- Columns and rows counted from the first end of a segment towards the other, whichever way it goes, as the scans count
 -- them.
 --
---   Ends w h x0 y0 x1 y1  == both ends of a segment lie on the floor
---   Apart x0 y0 x1 y1 c r == the ends (x0, y0) and (x1, y1) are c columns and r rows apart
---   Narrow c r            == c columns and r rows are what a move leads: one column or one row, and at most two of the
---                            other
---   OnLine w h u p a b    == a segment from a to b along column line p, where u holds, or else along row line p, is on
---                            the floor
+--   Ends w h x0 y0 x1 y1   == both ends of a segment lie on the floor
+--   Apart x0 y0 x1 y1 c r  == the ends (x0, y0) and (x1, y1) are c columns and r rows apart
+--   Narrow c r             == c columns and r rows are what a move leads: one column or one row, and at most two of the
+--                             other
+--   OnLine w h u p a b     == a segment from a to b along column line p, where u holds, or else along row line p, is on
+--                             the floor
 --   line_step f u p a b k  == the k-th step from a towards b along column line p, where u holds, or else along row line
---                            p, where it is shut; else Clear
+--                             p, where it is shut; else Clear
 --   upright_to f x y, level_to f x y == the step along column line x that ends on row line y is not shut, and the step
 --                            along row line y that ends on column line x
 --   upright_free f x a b k, level_free f y a b k == the k-th step from a towards b along column line x is not shut, and
 --                            that along row line y
---   touches dx dy c r     == a segment from (0, 0) to (dx, dy) enters the cell (c, r)
+--   touches dx dy c r      == a segment from (0, 0) to (dx, dy) enters the cell (c, r)
 --   cell_free f s r c, row_free f s r == the cell c columns and r rows from the first end is open or not entered; each
 --                            cell of the row r rows from it is
 --   row_cell f s r c, row_obstacle f s r == the cell c columns and r rows from the first end where it is blocked and
 --                            entered, else Clear; the first such cell of the row r rows from it
---   cell_there f s r c     == the cell c columns and r rows from the first end where it is blocked, entered or not; else
---                            Clear
---   RowRun s r first past == the cells that s enters in the row r rows from its first end are those from column `first`
---                            to before column `past`, counted from that end
+--   cell_there f s r c     == the cell c columns and r rows from the first end where it is blocked, entered or not;
+--                             else Clear
+--   RowRun s r first past  == the cells that s enters in the row r rows from its first end are those from column
+--                             `first` to before column `past`, counted from that end
 --   Crosses dx dy r c rest == a segment dx columns wide and dy rows high crosses the row line r rows from its first end
---                            c columns and rest / dy of a column from there
+--                             c columns and rest / dy of a column from there
 --   Carried c rest step part dy c' rest' == one row after the crossing at c and rest is the crossing at c' and rest',
 --                            where a row is worth `step` columns and part / dy of a column
 --   RunBetween c rest c' rest' past == a segment that crosses the two lines of a row at c and rest, and at c' and
 --                            rest', enters there the cells from column c to before column `past`
 --   pinch_here f x y       == the vertex (x, y) where it is a pinch, else Clear
 --   pinch_there f s c r    == the vertex c columns and r rows from the first end where it is a pinch, passed or not;
---                            else Clear
---   Divides a b           == b is a multiple of a
---   Common a b n          == n is the greatest common divisor of a and b
+--                             else Clear
+--   Divides a b            == b is a multiple of a
+--   Common a b n           == n is the greatest common divisor of a and b
 use Rattle.std.specs.Prelude.{ℕ, suc, ◌+◌, ◌*◌, ◌≤◌, ◌<◌, ◌≡◌, ◌⊎◌, Bool, true, false, ◌&&◌, not, leb, ltb}
 use Rattle.basics.specs.Bounded.{pick, every}
 use Rattle.floor.specs.Floor.{Floor, blocked}

@@ -1,9 +1,9 @@
 -- Any calls on the 64 numbers: what they leave and answer, by the operations' contracts. proofs/Simulation.antt proves
 -- that it is what the plain map leaves and answers after the same calls.
 --
---   none_stored            == 64 zeros, the empty table
---   stored_left w h l c    == the numbers after the call c on the numbers l, for a floor of width w and height h
---   stored_after w h l cs  == the numbers after the calls cs on the numbers l, one after the other
+--   none_stored             == 64 zeros, the empty table
+--   stored_left w h l c     == the numbers after the call c on the numbers l, for a floor of width w and height h
+--   stored_after w h l cs   == the numbers after the calls cs on the numbers l, one after the other
 --   stored_answers w h l cs == the answers of the calls cs on the numbers l
 use Rattle.std.specs.Prelude.{ℕ, List, [], ◌∷◌}
 use Rattle.basics.specs.Lists.{zeros}

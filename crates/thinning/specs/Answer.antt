@@ -1,11 +1,11 @@
 -- docs/RULES.md, 9.1 to 9.3, and 6.4: what the operation answers and what it leaves, for every input.
 --
---   list_shape ..      == the first refusal of 1, 2, 3, of 6 for the list and an output slice of k places, and of 10;
---                        else good
---   shape_answer s k   == the answer for the shape s: k positions are kept, or its refusal
---   thin_answer ..     == the answer: the number of positions that are kept, or the refusal
---   thin_output ..     == the output slice afterwards: the kept positions, then 0; unchanged at a refusal
---   Thins .. r left   == r is the answer, and `left` is the output slice afterwards
+--   list_shape ..          == the first refusal of 1, 2, 3, of 6 for the list and an output slice of k places, and of
+--                             10; else good
+--   shape_answer s k       == the answer for the shape s: k positions are kept, or its refusal
+--   thin_answer ..         == the answer: the number of positions that are kept, or the refusal
+--   thin_output ..         == the output slice afterwards: the kept positions, then 0; unchanged at a refusal
+--   Thins .. r left        == r is the answer, and `left` is the output slice afterwards
 --   thin_number, thin_kept == the number of an answer (rule 6.1), and the number of positions that are kept
 use Rattle.std.specs.Prelude.{ℕ, ◌≡◌, ◌&&◌, List, leb, eqb, length}
 use Rattle.basics.specs.Bounded.{pick}

@@ -1,7 +1,7 @@
 -- Used by contracts between functions; nobody has to believe it: laws tie it to the definitions.
 -- What the functions of `thin` require and leave.
 --
---   VertexList w h l n               == l has n places or more, and its first n numbers are vertices
+--   VertexList w h l n           == l has n places or more, and its first n numbers are vertices
 --   Leg f l n i                  == i + 1 is below n, and the vertex at position i sees the one at position i + 1
 --   Recordable f list out n      == the list is joined and has at most 16,384 places, and the output slice is as long
 --                                   as it

@@ -1,14 +1,14 @@
 -- docs/RULES.md, 9.4 to 9.6: the kept positions of a list of vertices.
 --
---   seen f l i k          == the vertices at positions i and k of the list l see each other
---   next_kept s n i        == the position kept after i: one less than the first k past i that is not seen from i, or n
---                            - 1 where all are
---   kept_from s n c i      == the kept positions from i to n - 1, at most c of them
---   kept_positions f l n   == the kept positions of the first n places of l, from position 0
---   is_vertex w h l k      == the number at position k of l is a vertex of a floor of width w and height h
---   sees_next f l k        == the vertex at position k sees the next one in the list
---   joined_list f l n      == n is 1 or more and at most the length of l; of the first n numbers each is a vertex, and
---                            each sees the next
+--   seen f l i k         == the vertices at positions i and k of the list l see each other
+--   next_kept s n i      == the position kept after i: one less than the first k past i that is not seen from i, or n -
+--                           1 where all are
+--   kept_from s n c i    == the kept positions from i to n - 1, at most c of them
+--   kept_positions f l n == the kept positions of the first n places of l, from position 0
+--   is_vertex w h l k    == the number at position k of l is a vertex of a floor of width w and height h
+--   sees_next f l k      == the vertex at position k sees the next one in the list
+--   joined_list f l n    == n is 1 or more and at most the length of l; of the first n numbers each is a vertex, and
+--                           each sees the next
 use Rattle.std.specs.Prelude.{ℕ, zero, suc, ◌-◌, pred, Bool, true, false, ◌&&◌, not, List, [], ◌∷◌, leb, ltb, length, get_or}
 use Rattle.basics.specs.Bounded.{every, seek}
 use Rattle.floor.specs.Floor.{Floor, vertices}

@@ -1,9 +1,9 @@
 -- Packed floors: antt computes those worked by hand. A packed floor answers as the byte floor with the same cells,
 -- since it is that floor.
 --
---   packed-sight   == the obstacle of a segment is the same on a packed floor and on the byte floor
+--   packed-sight == the obstacle of a segment is the same on a packed floor and on the byte floor
 --   packed-route, packed-no_route == the true sheets are the same on a packed floor and on the byte floor
---   packed-kept    == the positions that thinning keeps are the same on a packed floor and on the byte floor
+--   packed-kept  == the positions that thinning keeps are the same on a packed floor and on the byte floor
 use Prim.Native.Nat.{ℕ}
 use mathlib.Core.Path.{◌≡◌, refl, ap}
 use mathlib.Core.List.{List}

@@ -1,20 +1,21 @@
 -- docs/RULES.md, section 18: the floors a to i, with the numbers that are worked there by hand.
 --
---   Case             == a job, and a sheet for it
+--   Case                  == a job, and a sheet for it
 --   plan_of c, graph_of c == the floor of a case, and its graph with the neighbourhood of the case
---   routes           == floors a, b, d, e and h, and a and e with neighbourhood 16: the job, its true route sheet, and
---                       its kept positions
---   no_routes         == floors c, f and g, and c with 4 and 16: the job and its true no_route sheet
---   entered          == floor i: which cells of a 3 by 2 floor, row by row, the segment from (0, 0) to (3, 2) enters
---   RouteHolds c     == the job has a good shape, the sheet is its true route sheet, its cost and total are those of
---                       the case, and thinning keeps the positions of the case
---   NoRouteHolds c   == the job has a good shape and the sheet is its true no_route sheet
---   plans_a, plans_c   == the floors a and c, each with 8, 4 and 16
---   handed_in c k     == the costs of case k, handed in for case c, are true (rule 7.4)
---   Worked           == the statement: `RouteHolds` of routes and `NoRouteHolds` of no_routes; of the nine vertices of
---                       floor g the only pinch is 4; the traversal count of vertex 4 of floor h is 4; on floor a the
---                       costs with one neighbourhood, handed in for another, are false, and on floor c they are true;
---                       the cells of floor i
+--   routes                == floors a, b, d, e and h, and a and e with neighbourhood 16: the job, its true route sheet,
+--                            and its kept positions
+--   no_routes             == floors c, f and g, and c with 4 and 16: the job and its true no_route sheet
+--   entered               == floor i: which cells of a 3 by 2 floor, row by row, the segment from (0, 0) to (3, 2)
+--                            enters
+--   RouteHolds c          == the job has a good shape, the sheet is its true route sheet, its cost and total are those
+--                            of the case, and thinning keeps the positions of the case
+--   NoRouteHolds c        == the job has a good shape and the sheet is its true no_route sheet
+--   plans_a, plans_c      == the floors a and c, each with 8, 4 and 16
+--   handed_in c k         == the costs of case k, handed in for case c, are true (rule 7.4)
+--   Worked                == the statement: `RouteHolds` of routes and `NoRouteHolds` of no_routes; of the nine
+--                            vertices of floor g the only pinch is 4; the traversal count of vertex 4 of floor h is 4;
+--                            on floor a the costs with one neighbourhood, handed in for another, are false, and on
+--                            floor c they are true; the cells of floor i
 use Rattle.std.specs.Prelude.{ℕ, ◌+◌, ◌*◌, ◌<◌, ◌≡◌, Bool, true, false, List, [], ◌∷◌, eqb, get_or}
 use Rattle.floor.specs.Floor.{Floor, stored_cells, floor_of, column, row}
 use Rattle.sight.specs.Sight.{segment_of, enters, pinch}

@@ -1,12 +1,12 @@
 -- Used by contracts between functions; nobody has to believe it: laws tie it to the definitions.
 -- The planner's working slice: the vertices that have a cost, in order, and the masks of the open moves of all.
 --
---   mask_at v work u        == the mask of vertex u, where there are v vertices
---   Ordered v n D O        == O 0, .. O (n - 1) are the vertices below v that have a cost, by rising cost D
---   mask_on f work v        == the mask of vertex v of the floor f
---   MasksIn f r work       == the mask of each vertex says which moves of the directions r are open from it
---   MasksFilled f r w w'   == `MasksIn f r w'`, and the slice w' is as long as w
---   Masked g r s work      == the masks, with the directions r and their shifts s, give the steps of the graph g
+--   mask_at v work u     == the mask of vertex u, where there are v vertices
+--   Ordered v n D O      == O 0, .. O (n - 1) are the vertices below v that have a cost, by rising cost D
+--   mask_on f work v     == the mask of vertex v of the floor f
+--   MasksIn f r work     == the mask of each vertex says which moves of the directions r are open from it
+--   MasksFilled f r w w' == `MasksIn f r w'`, and the slice w' is as long as w
+--   Masked g r s work    == the masks, with the directions r and their shifts s, give the steps of the graph g
 use Rattle.std.specs.Prelude.{ℕ, ◌+◌, ◌*◌, ◌≤◌, ◌<◌, ◌≡◌, List, length}
 use Rattle.floor.specs.Floor.{Floor, vertices}
 use Rattle.moves.specs.declared.Directions.{Directions}

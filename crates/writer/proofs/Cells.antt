@@ -1,8 +1,8 @@
 -- The cells of a map, written with a byte for each.
 --
---   cells_are            == the bytes of the bits of a map are `cell_bytes` of its floor
---   cells-small          == each byte of `cell_bytes` is 0 or 1
---   stored_bytes         == the numbers of `stored_cells` are below 256
+--   cells_are              == the bytes of the bits of a map are `cell_bytes` of its floor
+--   cells-small            == each byte of `cell_bytes` is 0 or 1
+--   stored_bytes           == the numbers of `stored_cells` are below 256
 --   cells-none, cells-more == the invariant of the loop that writes F 0, .. F (n - 1): k of them are written
 use Prim.Native.Nat.{ℕ, zero, suc, ◌+◌, ◌*◌, ◌^◌, ◌≤◌, ◌<◌}
 use mathlib.Core.Path.{◌≡◌, sym, ap, ◌∙◌}

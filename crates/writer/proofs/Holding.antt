@@ -1,8 +1,8 @@
 -- A buffer that has the records of some calls at its start.
 --
---   bytes_of xs        == the bytes of the records of the calls xs, one after the other
---   holding buf xs    == the state in which the buffer buf has the records of the calls xs at its start and is
---                        unchanged after them
+--   bytes_of xs    == the bytes of the records of the calls xs, one after the other
+--   holding buf xs == the state in which the buffer buf has the records of the calls xs at its start and is unchanged
+--                     after them
 use Prim.Native.Nat.{ℕ}
 use mathlib.Core.List.{List, [], ◌∷◌, ◌++◌}
 use lib.ListN.{length, drop}

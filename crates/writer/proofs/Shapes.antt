@@ -1,11 +1,11 @@
 -- The refusals of a call: `map_shape` and `call_shape` by each test of the code, and what follows from a good shape.
 --
---   floor-decides     == `map_shape` is `floor_shape` where both sides are at most 31
---   GoodMap w h l     == a map of good shape: its sides are 1 to 31, and its floor has a good shape
---   cells-few         == a map of good shape has at most 961 cells
---   bits-enough       == a map of good shape has a bit for each cell
---   map-bytes-length  == a map record has 4 bytes and one for each cell
---   Accepted c x n    == the call x has a good shape, is in turn, and fits in a buffer of n bytes
+--   floor-decides         == `map_shape` is `floor_shape` where both sides are at most 31
+--   GoodMap w h l         == a map of good shape: its sides are 1 to 31, and its floor has a good shape
+--   cells-few             == a map of good shape has at most 961 cells
+--   bits-enough           == a map of good shape has a bit for each cell
+--   map-bytes-length      == a map record has 4 bytes and one for each cell
+--   Accepted c x n        == the call x has a good shape, is in turn, and fits in a buffer of n bytes
 --   accepted, not-refused == `call_shape c x n` is good exactly where `Accepted c x n`
 use Prim.Native.Nat.{ℕ, ◌+◌, ◌*◌, ◌≤◌, ◌<◌}
 use mathlib.Core.Path.{◌≡◌, sym, ap, ◌∙◌}

@@ -2,28 +2,28 @@
 -- call before it answered; what was written; and what is read of a stream, as calls. proofs/RoundTrips.antt proves both
 -- round trips.
 --
---   State             == a writer and the buffer that it writes
---   fresh buf         == a fresh writer on the buffer buf
+--   State              == a writer and the buffer that it writes
+--   fresh buf          == a fresh writer on the buffer buf
 --   after_one s x      == the state after the call x, by the promise of the operation
---   after s xs        == the state after the calls xs, one after the other
---   taken s xs        == those of the calls xs from the state s on that are not refused
---   written s         == the buffer up to the place of the writer
+--   after s xs         == the state after the calls xs, one after the other
+--   taken s xs         == those of the calls xs from the state s on that are not refused
+--   written s          == the buffer up to the place of the writer
 --   job_calls js       == the calls that write the jobs js
 --   numbered_job k j   == the job j as the reader gives it, with number k
---   numbered k js     == the jobs js as the reader gives them, numbered from k on
+--   numbered k js      == the jobs js as the reader gives them, numbered from k on
 --   map_read w h       == a map of w by h cells as the reader gives it
 --   stream_read w h js == the stream of a map of w by h cells and the jobs js, with no bad record
---   ReadBack buf xs   == of the calls xs, made from a fresh writer on, those that are not refused are a map and jobs,
---                        and reading what was written gives the same floor and the same jobs
+--   ReadBack buf xs    == of the calls xs, made from a fresh writer on, those that are not refused are a map and jobs,
+--                         and reading what was written gives the same floor and the same jobs
 --   bare_job j         == the neighbourhood and the ends of a job that the reader gives
 --   end_in s o         == the place of the bad record o; the length of s where there is none
 --   read_end s         == the place where reading the stream s ends: at its bad record, or at its end
 --   calls_in s o js    == the calls that write the map o and the jobs js, read of the stream s; none without a map
 --   calls_read s       == the calls that write what is read of the stream s before any bad record: the map, packed, and
---                        the jobs
---   Given x           == the numbers of the call x have the widths that the operations take
---   WrittenBack s buf == the calls that write what is read of the stream s into buf, from a fresh writer on: none is
---                        refused, they write the same bytes, and the rest of buf is unchanged
+--                         the jobs
+--   Given x            == the numbers of the call x have the widths that the operations take
+--   WrittenBack s buf  == the calls that write what is read of the stream s into buf, from a fresh writer on: none is
+--                         refused, they write the same bytes, and the rest of buf is unchanged
 use Rattle.std.specs.Prelude.{ℕ, suc, ◌<◌, ◌≡◌, length, get_or, take, drop}
 use mathlib.Core.List.{List, [], ◌∷◌, map, Memᴰ}
 use Rattle.std.proofs.Math.Option.{Option, some, none}

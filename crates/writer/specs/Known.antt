@@ -3,8 +3,8 @@
 --
 --   MapFits w h l at buf == the floor of width w and height h with the map l is good for a map record, and the record
 --                           fits whole in the buffer from place `at` on
---   cell_byte l c         == the byte of cell c of the map l: 0 open, 1 blocked
---   past_record c next    == the answer of a call that wrote a record: the writer c past that record, which ends before
+--   cell_byte l c        == the byte of cell c of the map l: 0 open, 1 blocked
+--   past_record c next   == the answer of a call that wrote a record: the writer c past that record, which ends before
 --                           place `next`
 use Rattle.std.specs.Prelude.{ℕ, ◌+◌, ◌*◌, ◌≤◌, ◌≡◌, List, length}
 use Rattle.basics.specs.Bounded.{pick}

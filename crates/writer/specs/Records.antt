@@ -1,6 +1,6 @@
 -- docs/RULES.md, 16.3 and 16.4: the bytes of records. records/specs/Format.antt has the reading of a stream of them.
 --
---   Job                == the numbers of a job record: the neighbourhood, the start and the end
+--   Job                 == the numbers of a job record: the neighbourhood, the start and the end
 --   job_of nb a b       == the job with neighbourhood nb, start a and end b
 --   map_bytes w h cells == a map record: 4D 50 hex, the sides, a byte for each cell
 --   job_bytes j         == a job record: 4A 42 hex, the neighbourhood, both ends as 16-bit little-endian numbers

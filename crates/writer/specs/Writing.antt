@@ -1,19 +1,19 @@
 -- docs/RULES.md, 17.2 to 17.5: what one call of the writer answers, and the writer and the buffer afterwards.
 --
 --   Call                == a call: `put_map w h l` of a packed floor, or `put_job j`
---   call_bytes x         == the bytes of the record that the call x writes; in a map record a byte for each cell
---   map_shape w h l      == the first refusal of 1 to 3 that applies to a map: a side that is not 1 to 31, the map's
+--   call_bytes x        == the bytes of the record that the call x writes; in a map record a byte for each cell
+--   map_shape w h l     == the first refusal of 1 to 3 that applies to a map: a side that is not 1 to 31, the map's
 --                          length, its unused bits
---   given_shape x        == `map_shape` of the map of the call x; good for a job
---   in_turn k x          == the call x may write record k: a map is record 0, and jobs are records 1 to 1,000
---   turn_shape b         == refusal 20 where b, that the record is in turn, is false
---   room_shape p k n     == refusal 18 where a record of k bytes from place p on does not fit in a buffer of n bytes
---   call_shape c x n     == the first refusal of the call x by the writer c in a buffer of n bytes: 1, 2 and 3 of a map,
+--   given_shape x       == `map_shape` of the map of the call x; good for a job
+--   in_turn k x         == the call x may write record k: a map is record 0, and jobs are records 1 to 1,000
+--   turn_shape b        == refusal 20 where b, that the record is in turn, is false
+--   room_shape p k n    == refusal 18 where a record of k bytes from place p on does not fit in a buffer of n bytes
+--   call_shape c x n    == the first refusal of the call x by the writer c in a buffer of n bytes: 1, 2 and 3 of a map,
 --                          then 20, then 18
---   fresh_writer         == a writer that has written nothing
---   writer_left c x n    == the writer after the call: past the record, with one more record counted; unchanged at a
+--   fresh_writer        == a writer that has written nothing
+--   writer_left c x n   == the writer after the call: past the record, with one more record counted; unchanged at a
 --                          refusal
---   buffer_left c x buf  == the buffer after the call: the record at the writer's place, and all else unchanged;
+--   buffer_left c x buf == the buffer after the call: the record at the writer's place, and all else unchanged;
 --                          unchanged at a refusal
 --   Writes c x buf r b' == the promise of both operations: the answer r and the buffer b' afterwards, for every input
 use Rattle.std.specs.Prelude.{ℕ, ◌+◌, ◌≡◌, Bool, ◌&&◌, List, ◌++◌, leb, eqb, length, take, drop}
