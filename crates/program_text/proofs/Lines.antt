@@ -1,6 +1,7 @@
 -- The lines of a job are those of the answer that the planner gives.
 --
 --   planned-as   == `JobPlanned` of an equal answer
+--   answer-text  == job_text is `answer_text` of the planner's answer
 --   found-route  == where the answer is a route, the job is fit and the route slice has the central route
 --   ready-room   == what is ready for a job has room for its lines
 --   routable     == `Routable` of the route slice, where the answer is a route
