@@ -11,9 +11,7 @@
 --   chosen-rises          == the numbers in chosen n p ascend
 --   differences-none      == k = l where their lengths are equal and differences k l = 0
 --   differences-same      == differences l l = 0
---   Counted n k c p       == a loop over the numbers below n is at k and has counted c of them
---   Differing k l end i n == a loop that compares the lists k and l, of length `end` each, is at place i and has found
---                            n differences
+--   differences-pairs     == differences_by eqb k l = differences k l where their lengths are equal
 use Prim.Native.Nat.{ℕ, zero, suc, ◌+◌, ◌≤◌, ◌<◌}
 use mathlib.Core.Path.{◌≡◌, refl, sym, ap, ◌∙◌}
 use mathlib.Core.Logic.{⊎_elim}
@@ -21,12 +19,17 @@ use mathlib.Core.Bool.{Bool, true, false, ◌&&◌, ◌||◌, not, true≢false}
 use mathlib.Core.List.{List, [], ◌∷◌, ◌++◌}
 use native.Mathlib.Omega.{arith}
 use native.Mathlib.Numerals.{add-one}
-use borrow.Author.Tests.{eqb-true, eq-eqb, ne_eqb}
+use borrow.Author.Tests.{eqb-true, eq-eqb}
 use lib.Dec.{eqb}
 use lib.ListN.{length, get_or, length-append, get_or-append}
 use lib.Seq.{ext_get_or, get_or_at}
+use Rattle.std.specs.List.{count_by, zip}
+use Rattle.std.proofs.Common.{take}
+use Rattle.std.proofs.Math.Seq.{take-length}
+use Rattle.std.proofs.lemmas.List.Sums.{count_by_more_yes, count_by_more_no}
+use Rattle.std.proofs.lemmas.Slice.Zip.{length-zip, get_or-zip}
 use Rattle.basics.specs.Bounded.{pick, sum, count}
-use Rattle.basics.specs.Lists.{chosen, differences}
+use Rattle.basics.specs.Lists.{chosen, differences, differences_by}
 use Rattle.basics.proofs.Order.{le-or-lt}
 use Rattle.basics.proofs.Bools.{true-or-false}
 use Rattle.basics.proofs.Sums.{sum-cong, sum-le, sum_ones, sum-add, sum-zero, sum-next}
@@ -180,57 +183,25 @@ differences-none k l e z =
     equal : (x y : ℕ) → not (eqb x y) ≡ false → x ≡ y
     equal x y q = ⊎_elim (λ t. eqb-true x y t) (λ f. absurd (true≢false (sym (ap not f) ∙ q))) (true-or-false (eqb x y))
 
--- ---- a loop that counts
+-- ---- differences of lists taken place by place
 
-pub record Counted (n k c : ℕ) (p : ℕ → Bool) : Type 0 where
-  pub within : k ≤ n
-  pub tally : c ≡ count k p
-
-pub counted_none : (n : ℕ) (p : ℕ → Bool) → Counted n 0 0 p
+-- The places below i of a list that pass a test.
+count-places : {A : Type 0} (p : A → Bool) (d : A) (l : List A) (i : ℕ) → i ≤ length l
+    → count_by p (take i l) ≡ count i (λ j. p (get_or l j d))
 unfolding sum
-counted_none n p = record { within = omega arith; tally = refl }
+count-places p d l zero h = refl
+count-places p d l (suc i) h = cases (p (get_or l i d)) refl (count-places p d l i (omega arith))
+  where
+    cases : (b : Bool) → p (get_or l i d) ≡ b → count_by p (take i l) ≡ count i (λ j. p (get_or l j d))
+        → count_by p (take (suc i) l) ≡ count i (λ j. p (get_or l j d)) + pick (p (get_or l i d)) 1 0
+    cases true e r = rw e (omega (arith, rw add-one at (count_by_more_yes p l i d h e), r))
+    cases false e r = rw e (omega (arith, rw add-one at (count_by_more_no p l i d h e), r))
 
-pub counted-few : {n k c : ℕ} {p : ℕ → Bool} → Counted n k c p → c ≤ k
-counted-few {k = k} {p = p} h = omega (arith, count-le k p, h.tally)
-
-pub counted-more : {n k c d : ℕ} {p : ℕ → Bool} → Counted n k c p → k < n → d ≡ c + pick (p k) 1 0
-    → Counted n (k + 1) d p
-counted-more {k = k} {p = p} h l e =
-    record { within = omega arith; tally = omega (arith, count_next k p, h.tally) }
-
-pub counted-all : {n k c : ℕ} {p : ℕ → Bool} → Counted n k c p → n ≤ k → c ≡ count n p
-counted-all {n = n} {k = k} {p = p} h l =
-    let e : k ≡ n = omega (arith, h.within) in h.tally ∙ ap (λ m. count m p) e
-
--- ---- a loop that compares two lists place by place
-
-pub record Differing (k l : List ℕ) (end i n : ℕ) : Type 0 where
-  pub whole : end ≡ length k
-  pub same : length k ≡ length l
-  pub counted : Counted end i n (differ_at k l)
-
-pub differing-none : (k l : List ℕ) → length k ≡ length l → Differing k l (length k) 0 0
-differing-none k l e = record { whole = refl; same = e; counted = counted_none (length k) (differ_at k l) }
-
-pub differing-few : {k l : List ℕ} {end i n : ℕ} → Differing k l end i n → n ≤ i
-differing-few h = counted-few h.counted
-
-pub differing-more : {k l : List ℕ} {end i n m : ℕ} → Differing k l end i n → i < end
-    → m ≡ n + pick (differ_at k l i) 1 0
-    → Differing k l end (i + 1) m
-differing-more h b e = record { whole = h.whole; same = h.same; counted = counted-more h.counted b e }
-
-pub differing-yes : {k l : List ℕ} {end i n : ℕ} → Differing k l end i n → i < end
-    → (get_or k i 0 ≡ get_or l i 0 → ⊥) → Differing k l end (i + 1) (n + 1)
-differing-yes {k} {l} {i = i} {n = n} h b d =
-    differing-more h b (ap (λ b. n + pick (not b) 1 0) (sym (ne_eqb (get_or k i 0) (get_or l i 0) d)))
-
-pub differing-no : {k l : List ℕ} {end i n : ℕ} → Differing k l end i n → i < end
-    → get_or k i 0 ≡ get_or l i 0 → Differing k l end (i + 1) n
-differing-no {k} {l} {i = i} {n = n} h b d =
-    differing-more h b
-    (omega (arith, ap (λ b. n + pick (not b) 1 0) (eq-eqb (get_or k i 0) (get_or l i 0) d)))
-
-pub differing-all : {k l : List ℕ} {end i n : ℕ} → Differing k l end i n → end ≤ i → n ≡ differences k l
+pub differences-pairs : (k l : List ℕ) → length k ≡ length l → differences_by eqb k l ≡ differences k l
 unfolding differences
-differing-all {k} {l} h b = counted-all h.counted b ∙ ap (λ m. count m (differ_at k l)) h.whole
+differences-pairs k l e =
+    let pairs = zip k l in
+    let n : length pairs ≡ length k = omega (arith, length-zip k l) in
+    ap (count_by (λ p. not (eqb p.0 p.1))) (sym (take-length pairs))
+    ∙ count-places (λ p. not (eqb p.0 p.1)) (0, 0) pairs (length pairs) (omega arith)
+    ∙ rw n (count-cong (length k) _ _ (λ i h. ap (λ p. not (eqb p.0 p.1)) (get_or-zip k l i (0, 0) h (omega arith))))

@@ -5,6 +5,6 @@ pub mod Bounded
 pub mod Sums
 pub mod Lists
 pub mod Scan
-pub mod Fill
 pub mod Counting
 pub mod Bits
+pub mod Every

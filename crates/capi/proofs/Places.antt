@@ -6,47 +6,47 @@ use mathlib.Core.Bool.{Bool, true, false, ◌&&◌}
 use mathlib.Core.List.{List}
 use native.Mathlib.Omega.{arith}
 use lib.Dec.{eqb}
+use Rattle.std.proofs.Common.{Option, Some, None, Ok, Err}
 use Rattle.basics.specs.Bounded.{pick}
 use Rattle.floor.specs.Floor.{Floor, floor_of, vertices, blocked, column, row}
-use Rattle.floor.specs.declared.Shape.{Shape}
-use Rattle.floor.specs.declared.Shape.TheVariants.{Good, Refused}
+use Rattle.floor.specs.Refusals.{Shape, and_then}
 use Rattle.floor.proofs.Numbers.{vertices-le, column-le, row-le, number_lt, cell-lt}
 use Rattle.sight.specs.Sight.{Segment, segment_of, segment, enters, upright_open, level_open, pinch, passes, still}
 use Rattle.sight.specs.Obstacle.{cell_at, step_at, pinch_at, span, cell_on, start_on, or_else, first, obstacle}
 use Rattle.sight.specs.Obstacle.{blocked_cell, upright_step, level_step, blockage, passed_pinch, nearest_pinch}
-use Rattle.sight.specs.Question.{or_refused, sight_answer, obstacle_place}
+use Rattle.sight.specs.Question.{sight_answer, obstacle_place}
 use Rattle.sight.specs.Travel.{Ends}
 use Rattle.sight.specs.declared.Obstacle.{Obstacle}
-use Rattle.sight.specs.declared.Obstacle.TheVariants.{Clear, Cell, Step, Pinch}
-use Rattle.sight.specs.declared.Sight.TheVariants.{Answered}
+use Rattle.sight.specs.declared.Obstacle.TheVariants.{Cell, Step, Pinch}
 use Rattle.sight.proofs.Travel.{cell_on-lt}
 use Rattle.sight.proofs.Vertices.{point-le}
 use Rattle.sight.proofs.Question.{Asked, question, asked}
-use Rattle.closures.specs.Plain.{Plain, lowest_free, post_shape, posting_of, post_answer, post_slot}
+use Rattle.closures.specs.Plain.{Plain, lowest_free, post_shape, post_answer, post_slot}
 use Rattle.closures.specs.declared.Rectangle.{Rectangle}
 use Rattle.closures.proofs.Shapes.{good-post}
 
 -- An answer that is no refusal comes from a question of good shape.
-answered-good : (s : Shape) (x o : Obstacle) → Answered o ≡ or_refused s (Answered x) → (s ≡ Good) × (x ≡ o)
-answered-good Good x o e = (refl, cc)
-answered-good (Refused r) x o e = let z : ◌≡◌ {A = ℕ} 0 1 = cc in absurd (omega arith)
+answered-good : (s : Shape) (x : Option Obstacle) {o : Option Obstacle} → Ok o ≡ and_then s (Ok x)
+    → (s ≡ Ok tt) × (x ≡ o)
+answered-good (Ok u) x e = (refl, cc)
+answered-good (Err r) x e = cc
 
 -- ---- a place below 16,384, for each function that `obstacle` is made of
 
-abbrev Within : Obstacle → Type 0
+abbrev Within : Option Obstacle → Type 0
 Within o = obstacle_place o < 16384
 
-else-within : (o p : Obstacle) → Within o → Within p → Within (or_else o p)
-else-within Clear p i j = j
-else-within (Cell c) p i j = i
-else-within (Step v) p i j = i
-else-within (Pinch v) p i j = i
+else-within : (o p : Option Obstacle) → Within o → Within p → Within (or_else o p)
+else-within None p i j = j
+else-within (Some (Cell c)) p i j = i
+else-within (Some (Step v)) p i j = i
+else-within (Some (Pinch v)) p i j = i
 
-pick-within : (b : Bool) (o p : Obstacle) → Within o → Within p → Within (pick b o p)
+pick-within : (b : Bool) (o p : Option Obstacle) → Within o → Within p → Within (pick b o p)
 pick-within true o p i j = i
 pick-within false o p i j = j
 
-first-within : (n : ℕ) (F : ℕ → Obstacle) → ((k : ℕ) → k < n → Within (F k)) → Within (first n F)
+first-within : (n : ℕ) (F : ℕ → Option Obstacle) → ((k : ℕ) → k < n → Within (F k)) → Within (first n F)
 unfolding first
 first-within zero F i = omega arith
 first-within (suc n) F i =
@@ -57,7 +57,7 @@ module _ (f : Floor) (x0 y0 x1 y1 : ℕ) (e : Ends f.wide f.high x0 y0 x1 y1)
   abbrev s : Segment
   s = segment_of x0 y0 x1 y1
 
-  clear_within : Within Clear
+  clear_within : Within None
   clear_within = omega arith
 
   -- The column and the row k steps from the first end are on the floor.
@@ -73,13 +73,13 @@ module _ (f : Floor) (x0 y0 x1 y1 : ℕ) (e : Ends f.wide f.high x0 y0 x1 y1)
   upright-within : (k : ℕ) → k < span y0 y1 → Within (upright_step f x0 y0 y1 k)
   unfolding upright_step
   upright-within k l =
-      pick-within (upright_open f x0 (cell_on y0 y1 k)) Clear _ clear_within
+      pick-within (upright_open f x0 (cell_on y0 y1 k)) None _ clear_within
       (vertex-within x0 (start_on y0 y1 k) e.x_first (row_on k (omega arith)))
 
   level-within : (k : ℕ) → k < span x0 x1 → Within (level_step f y0 x0 x1 k)
   unfolding level_step
   level-within k l =
-      pick-within (level_open f (cell_on x0 x1 k) y0) Clear _ clear_within
+      pick-within (level_open f (cell_on x0 x1 k) y0) None _ clear_within
       (vertex-within (start_on x0 x1 k) y0 (column-on k (omega arith)) e.y_first)
 
   cell-within : (c r : ℕ) → c < span x0 x1 → r < span y0 y1 → Within (blocked_cell f s c r)
@@ -89,7 +89,7 @@ module _ (f : Floor) (x0 y0 x1 y1 : ℕ) (e : Ends f.wide f.high x0 y0 x1 y1)
       let j = cell_on y0 y1 r in
       let n = cell-lt f.wide f.high i j (cell_on-lt x0 x1 c f.wide e.x_first e.x_last p)
       (cell_on-lt y0 y1 r f.high e.y_first e.y_last q) in
-      pick-within (blocked f (suc i) (suc j) && enters s i j) (cell_at f i j) Clear (omega arith) clear_within
+      pick-within (blocked f (suc i) (suc j) && enters s i j) (cell_at f i j) None (omega arith) clear_within
 
   blockage-within : Within (blockage f s)
   unfolding blockage
@@ -104,7 +104,7 @@ module _ (f : Floor) (x0 y0 x1 y1 : ℕ) (e : Ends f.wide f.high x0 y0 x1 y1)
   pinch-within c r p q =
       let x = start_on x0 x1 c in
       let y = start_on y0 y1 r in
-      pick-within (pinch f x y && passes s x y) (pinch_at f x y) Clear (vertex-within x y (column-on c p) (row_on r q))
+      pick-within (pinch f x y && passes s x y) (pinch_at f x y) None (vertex-within x y (column-on c p) (row_on r q))
       clear_within
 
   nearest-within : Within (nearest_pinch f s)
@@ -116,8 +116,8 @@ module _ (f : Floor) (x0 y0 x1 y1 : ℕ) (e : Ends f.wide f.high x0 y0 x1 y1)
   obstacle-within : Within (obstacle f s)
   unfolding obstacle
   obstacle-within =
-      else-within (blockage f s) (pick (still s) Clear (nearest_pinch f s)) blockage-within
-      (pick-within (still s) Clear (nearest_pinch f s) clear_within nearest-within)
+      else-within (blockage f s) (pick (still s) None (nearest_pinch f s)) blockage-within
+      (pick-within (still s) None (nearest_pinch f s) clear_within nearest-within)
 
 module _ (w h : ℕ) (l : List ℕ) (a b : ℕ) where
   asked-within : Asked w h l a b → Within (obstacle (floor_of w h l) (segment w a b))
@@ -132,15 +132,15 @@ module _ (w h : ℕ) (l : List ℕ) (a b : ℕ) where
       obstacle-within (floor_of w h l) (column w a) (row w a) (column w b) (row w b) ends
       (vertices-le q.sized.wide q.sized.high)
 
-  pub place-lt : {o : Obstacle} → Answered o ≡ sight_answer w h l a b → obstacle_place o < 16384
+  pub place-lt : {o : Option Obstacle} → Ok o ≡ sight_answer w h l a b → obstacle_place o < 16384
   unfolding sight_answer
   place-lt {o} e =
-      let g = answered-good (question w h l a b) (obstacle (floor_of w h l) (segment w a b)) o e in
+      let g = answered-good (question w h l a b) (obstacle (floor_of w h l) (segment w a b)) e in
       rw g.1 at (asked-within (asked w h l a b g.0))
 
-slot_of : (s : Shape) (n : ℕ) → (s ≡ Good → n < 16) → post_slot (posting_of s n) < 16
-slot_of Good n b = b refl
-slot_of (Refused r) n b = omega arith
+slot_of : (s : Shape) (n : ℕ) → (s ≡ Ok tt → n < 16) → post_slot (and_then s (Ok n)) < 16
+slot_of (Ok u) n b = b refl
+slot_of (Err r) n b = omega arith
 
 pub slot_lt : (w h : ℕ) (m : Plain) (r : Rectangle) → post_slot (post_answer w h m r) < 16
 slot_lt w h m r = slot_of (post_shape w h m r) (lowest_free m) (good-post w h m r)

@@ -4,14 +4,15 @@
 --   changes_result r == the answer r of the first report: its number, and how many cells closed and opened
 --   CellsTo ..       == the first report's statement: the answer r, and the slice of cell numbers afterwards
 --   CostsTo ..       == the second report's statement: the answer r, and the four lent slices afterwards
-use Rattle.std.specs.Prelude.{ℕ, ◌≡◌, List}
-use Rattle.floor.specs.Refusals.{shape_number}
+use Rattle.std.specs.Prelude.{ℕ, ◌≡◌, List, Result}
+use Rattle.floor.specs.Refusals.{answer_number}
 use Rattle.changes.specs.Changes.{GivenFloor, cells_answer, cells_left, cells_number, closed_count, opened_count}
 use Rattle.changes.specs.Changes.{ReportSlices, costs_answer, costs_left}
-use Rattle.changes.specs.declared.CellReport.{CellReport}
+use Rattle.floor.specs.declared.Refusal.{Refusal}
+use Rattle.changes.specs.declared.Tally.{Tally}
 use Rattle.capi.specs.declared.change_reports.ChangesResult.{ChangesResult}
 
-abbrev pub changes_result : CellReport → ChangesResult
+abbrev pub changes_result : Result Tally Refusal → ChangesResult
 changes_result r = record { closed = closed_count r; opened = opened_count r; answer = cells_number r }
 
 pub record CellsTo (p q : GivenFloor) (l : List ℕ) (r : ChangesResult) (l' : List ℕ) : Type 0 where
@@ -19,5 +20,5 @@ pub record CellsTo (p q : GivenFloor) (l : List ℕ) (r : ChangesResult) (l' : L
   pub left : l' ≡ cells_left p q l
 
 pub record CostsTo (p q : GivenFloor) (nb a : ℕ) (s : ReportSlices) (r : ℕ) (s' : ReportSlices) : Type 0 where
-  pub answer : r ≡ shape_number (costs_answer p q nb a s)
+  pub answer : r ≡ answer_number (costs_answer p q nb a s)
   pub left : s' ≡ costs_left p q nb a s

@@ -5,11 +5,10 @@
 --   MendsTo ..    == the mending's statement: the answer r, and every slice lent to be written afterwards
 use Rattle.std.specs.Prelude.{ℕ, ◌≡◌, List}
 use Rattle.paths.specs.Sheet.{Sheet}
-use Rattle.mending.specs.Mending.{MendSlices, mend_answer, mend_left, mend_number, mend_points, mend_differences}
-use Rattle.mending.specs.declared.Mended.{Mended}
+use Rattle.mending.specs.Mending.{MendSlices, MendAnswer, mend_answer, mend_left, mend_number, mend_points, mend_differences}
 use Rattle.capi.specs.declared.mend.MendResult.{MendResult}
 
-abbrev pub mend_result : Mended → MendResult
+abbrev pub mend_result : MendAnswer → MendResult
 mend_result m =
     let c = mend_differences m in
     record {

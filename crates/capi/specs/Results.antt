@@ -13,20 +13,17 @@
 --   PostsTo, StrikesTo == the statements of post and strike: the answer, and the 64 numbers afterwards
 --   WritesTo ..        == the statement of writing the working map: the answer, and the slice afterwards
 --   ReplaysTo ..       == the replay's statement: the answer r, and both lent slices afterwards
-use Rattle.std.specs.Prelude.{ℕ, ◌≡◌, List, length}
-use Rattle.floor.specs.Refusals.{shape_number}
+use Rattle.std.specs.Prelude.{ℕ, ◌≡◌, List, length, Result}
+use Rattle.floor.specs.Refusals.{answer_number}
 use Rattle.basics.specs.Bounded.{pick}
-use Rattle.sight.specs.Question.{sight_case, sight_place}
-use Rattle.sight.specs.declared.Sight.{Sight}
+use Rattle.floor.specs.declared.Refusal.{Refusal}
+use Rattle.sight.specs.Question.{Sight, sight_case, sight_place}
 use Rattle.planner.specs.Plan.{CostSlices, costs_answer, costs_left}
-use Rattle.planner.specs.Plan.{Slices, finish_answer, finish_left, plan_number, plan_cost, plan_total, plan_points}
-use Rattle.planner.specs.declared.Planned.{Planned}
+use Rattle.planner.specs.Plan.{Slices, Planned, finish_answer, finish_left, plan_number, plan_cost, plan_total, plan_points}
 use Rattle.thinning.specs.Answer.{thin_answer, thin_output, thin_number, thin_kept}
-use Rattle.thinning.specs.declared.Thinned.{Thinned}
 use Rattle.closures.specs.Plain.{post_answer, post_slot, post_number, strike_shape}
 use Rattle.closures.specs.Plain.{work_shape, work_left}
 use Rattle.closures.specs.declared.Rectangle.{Rectangle}
-use Rattle.closures.specs.declared.Posting.{Posting}
 use Rattle.stored_closures.specs.Stored.{stored_in, post_stored, strike_stored}
 use Rattle.replay.specs.Replay.{ReplaySlices, replay_answer, replay_left, replay_number}
 use Rattle.replay.specs.Replay.{replay_read, replay_cost, replay_unfollowed, replay_bad, replay_cheapest}
@@ -43,13 +40,13 @@ obstacle_result s = record { place = sight_place s; answer = sight_case s }
 abbrev pub plan_result : Planned → PlanResult
 plan_result p = record { total = plan_total p; points = plan_points p; cost = plan_cost p; answer = plan_number p }
 
-abbrev pub thin_result : Thinned → ThinResult
+abbrev pub thin_result : Result ℕ Refusal → ThinResult
 thin_result t = record { kept = thin_kept t; answer = thin_number t }
 
-abbrev pub post_result : Posting → PostResult
+abbrev pub post_result : Result ℕ Refusal → PostResult
 post_result p = record { slot = post_slot p; answer = post_number p }
 
-abbrev pub replay_result : Replayed → ReplayResult
+abbrev pub replay_result : Result Replayed Refusal → ReplayResult
 replay_result r = record {
   read = replay_read r;
   unfollowed = replay_unfollowed r;
@@ -60,7 +57,7 @@ replay_result r = record {
 }
 
 pub record FillsTo (w h : ℕ) (map : List ℕ) (nb a : ℕ) (s : CostSlices) (r : ℕ) (s' : CostSlices) : Type 0 where
-  pub answer : r ≡ shape_number (costs_answer w h map nb a s)
+  pub answer : r ≡ answer_number (costs_answer w h map nb a s)
   pub left : s' ≡ costs_left w h map nb a s
 
 pub record FinishesTo (w h : ℕ) (map : List ℕ) (nb a b : ℕ) (d : List ℕ) (s : Slices) (r : PlanResult) (s' : Slices)
@@ -77,11 +74,11 @@ pub record PostsTo (w h : ℕ) (l : List ℕ) (x : Rectangle) (r : PostResult) (
   pub left : l' ≡ post_stored w h l x
 
 pub record StrikesTo (w h : ℕ) (l : List ℕ) (k r : ℕ) (l' : List ℕ) : Type 0 where
-  pub answer : r ≡ shape_number (strike_shape w h (stored_in l) k)
+  pub answer : r ≡ answer_number (strike_shape w h (stored_in l) k)
   pub left : l' ≡ strike_stored w h l k
 
 pub record WritesTo (w h : ℕ) (l base map : List ℕ) (r : ℕ) (map' : List ℕ) : Type 0 where
-  pub answer : r ≡ shape_number (work_shape w h base (length map))
+  pub answer : r ≡ answer_number (work_shape w h base (length map))
   pub left : map' ≡ work_left w h base (stored_in l) map
 
 pub record ReplaysTo (w h : ℕ) (map : List ℕ) (nb : ℕ) (log : List ℕ) (s : ReplaySlices) (r : ReplayResult)

@@ -36,9 +36,9 @@ pub fn lurfanzi_changes(
         cells,
     );
     ChangesResult {
-        closed: changes::closed_count(r),
-        opened: changes::opened_count(r),
-        answer: changes::cells_number(r),
+        closed: r.map_or(0, |t| t.closed),
+        opened: r.map_or(0, |t| t.opened),
+        answer: floor::answer_number(r),
     }
 }
 
@@ -77,5 +77,5 @@ pub fn lurfanzi_cost_changes(
         changes,
         work,
     );
-    floor::shape_number(r)
+    floor::answer_number(r)
 }

@@ -1,6 +1,6 @@
 // Fewest stops: the checker of a proposal, and our own proposer.
 ghost use Rattle.std.specs.Prelude.{◌≡◌};
-ghost use Rattle.floor.specs.Refusals.{shape_number};
+ghost use Rattle.floor.specs.Refusals.{answer_number};
 ghost use Rattle.legs.specs.Answer.{check_answer};
 ghost use Rattle.capi.specs.Legs.{ProposesTo};
 
@@ -17,7 +17,7 @@ pub fn lurfanzi_check_legs(
     count: usize,
     legs: &[u16],
 ) -> u8
-    ensures { result ≡ shape_number (check_answer width height map.now list.now n
+    ensures { result ≡ answer_number (check_answer width height map.now list.now n
         kept.now count legs.now) }
 {
     let c = legs::check(
@@ -30,7 +30,7 @@ pub fn lurfanzi_check_legs(
         count,
         legs,
     );
-    floor::shape_number(c)
+    floor::answer_number(c)
 }
 
 // Our own proposer.
@@ -48,7 +48,7 @@ pub fn lurfanzi_fewest_legs(
 {
     let t = legs::propose(width as usize, height as usize, map, list, kept, legs, n);
     ThinResult {
-        kept: thinning::kept_count(t),
-        answer: thinning::thin_number(t),
+        kept: t.unwrap_or(0),
+        answer: floor::answer_number(t),
     }
 }

@@ -1,10 +1,10 @@
 // The C interface: each operation on plain numbers and slices, under the contract of the operation.
 // include/lurfanzi.h declares these functions, and the crate `capi_c` exports them. Sides, neighbourhood, ends, slots and
 // the numbers of a rectangle are 32 bits wide, so that no number is truncated on its way in.
+// Kept: the C interface: numbers for answers, and 0 for a value that there is not.
 #![tactic(auto)]
 
 ghost use Rattle.std.specs.Prelude.{◌≡◌};
-ghost use Rattle.basics.specs.Bounded.{pick};
 ghost use Rattle.sight.specs.Question.{sight_answer, sight_number, obstacle_number, obstacle_place};
 ghost use Rattle.paths.specs.Sheet.{sheet_of};
 ghost use Rattle.planner.specs.Plan.{cost_slices_of, slices_of};
@@ -14,7 +14,8 @@ ghost use Rattle.replay.specs.Replay.{replay_slices_of};
 ghost use Rattle.capi.specs.Results.{obstacle_result};
 ghost use Rattle.capi.specs.Results.{FillsTo, FinishesTo, ThinsTo, PostsTo, StrikesTo, WritesTo, ReplaysTo};
 
-use sight::{Obstacle, Sight};
+use paths::Sheet;
+use sight::Obstacle;
 
 pub mod change_reports; // change_reports.rt: what changed between two floors
 pub mod fewest_legs; // fewest_legs.rt: fewest stops
@@ -77,27 +78,27 @@ pub fn lurfanzi_sight(width: u32, height: u32, map: &[u8], a: u32, b: u32) -> u8
 }
 
 // What is in the way, as a number.
-fn obstacle_number(o: Obstacle) -> u8
+fn obstacle_number(o: Option<Obstacle>) -> u8
     ensures { result ≡ obstacle_number o }
 {
     match o {
-        Obstacle::Clear => 0,
-        Obstacle::Cell(_) => 101,
-        Obstacle::Step(_) => 102,
-        Obstacle::Pinch(_) => 103,
+        None => 0,
+        Some(Obstacle::Cell(_)) => 101,
+        Some(Obstacle::Step(_)) => 102,
+        Some(Obstacle::Pinch(_)) => 103,
     }
 }
 
 // The place of what is in the way: the number of the cell, of the vertex where the shut step begins, or of the pinch; 0
 // where the way is clear.
-fn obstacle_place(o: Obstacle) -> usize
+fn obstacle_place(o: Option<Obstacle>) -> usize
     ensures { result ≡ obstacle_place o }
 {
     match o {
-        Obstacle::Clear => 0,
-        Obstacle::Cell(c) => c.0,
-        Obstacle::Step(v) => v.0,
-        Obstacle::Pinch(v) => v.0,
+        None => 0,
+        Some(Obstacle::Cell(c)) => c.0,
+        Some(Obstacle::Step(v)) => v.0,
+        Some(Obstacle::Pinch(v)) => v.0,
     }
 }
 
@@ -107,17 +108,14 @@ pub fn lurfanzi_obstacle(width: u32, height: u32, map: &[u8], a: u32, b: u32) ->
 {
     let found = sight::ask(width as usize, height as usize, map, a as usize, b as usize);
     match found {
-        Sight::Refused(r) => ObstacleResult {
-            place: 0,
-            answer: floor::refusal_number(r),
+        Ok(o) => ObstacleResult {
+            place: obstacle_place(o) as u32,
+            answer: obstacle_number(o),
         },
-        Sight::Answered(o) => {
-            let place = obstacle_place(o) as u32;
-            ObstacleResult {
-                place: place,
-                answer: obstacle_number(o),
-            }
-        }
+        Err(r) => ObstacleResult {
+            place: 0,
+            answer: u8::from(r),
+        },
     }
 }
 
@@ -143,7 +141,7 @@ pub fn lurfanzi_costs(
         d,
         work,
     );
-    floor::shape_number(c)
+    floor::answer_number(c)
 }
 
 // The planner's second operation: the rest of a job from given costs.
@@ -184,10 +182,10 @@ pub fn lurfanzi_finish(
         work,
     );
     PlanResult {
-        total: planner::plan_total(p),
-        points: planner::plan_points(p),
-        cost: planner::plan_cost(p),
-        answer: planner::plan_number(p),
+        total: p.map_or(0, |plan| plan.total),
+        points: p.map_or(0, |plan| plan.points),
+        cost: p.map_or(0, |plan| plan.cost),
+        answer: floor::answer_number(p),
     }
 }
 
@@ -218,13 +216,15 @@ pub fn lurfanzi_check(
         neighbourhood as usize,
         a as usize,
         b as usize,
-        d,
-        e,
-        f,
-        back,
-        route,
-        next,
-        n,
+        Sheet {
+            d,
+            e,
+            f,
+            back,
+            route,
+            next,
+            n,
+        },
     ))
 }
 
@@ -241,8 +241,8 @@ pub fn lurfanzi_thin(
 {
     let t = thinning::thin(width as usize, height as usize, map, list, out, n);
     ThinResult {
-        kept: thinning::kept_count(t),
-        answer: thinning::thin_number(t),
+        kept: t.unwrap_or(0),
+        answer: floor::answer_number(t),
     }
 }
 
@@ -259,7 +259,7 @@ pub fn lurfanzi_post(
     ensures { PostsTo width height slots.old (rectangle_of column row columns rows) result
         slots.new }
 {
-    let p = stored_closures::post(
+    let posted = stored_closures::post(
         width as usize,
         height as usize,
         slots,
@@ -268,10 +268,9 @@ pub fn lurfanzi_post(
         columns,
         rows,
     );
-    let slot = closures::post_slot(p) as u32;
     PostResult {
-        slot: slot,
-        answer: closures::post_number(p),
+        slot: posted.unwrap_or(0) as u32,
+        answer: floor::answer_number(posted),
     }
 }
 
@@ -280,7 +279,7 @@ pub fn lurfanzi_strike(width: u32, height: u32, slots: &mut [u32; 64], slot: u32
     ensures { StrikesTo width height slots.old slot result slots.new }
 {
     let s = stored_closures::strike(width as usize, height as usize, slots, slot as usize);
-    floor::shape_number(s)
+    floor::answer_number(s)
 }
 
 // The working map.
@@ -294,17 +293,7 @@ pub fn lurfanzi_working_map(
     ensures { WritesTo width height slots.now base.now map.old result map.new }
 {
     let s = stored_closures::working_map(width as usize, height as usize, slots, base, map);
-    floor::shape_number(s)
-}
-
-// A truth value as a number.
-fn flag(b: bool) -> u8
-    ensures { result ≡ pick b 1 0 }
-{
-    if b {
-        return 1;
-    }
-    0
+    floor::answer_number(s)
 }
 
 // The replay of a log.
@@ -330,13 +319,12 @@ pub fn lurfanzi_replay(
         costs,
         work,
     );
-    let cheapest = replay::replay_cheapest(r);
     ReplayResult {
-        read: replay::replay_read(r),
-        unfollowed: replay::replay_unfollowed(r),
-        bad: replay::replay_bad(r),
-        cost: replay::replay_cost(r),
-        cheapest: flag(cheapest),
+        read: r.map_or(0, |d| d.read),
+        unfollowed: r.map_or(0, |d| d.unfollowed.unwrap_or(0)),
+        bad: r.map_or(0, |d| d.bad.unwrap_or(0)),
+        cost: r.map_or(0, |d| d.cost),
+        cheapest: u8::from(r.map_or(false, |d| d.cheapest)),
         answer: replay::replay_number(r),
     }
 }

@@ -4,6 +4,9 @@ ghost use Rattle.paths.specs.Sheet.{sheet_of};
 ghost use Rattle.mending.specs.Mending.{mend_slices_of};
 ghost use Rattle.capi.specs.Mending.{MendsTo};
 
+use mending::Differences;
+use paths::Sheet;
+
 // The answer; `n`, the number of points of the true route, 0 at every answer but 0; and for each slice the number of
 // places where the damaged one and the true one differ, 0 at every answer but 0 and 7.
 #[repr(C)]
@@ -56,12 +59,15 @@ pub fn lurfanzi_mend(
         neighbourhood as usize,
         a as usize,
         b as usize,
-        old_d,
-        old_e,
-        old_f,
-        old_back,
-        old_route,
-        old_next,
+        Sheet {
+            d: old_d,
+            e: old_e,
+            f: old_f,
+            back: old_back,
+            route: old_route,
+            next: old_next,
+            n: 0,
+        },
         d,
         e,
         f,
@@ -70,9 +76,9 @@ pub fn lurfanzi_mend(
         next,
         work,
     );
-    let c = mending::mend_differences(m);
+    let c = m.map_or(Differences::default(), |mended| mended.differences);
     MendResult {
-        n: mending::mend_points(m),
+        n: m.map_or(0, |mended| mended.points.unwrap_or(0)),
         d: c.d,
         e: c.e,
         f: c.f,

@@ -26,11 +26,9 @@ pub fn lurfanzi_write_map(
         buffer.new }
 {
     let done = writer.put_map(width as usize, height as usize, map, buffer);
-    let left = done.writer;
-    let answer = done.answer;
     WriteResult {
-        writer: left,
-        answer: floor::shape_number(answer),
+        writer: done.unwrap_or(writer),
+        answer: floor::answer_number(done),
     }
 }
 
@@ -46,10 +44,8 @@ pub fn lurfanzi_write_job(
         buffer.new }
 {
     let done = writer.put_job(neighbourhood, a, b, buffer);
-    let left = done.writer;
-    let answer = done.answer;
     WriteResult {
-        writer: left,
-        answer: floor::shape_number(answer),
+        writer: done.unwrap_or(writer),
+        answer: floor::answer_number(done),
     }
 }

@@ -1,6 +1,6 @@
 // Fewest stops.
 ghost use Rattle.std.specs.Prelude.{◌≡◌};
-ghost use Rattle.floor.specs.Refusals.{shape_number};
+ghost use Rattle.floor.specs.Refusals.{answer_number};
 ghost use Rattle.legs.specs.Answer.{check_answer};
 ghost use Rattle.capi.specs.Legs.{ProposesTo};
 
@@ -18,7 +18,7 @@ pub extern "C" fn lurfanzi_check_legs(
     count: usize,
     legs: &[u16],
 ) -> u8
-    ensures { result ≡ shape_number (check_answer width height map.now list.now n
+    ensures { result ≡ answer_number (check_answer width height map.now list.now n
         kept.now count legs.now) }
 {
     capi::fewest_legs::lurfanzi_check_legs(width, height, map, list, n, kept, count, legs)

@@ -12,6 +12,7 @@ use mathlib.Core.Path.{◌≡◌, refl, sym, ap, ap₂, ◌∙◌}
 use mathlib.Core.List.{List, []}
 use native.Mathlib.Omega.{arith}
 use lib.ListN.{length, get_or}
+use Rattle.std.proofs.Common.{Ok, Err}
 use Rattle.basics.specs.Lists.{padded, zeros, chosen}
 use Rattle.basics.proofs.Lists.{get_or-padded, get_or-padded-past}
 use Rattle.basics.proofs.Counting.{
@@ -25,8 +26,7 @@ use Rattle.basics.proofs.Counting.{
   chosen-rises,
 }
 use Rattle.floor.specs.Floor.{Floor, cell_numbered}
-use Rattle.floor.specs.declared.Shape.{Shape}
-use Rattle.floor.specs.declared.Shape.TheVariants.{Good, Refused}
+use Rattle.floor.specs.Refusals.{Shape, and_then}
 use Rattle.changes.specs.Changes.{
   GivenFloor,
   floor_in,
@@ -37,12 +37,10 @@ use Rattle.changes.specs.Changes.{
   tally,
   tally_of,
   cells_shape,
-  listed_by,
   cells_answer,
   cells_left,
 }
 use Rattle.changes.specs.declared.Tally.{Tally}
-use Rattle.changes.specs.declared.CellReport.TheVariants.{Listed as CellsListed}
 use Rattle.changes.proofs.Cell.{apart, same-neither, neither-same, other_differs, differs-other}
 
 abbrev pub Differ : Floor → Floor → ℕ → Type 0
@@ -112,13 +110,13 @@ padded-none : (n : ℕ) → padded n [] ≡ zeros n
 unfolding padded
 padded-none n = let e : n - 0 ≡ n = omega arith in ap zeros e
 
-listed-good : (s : Shape) (x t : Tally) → listed_by s x ≡ CellsListed t → (s ≡ Good) × (x ≡ t)
-listed-good Good x t e = (refl, cc)
-listed-good (Refused r) x t e = let z : ◌≡◌ {A = ℕ} 0 1 = cc in absurd (omega arith)
+listed-good : (s : Shape) (x t : Tally) → and_then s (Ok x) ≡ Ok t → (s ≡ Ok tt) × (x ≡ t)
+listed-good (Ok u) x t e = (refl, cc)
+listed-good (Err r) x t e = cc
 
 module _ (p q : GivenFloor) (l : List ℕ) where
-  module _ {t : Tally} (answer : cells_answer p q l ≡ CellsListed t) where
-    good : (cells_shape p q (length l) ≡ Good) × (tally_of (floor_in p) (floor_in q) ≡ t)
+  module _ {t : Tally} (answer : cells_answer p q l ≡ Ok t) where
+    good : (cells_shape p q (length l) ≡ Ok tt) × (tally_of (floor_in p) (floor_in q) ≡ t)
     unfolding cells_answer
     good = listed-good (cells_shape p q (length l)) (tally_of (floor_in p) (floor_in q)) t answer
 
@@ -132,8 +130,8 @@ module _ (p q : GivenFloor) (l : List ℕ) where
     pub same-counts : t ≡ tally 0 0 → Same (floor_in p) (floor_in q)
     same-counts e = tally-same (floor_in p) (floor_in q) (good.1 ∙ e)
 
-  pub same-cells : cells_shape p q (length l) ≡ Good → Same (floor_in p) (floor_in q)
-      → (cells_answer p q l ≡ CellsListed (tally 0 0)) × (cells_left p q l ≡ zeros (length l))
+  pub same-cells : cells_shape p q (length l) ≡ Ok tt → Same (floor_in p) (floor_in q)
+      → (cells_answer p q l ≡ Ok (tally 0 0)) × (cells_left p q l ≡ zeros (length l))
   unfolding cells_answer cells_left
   same-cells g s = (
     rw (g, same-tally (floor_in p) (floor_in q) s),

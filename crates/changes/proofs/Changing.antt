@@ -1,7 +1,7 @@
 -- The loop over the vertices: how each cost changed.
 --
---   change-equal, change-from, change-to, change-fell, change-rose == the value of `change_of`, for each outcome of the
---                              tests in order
+--   change-equal, change-from, change-to == the value of `change_of` where the costs are equal, and else where the first
+--                              or the second is M
 --   Writing c c' n end v l  == a loop over the places of l, n = end of them, is at v: the first v hold their changes
 --   writing-none, writing_more, writing-done == `Writing` before the loop, after one vertex more, and at the end
 --   filled-report           == the costs on both floors and their changes are what the report leaves
@@ -10,7 +10,7 @@ use mathlib.Core.Path.{◌≡◌, refl, ap, ap₂, ◌∙◌}
 use mathlib.Core.Logic.{⊎_elim}
 use mathlib.Core.List.{List}
 use native.Mathlib.Omega.{arith}
-use borrow.Author.Tests.{eq-eqb, ne_eqb, lt-ltb, le-ltb}
+use borrow.Author.Tests.{eq-eqb, ne_eqb}
 use lib.ListN.{length, get_or, set, length-set}
 use lib.Seq.{get_or-set_same, get_or-set_other}
 use Rattle.basics.specs.Lists.{tabulate}
@@ -38,17 +38,6 @@ module _ (x y : ℕ) where
       pub change-to : y ≡ unreachable → 4 ≡ change_of x y
       unfolding change_of
       change-to e = rw (ne_eqb x y other, ne_eqb x unreachable from, eq-eqb y unreachable e)
-
-      module _ (to : y ≡ unreachable → ⊥) where
-        pub change-fell : y < x → 1 ≡ change_of x y
-        unfolding change_of
-        change-fell l =
-            rw (ne_eqb x y other, ne_eqb x unreachable from, ne_eqb y unreachable to, lt-ltb y x l)
-
-        pub change-rose : x ≤ y → 2 ≡ change_of x y
-        unfolding change_of
-        change-rose l =
-            rw (ne_eqb x y other, ne_eqb x unreachable from, ne_eqb y unreachable to, le-ltb y x l)
 
 -- ---- all vertices
 

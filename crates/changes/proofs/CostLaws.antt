@@ -18,6 +18,7 @@ use native.Mathlib.Omega.{arith}
 use borrow.Author.Tests.{eqb-true, eqb-false}
 use lib.Dec.{ltb, eqb}
 use lib.ListN.{get_or}
+use Rattle.std.proofs.Common.{Ok}
 use Rattle.basics.specs.Bounded.{pick}
 use Rattle.basics.specs.Lists.{zeros, tabulate}
 use Rattle.basics.proofs.Order.{le-or-lt}
@@ -35,7 +36,6 @@ use Rattle.paths.proofs.Distance.{distance-le}
 use Rattle.paths.proofs.Bound.{reached-exact, unreachable-exact}
 use Rattle.grid.specs.Grid.{floor_graph}
 use Rattle.grid.specs.Known.{GoodJob}
-use Rattle.grid.specs.declared.JobShape.TheVariants.{Fit}
 use Rattle.grid.proofs.Lawful.{floor-lawful, size-le, graph_same}
 use Rattle.changes.specs.Changes.{
   GivenFloor,
@@ -128,7 +128,7 @@ same_graph f f' dirs w h s =
     ∙ ap (λ n. cell_numbered f' (cell_number n i j)) w ∙ numbered-cell f' i j (omega (arith, w)))
 
 module _ (p q : GivenFloor) (nb a : ℕ) (s : ReportSlices) {dirs : Directions}
-    (fit : shape_for p q nb a s ≡ Fit dirs) where
+    (fit : shape_for p q nb a s ≡ Ok dirs) where
   abbrev g : Graph
   g = floor_graph (floor_in p) dirs
 

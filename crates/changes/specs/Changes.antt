@@ -13,7 +13,6 @@
 --   tally c o                  == the counts: c cells closed and o opened
 --   tally_of f f'              == how many cells closed and how many opened from f to f'
 --   cells_shape p q n          == the refusals of the first report, for a slice of n places: `floors_shape p q`, then 6
---   listed_by s t              == the first report's answer for the shape s: the tally t, or the refusal
 --   cells_answer p q l         == the first report's answer, for every input; l is the lent slice
 --   cells_left p q l           == the slice l after the first report: the differing cells, then 0; untouched at a
 --                                 refusal
@@ -29,30 +28,26 @@
 --                                 slices of the lengths given: `floors_shape p q`, 4, 5, 11, then 6
 --   shape_for p q nb a s       == `report_shape` for the lengths of the slices s
 --   costs_on g g' a            == the slices with the costs from a on the graphs of the two floors, and their changes
---   job_answer, job_left       == the second report's answer, and its slices afterwards, from the directions or the
---                                 refusal that `report_shape` gives
+--   job_left f f' a s j        == the second report's slices afterwards, from the directions or the refusal j that
+--                                 `report_shape` gives
 --   costs_answer ..            == the second report's answer, for every input
 --   costs_left ..              == the second report's slices afterwards, for every input: untouched at a refusal
 --   ReportsCosts ..            == the second report's promise: `costs_answer` and `costs_left`, for every input
 --   cells_number a             == the number of the first report's answer a
 --   closed_count, opened_count == how many cells closed and opened, as the first report's answer says; 0 at a refusal
-use Rattle.std.specs.Prelude.{ℕ, ◌*◌, ◌≡◌, Bool, ◌&&◌, ◌||◌, not, List, ltb, eqb, length}
+use Rattle.std.specs.Prelude.{ℕ, ◌*◌, ◌≡◌, Bool, ◌&&◌, ◌||◌, not, List, ltb, eqb, length, Result, Ok, Err}
 use Rattle.basics.specs.Bounded.{pick, count}
 use Rattle.basics.specs.Lists.{tabulate, padded, zeros, chosen}
 use Rattle.floor.specs.Floor.{Floor, floor_of, cell_numbered, vertices}
-use Rattle.floor.specs.Refusals.{refusal_number, floor_shape, end_shape, and_then, left_by}
+use Rattle.floor.specs.Refusals.{Shape, good_if, answer_number, floor_shape, end_shape, and_then, left_by}
+use Rattle.floor.specs.declared.Refusal.{Refusal}
 use Rattle.floor.specs.declared.Refusal.TheVariants.{SliceLength, SizesDiffer}
-use Rattle.floor.specs.declared.Shape.{Shape}
-use Rattle.floor.specs.declared.Shape.TheVariants.{Good, Refused as BadShape}
 use Rattle.moves.specs.Moves.{neighbourhood_of}
+use Rattle.moves.specs.declared.Directions.{Directions}
 use Rattle.paths.specs.Graph.{Graph}
 use Rattle.paths.specs.Distance.{unreachable, distance}
-use Rattle.grid.specs.Grid.{floor_graph, or_refused, with_dirs, pinch_shape}
-use Rattle.grid.specs.declared.JobShape.{JobShape}
-use Rattle.grid.specs.declared.JobShape.TheVariants.{Fit, Refused as BadJob}
+use Rattle.grid.specs.Grid.{floor_graph, with_dirs, pinch_shape}
 use Rattle.changes.specs.declared.Tally.{Tally}
-use Rattle.changes.specs.declared.CellReport.{CellReport}
-use Rattle.changes.specs.declared.CellReport.TheVariants.{Listed, Refused}
 
 -- ---- two floors
 
@@ -73,7 +68,7 @@ floor_in p = floor_of p.wide p.high p.map
 unfoldable pub floors_shape : GivenFloor → GivenFloor → Shape
 floors_shape p q =
     and_then (shape_of p)
-    (and_then (shape_of q) (pick (eqb p.wide q.wide && eqb p.high q.high) Good (BadShape SizesDiffer)))
+    (and_then (shape_of q) (pick (eqb p.wide q.wide && eqb p.high q.high) (Ok tt) (Err SizesDiffer)))
 
 -- ---- the first report: the cells
 
@@ -96,21 +91,17 @@ unfoldable pub tally_of : Floor → Floor → Tally
 tally_of f f' = tally (count (f.wide * f.high) (closes f f')) (count (f.wide * f.high) (opens f f'))
 
 unfoldable pub cells_shape : GivenFloor → GivenFloor → ℕ → Shape
-cells_shape p q n = and_then (floors_shape p q) (pick (eqb n (p.wide * p.high)) Good (BadShape SliceLength))
+cells_shape p q n = and_then (floors_shape p q) (pick (eqb n (p.wide * p.high)) (Ok tt) (Err SliceLength))
 
-abbrev pub listed_by : Shape → Tally → CellReport
-listed_by Good t = Listed t
-listed_by (BadShape r) t = Refused r
-
-unfoldable pub cells_answer : GivenFloor → GivenFloor → List ℕ → CellReport
-cells_answer p q l = listed_by (cells_shape p q (length l)) (tally_of (floor_in p) (floor_in q))
+unfoldable pub cells_answer : GivenFloor → GivenFloor → List ℕ → Result Tally Refusal
+cells_answer p q l = and_then (cells_shape p q (length l)) (Ok (tally_of (floor_in p) (floor_in q)))
 
 unfoldable pub cells_left : GivenFloor → GivenFloor → List ℕ → List ℕ
 cells_left p q l =
     left_by (cells_shape p q (length l)) (padded (length l) (differing (floor_in p) (floor_in q))) l
 
 -- The first report's promise: the slice l before, l' after, and the answer r.
-pub record ReportsCells (p q : GivenFloor) (l : List ℕ) (r : CellReport) (l' : List ℕ) : Type 0 where
+pub record ReportsCells (p q : GivenFloor) (l : List ℕ) (r : Result Tally Refusal) (l' : List ℕ) : Type 0 where
   pub answer : r ≡ cells_answer p q l
   pub left : l' ≡ cells_left p q l
 
@@ -130,19 +121,19 @@ abbrev pub report_slices_of : List ℕ → List ℕ → List ℕ → List ℕ �
 report_slices_of c c' l k = record { first = c; second = c'; change = l; work = k }
 
 unfoldable pub slices_shape : ℕ → ℕ → ℕ → ℕ → ℕ → Shape
-slices_shape v c c' n k = pick (eqb c v && eqb c' v && eqb n v && eqb k (4 * v)) Good (BadShape SliceLength)
+slices_shape v c c' n k = pick (eqb c v && eqb c' v && eqb n v && eqb k (4 * v)) (Ok tt) (Err SliceLength)
 
 unfoldable pub start_shape : GivenFloor → GivenFloor → ℕ → Shape
 start_shape p q a =
     and_then (end_shape p.wide p.high a) (and_then (pinch_shape (floor_in p) a) (pinch_shape (floor_in q) a))
 
-unfoldable pub report_shape : GivenFloor → GivenFloor → ℕ → ℕ → ℕ → ℕ → ℕ → ℕ → JobShape
+unfoldable pub report_shape : GivenFloor → GivenFloor → ℕ → ℕ → ℕ → ℕ → ℕ → ℕ → Result Directions Refusal
 report_shape p q nb a c c' n k =
-    or_refused (floors_shape p q)
+    and_then (floors_shape p q)
     (with_dirs (neighbourhood_of nb)
     (and_then (start_shape p q a) (slices_shape (vertices p.wide p.high) c c' n k)))
 
-abbrev pub shape_for : GivenFloor → GivenFloor → ℕ → ℕ → ReportSlices → JobShape
+abbrev pub shape_for : GivenFloor → GivenFloor → ℕ → ℕ → ReportSlices → Result Directions Refusal
 shape_for p q nb a s =
     report_shape p q nb a (length s.first) (length s.second) (length s.change) (length s.work)
 
@@ -154,16 +145,12 @@ costs_on g g' a = record {
   work = zeros (4 * g.size);
 }
 
-abbrev pub job_answer : JobShape → Shape
-job_answer (Fit dirs) = Good
-job_answer (BadJob r) = BadShape r
-
-abbrev pub job_left : Floor → Floor → ℕ → ReportSlices → JobShape → ReportSlices
-job_left f f' a s (Fit dirs) = costs_on (floor_graph f dirs) (floor_graph f' dirs) a
-job_left f f' a s (BadJob r) = s
+abbrev pub job_left : Floor → Floor → ℕ → ReportSlices → Result Directions Refusal → ReportSlices
+job_left f f' a s (Ok dirs) = costs_on (floor_graph f dirs) (floor_graph f' dirs) a
+job_left f f' a s (Err r) = s
 
 unfoldable pub costs_answer : GivenFloor → GivenFloor → ℕ → ℕ → ReportSlices → Shape
-costs_answer p q nb a s = job_answer (shape_for p q nb a s)
+costs_answer p q nb a s = good_if (shape_for p q nb a s)
 
 unfoldable pub costs_left : GivenFloor → GivenFloor → ℕ → ℕ → ReportSlices → ReportSlices
 costs_left p q nb a s = job_left (floor_in p) (floor_in q) a s (shape_for p q nb a s)
@@ -176,14 +163,13 @@ pub record ReportsCosts (p q : GivenFloor) (nb a : ℕ) (s : ReportSlices) (r : 
 
 -- ---- number and values of an answer
 
-abbrev pub cells_number : CellReport → ℕ
-cells_number (Listed t) = 0
-cells_number (Refused r) = refusal_number r
+abbrev pub cells_number : Result Tally Refusal → ℕ
+cells_number r = answer_number r
 
-abbrev pub closed_count : CellReport → ℕ
-closed_count (Listed t) = t.closed
-closed_count (Refused r) = 0
+abbrev pub closed_count : Result Tally Refusal → ℕ
+closed_count (Ok t) = t.closed
+closed_count (Err r) = 0
 
-abbrev pub opened_count : CellReport → ℕ
-opened_count (Listed t) = t.opened
-opened_count (Refused r) = 0
+abbrev pub opened_count : Result Tally Refusal → ℕ
+opened_count (Ok t) = t.opened
+opened_count (Err r) = 0

@@ -8,11 +8,9 @@ ghost use Rattle.floor.specs.Floor.{floor_of};
 ghost use Rattle.grid.specs.Grid.{floor_graph};
 ghost use Rattle.changes.specs.Changes.{given_floor_of, floors_shape, cells_shape, ReportsCells, change_of};
 ghost use Rattle.changes.specs.Changes.{report_slices_of, slices_shape, report_shape, costs_on, ReportsCosts};
-ghost use Rattle.changes.specs.Changes.{cells_number, closed_count, opened_count};
 ghost use Rattle.changes.specs.Known.{MapsOf, Noted, change_at, Reportable};
 
-use floor::{Cell, Refusal, Shape, Vertex};
-use grid::JobShape;
+use floor::{Cell, FloorPlan, Refusal, Vertex};
 use moves::Directions;
 
 // How many cells closed, open on the first floor and blocked on the second, and how many opened.
@@ -22,65 +20,29 @@ pub struct Tally {
     pub opened: usize,
 }
 
-// The first report's answer: the differing cells are listed, with how many closed and opened, or a refusal.
-#[derive(Clone, Copy)]
-pub enum CellReport {
-    Listed(Tally),
-    Refused(Refusal),
-}
-
-// The number of the first report's answer (rule 6.1).
-pub fn cells_number(r: CellReport) -> u8
-    ensures { result ≡ cells_number r }
-{
-    match r {
-        CellReport::Listed(_) => 0,
-        CellReport::Refused(x) => floor::refusal_number(x),
-    }
-}
-
-// How many cells closed; 0 on a refusal.
-pub fn closed_count(r: CellReport) -> usize
-    ensures { result ≡ closed_count r }
-{
-    match r {
-        CellReport::Listed(t) => t.closed,
-        CellReport::Refused(_) => 0,
-    }
-}
-
-// How many cells opened; 0 on a refusal.
-pub fn opened_count(r: CellReport) -> usize
-    ensures { result ≡ opened_count r }
-{
-    match r {
-        CellReport::Listed(t) => t.opened,
-        CellReport::Refused(_) => 0,
-    }
-}
-
 // Refusals 1 to 3 of the first floor, then of the second, then 15.
-fn floors_shape(w: usize, h: usize, map: &[u8], w2: usize, h2: usize, map2: &[u8]) -> Shape
+// Kept: what may not change: the parameters of `cell_changes` and `cost_changes`, which are tested here.
+#[tactic(auto, unfolding(crate::specs::Changes::floors_shape))]
+fn floors_shape(
+    w: usize,
+    h: usize,
+    map: &[u8],
+    w2: usize,
+    h2: usize,
+    map2: &[u8],
+) -> Result<(), Refusal>
     ensures { result ≡ floors_shape (given_floor_of w h map.now) (given_floor_of w2 h2 map2.now) }
 {
-    let first = floor::floor_shape(w, h, map);
-    let Shape::Good = first else {
-        return first;
-    };
-    let second = floor::floor_shape(w2, h2, map2);
-    let Shape::Good = second else {
-        return second;
-    };
-    if w != w2 {
-        return Shape::Refused(Refusal::SizesDiffer);
+    floor::floor_shape(w, h, map)?;
+    floor::floor_shape(w2, h2, map2)?;
+    if w != w2 || h != h2 {
+        return Err(Refusal::SizesDiffer);
     }
-    if h != h2 {
-        return Shape::Refused(Refusal::SizesDiffer);
-    }
-    Shape::Good
+    Ok(())
 }
 
 // The refusals of the first report, for a slice of `places` places: 1 to 3 of each floor, 15, then 6.
+#[tactic(auto, unfolding(crate::specs::Changes::cells_shape))]
 fn cells_shape(
     w: usize,
     h: usize,
@@ -89,18 +51,15 @@ fn cells_shape(
     h2: usize,
     map2: &[u8],
     places: usize,
-) -> Shape
+) -> Result<(), Refusal>
     ensures { result ≡ cells_shape (given_floor_of w h map.now) (given_floor_of w2 h2 map2.now)
         places }
 {
-    let floors = floors_shape(w, h, map, w2, h2, map2);
-    let Shape::Good = floors else {
-        return floors;
-    };
+    floors_shape(w, h, map, w2, h2, map2)?;
     if places != w * h {
-        return Shape::Refused(Refusal::SliceLength);
+        return Err(Refusal::SliceLength);
     }
-    Shape::Good
+    Ok(())
 }
 
 // Notes cell c, where the cells before it are noted in `t` and `cells`: a cell that differs is counted, and its number
@@ -118,24 +77,26 @@ fn note_cell(map: &[u8], map2: &[u8], c: Cell, t: Tally, cells: &mut [u16]) -> T
     let at = t.closed + t.opened;
     cells[at] = c.0 as u16;
     if is_blocked {
-        return Tally {
+        Tally {
             closed: t.closed + 1,
-            opened: t.opened,
-        };
-    }
-    Tally {
-        closed: t.closed,
-        opened: t.opened + 1,
+            ..t
+        }
+    } else {
+        Tally {
+            opened: t.opened + 1,
+            ..t
+        }
     }
 }
 
 // Writes the numbers of the cells that differ, ascending, then 0; returns how many closed and how many opened.
+// Kept: no plainer, since `note_cell` writes at another place than that of the cell: the index.
 fn list_cells(map: &[u8], map2: &[u8], cells: &mut [u16]) -> Tally
     requires { MapsOf map.now map2.now (length cells.old) }
     ensures { Noted map.now map2.now (length cells.old)
         (length cells.old) result cells.new }
 {
-    basics::clear_u16(cells);
+    cells.fill(0);
     let mut t = Tally {
         closed: 0,
         opened: 0,
@@ -150,6 +111,7 @@ fn list_cells(map: &[u8], map2: &[u8], cells: &mut [u16]) -> Tally
 // rule 6.4 says. A refusal (1 to 3 of either floor, 15, 6) touches nothing.
 //
 // Lent is a slice for the numbers of cells, of W * H places.
+#[tactic(auto, unfolding(crate::specs::Changes::cells_answer, crate::specs::Changes::cells_left))]
 pub fn cell_changes(
     w: usize,
     h: usize,
@@ -158,33 +120,30 @@ pub fn cell_changes(
     h2: usize,
     map2: &[u8],
     cells: &mut [u16],
-) -> CellReport
+) -> Result<Tally, Refusal>
     ensures { ReportsCells (given_floor_of w h map.now) (given_floor_of w2 h2 map2.now)
         cells.old result cells.new }
 {
-    match cells_shape(w, h, map, w2, h2, map2, cells.len()) {
-        Shape::Refused(r) => CellReport::Refused(r),
-        Shape::Good => CellReport::Listed(list_cells(map, map2, cells)),
-    }
+    cells_shape(w, h, map, w2, h2, map2, cells.len())?;
+    Ok(list_cells(map, map2, cells))
 }
 
 // How a cost changed from x to y: 0 not at all, 3 from M, 4 to M, otherwise 1 fell, 2 rose.
+#[tactic(auto, unfolding(crate::specs::Changes::change_of))]
 fn change_of(x: u32, y: u32) -> u8
     ensures { result ≡ change_of x y }
 {
     if x == y {
-        return 0;
+        0
+    } else if x == paths::UNREACHABLE {
+        3
+    } else if y == paths::UNREACHABLE {
+        4
+    } else if y < x {
+        1
+    } else {
+        2
     }
-    if x == paths::UNREACHABLE {
-        return 3;
-    }
-    if y == paths::UNREACHABLE {
-        return 4;
-    }
-    if y < x {
-        return 1;
-    }
-    2
 }
 
 // Writes how the cost of each vertex changed.
@@ -193,8 +152,8 @@ fn write_changes(costs: &[u32], costs2: &[u32], changes: &mut [u8])
     ensures { changes.new
         ≡ tabulate (length changes.old) (change_at costs.now costs2.now) }
 {
-    for v in 0..changes.len() {
-        changes[v] = change_of(costs[v], costs2[v]);
+    for (v, change) in changes.iter_mut().enumerate() {
+        *change = change_of(costs[v], costs2[v]);
     }
 }
 
@@ -216,33 +175,32 @@ fn report_costs(
         ≡ costs_on (floor_graph (floor_of w h map.now) dirs)
         (floor_graph (floor_of w h map2.now) dirs) a.0 }
 {
-    distances::costs_from(w, h, map, dirs, a, costs, work);
-    distances::costs_from(w, h, map2, dirs, a, costs2, work);
+    distances::costs_from(FloorPlan { w, h, map }, dirs, a, costs, work);
+    distances::costs_from(FloorPlan { w, h, map: map2 }, dirs, a, costs2, work);
     write_changes(costs, costs2, changes);
 }
 
 // Refusal 6 of the second report, for slices of these lengths on a floor of v vertices.
-fn slices_shape(v: usize, costs: usize, costs2: usize, changes: usize, work: usize) -> Shape
+#[tactic(auto, unfolding(crate::specs::Changes::slices_shape))]
+fn slices_shape(
+    v: usize,
+    costs: usize,
+    costs2: usize,
+    changes: usize,
+    work: usize,
+) -> Result<(), Refusal>
     requires { v ≤ 16384 }
     ensures { result ≡ slices_shape v costs costs2 changes work }
 {
-    if costs != v {
-        return Shape::Refused(Refusal::SliceLength);
+    if costs != v || costs2 != v || changes != v || work != 4 * v {
+        return Err(Refusal::SliceLength);
     }
-    if costs2 != v {
-        return Shape::Refused(Refusal::SliceLength);
-    }
-    if changes != v {
-        return Shape::Refused(Refusal::SliceLength);
-    }
-    if work != 4 * v {
-        return Shape::Refused(Refusal::SliceLength);
-    }
-    Shape::Good
+    Ok(())
 }
 
 // The directions of the neighbourhood, or the first refusal of the second report, for slices of these lengths: 1 to 3
 // of each floor, 15, 4, 5, 11 on either floor, then 6.
+#[tactic(auto, unfolding(crate::specs::Changes::report_shape))]
 fn report_shape(
     w: usize,
     h: usize,
@@ -256,30 +214,22 @@ fn report_shape(
     costs2: usize,
     changes: usize,
     work: usize,
-) -> JobShape
+) -> Result<Directions, Refusal>
     ensures { result ≡ report_shape (given_floor_of w h map.now) (given_floor_of w2 h2 map2.now) nb a
         costs costs2 changes work }
 {
-    let floors = floors_shape(w, h, map, w2, h2, map2);
-    if let Shape::Refused(r) = floors {
-        return JobShape::Refused(r);
-    }
-    let first = grid::job_shape(w, h, map, nb, a, a);
-    let JobShape::Fit(dirs) = first else {
-        return first;
-    };
-    let second = grid::job_shape(w2, h2, map2, nb, a, a);
-    let JobShape::Fit(_) = second else {
-        return second;
-    };
-    let lengths = slices_shape(floor::vertex_count(w, h), costs, costs2, changes, work);
-    grid::or_refused(lengths, dirs)
+    floors_shape(w, h, map, w2, h2, map2)?;
+    let dirs = grid::job_shape(w, h, map, nb, a, a)?;
+    grid::job_shape(w2, h2, map2, nb, a, a)?;
+    slices_shape(floor::vertex_count(w, h), costs, costs2, changes, work)?;
+    Ok(dirs)
 }
 
 // The second report: how the costs from a start changed. For every input it gives the answer of rule 13.4 and leaves
 // the lent slices as rules 13.5 and 6.4 say. A refusal (1 to 3 of either floor, 15, 4, 5, 11, 6) touches nothing.
 //
 // Lent are slices for the costs on each floor and for their changes, of V places each, and a working slice of 4 * V.
+#[tactic(auto, unfolding(crate::specs::Changes::costs_answer, crate::specs::Changes::costs_left))]
 pub fn cost_changes(
     w: usize,
     h: usize,
@@ -293,12 +243,12 @@ pub fn cost_changes(
     costs2: &mut [u32],
     changes: &mut [u8],
     work: &mut [u32],
-) -> Shape
+) -> Result<(), Refusal>
     ensures { ReportsCosts (given_floor_of w h map.now) (given_floor_of w2 h2 map2.now) nb a
         (report_slices_of costs.old costs2.old changes.old work.old) result
         (report_slices_of costs.new costs2.new changes.new work.new) }
 {
-    let shape = report_shape(
+    let dirs = report_shape(
         w,
         h,
         map,
@@ -311,23 +261,18 @@ pub fn cost_changes(
         costs2.len(),
         changes.len(),
         work.len(),
+    )?;
+    report_costs(
+        w,
+        h,
+        map,
+        map2,
+        dirs,
+        Vertex(a),
+        costs,
+        costs2,
+        changes,
+        work,
     );
-    match shape {
-        JobShape::Refused(r) => Shape::Refused(r),
-        JobShape::Fit(dirs) => {
-            report_costs(
-                w,
-                h,
-                map,
-                map2,
-                dirs,
-                Vertex(a),
-                costs,
-                costs2,
-                changes,
-                work,
-            );
-            Shape::Good
-        }
-    }
+    Ok(())
 }

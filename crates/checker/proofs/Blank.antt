@@ -1,54 +1,42 @@
--- A loop that counts the places of a list that are not 0.
+-- Places of a list that are 0.
 --
---   ZeroScan l i j n        == n = 0 exactly where places i to j - 1 of the list l are 0, and n <= j - i
---   zero-start, zero_more   == `ZeroScan` before the first place, and after one place more
---   zero-end                == `ZeroScan l i j n` says that the test n = 0 is `Zeros l i j`
-use Prim.Native.Nat.{ℕ, suc, ◌+◌, ◌≤◌}
-use mathlib.Core.Path.{◌≡◌, ◌∙◌, subst}
-use mathlib.Core.Logic.{⊎_elim, ◌↔◌}
-use mathlib.Core.Bool.{true, not}
-use mathlib.Core.List.{List}
+--   all-push    == `list_all` of a list with one element more
+--   zeros-range == `list_all` says of places i to j - 1 of a list whether they are 0
+use Prim.Native.Nat.{ℕ, ◌+◌, ◌-◌, ◌≤◌}
+use mathlib.Core.Path.{◌≡◌, sym, ap, ◌∙◌}
+use mathlib.Core.Logic.{◌↔◌}
+use mathlib.Core.Bool.{Bool, true, ◌&&◌, and-true}
+use mathlib.Core.List.{List, [], ◌∷◌, ◌++◌}
 use native.Mathlib.Omega.{arith}
-use borrow.Author.Tests.{eqb-true, eq-eqb, ne_eqb}
+use borrow.Author.Tests.{eqb-true, eq-eqb}
 use lib.Dec.{eqb}
-use Rattle.basics.specs.Bounded.{pick}
-use Rattle.basics.proofs.Order.{le-or-lt, eq-or-ne}
-use Rattle.paths.specs.Local.{entry}
+use lib.ListN.{length, get_or, take, drop}
+use Rattle.std.specs.List.{list_all}
+use Rattle.std.proofs.lemmas.List.{get_or-drop, length-drop}
+use Rattle.std.proofs.lemmas.List.Folds.{list_all-append}
+use Rattle.basics.specs.Bounded.{every}
+use Rattle.basics.proofs.Bounded.{every-all, every-at}
+use Rattle.basics.proofs.Every.{all-front}
 use Rattle.checker.specs.Tests.{Zeros}
 
-pub record ZeroScan (l : List ℕ) (i j n : ℕ) : Type 0 where
-  pub few : n + i ≤ j
-  pub zero_so : n ≡ 0 → Zeros l i j
-  pub so_zero : Zeros l i j → n ≡ 0
+pub all-push : (t : ℕ → Bool) (l : List ℕ) (x : ℕ) → list_all t (l ++ (x ∷ [])) ≡ (list_all t l && t x)
+all-push t l x = list_all-append t l (x ∷ []) ∙ ap (λ b. list_all t l && b) (and-true (t x))
 
-module _ {l : List ℕ} {i : ℕ} where
-  pub zero-start : ZeroScan l i i 0
-  zero-start = record {
-    few = omega arith;
-    zero_so = λ z. record { at = λ k ge lt. absurd (omega arith) };
-    so_zero = λ z. omega arith;
-  }
+pub zeros-range : (l : List ℕ) (i j : ℕ) → i ≤ j → j ≤ length l
+    → (list_all (λ x. eqb x 0) (take (j - i) (drop i l)) ≡ true) ↔ Zeros l i j
+zeros-range l i j p q = (
+  λ t. record {
+    at = λ k ge lt.
+        let e : i + (k - i) ≡ k = omega arith in
+        let z = eqb-true (get_or (drop i l) (k - i) 0) 0 (every-at (j - i) here (sym said ∙ t) (k - i) (omega arith)) in
+        rw e at (sym (get_or-drop i l (k - i) 0) ∙ z);
+  },
+  λ z. said ∙ every-all (j - i) here (λ k b.
+      eq-eqb (get_or (drop i l) k 0) 0 (get_or-drop i l k 0 ∙ z.at (i + k) (omega arith) (omega arith))),
+)
+  where
+    here : ℕ → Bool
+    here k = eqb (get_or (drop i l) k 0) 0
 
-  pub zero_more : {j n : ℕ} → ZeroScan l i j n → (k : ℕ) → k ≡ pick (not (eqb (entry l j) 0)) 1 0
-      → ZeroScan l i (j + 1) (n + k)
-  zero_more {j} {n} s k one = ⊎_elim
-      (λ e.
-      let z : k ≡ 0 = one ∙ rw (eq-eqb (entry l j) 0 e) in
-      record {
-        few = omega (arith, s.few);
-        zero_so = λ t. record {
-          at = λ u ge lt. ⊎_elim (λ h. (s.zero_so (omega arith)).at u ge h)
-              (λ h. let same : j ≡ u = omega arith in subst (λ w. entry l w ≡ 0) same e) (le-or-lt (suc u) j);
-        };
-        so_zero = λ t. omega (arith, s.so_zero (record { at = λ u ge lt. t.at u ge (omega arith) }));
-      })
-      (λ ne.
-      let z : k ≡ 1 = one ∙ rw (ne_eqb (entry l j) 0 ne) in
-      record {
-        few = omega (arith, s.few);
-        zero_so = λ t. absurd (omega arith);
-        so_zero = λ t. absurd (ne (t.at j (omega (arith, s.few)) (omega arith)));
-      }) (eq-or-ne (entry l j) 0)
-
-  pub zero-end : {j n : ℕ} → ZeroScan l i j n → (eqb n 0 ≡ true) ↔ Zeros l i j
-  zero-end {n = n} s = (λ t. s.zero_so (eqb-true n 0 t), λ z. eq-eqb n 0 (s.so_zero z))
+    said : list_all (λ x. eqb x 0) (take (j - i) (drop i l)) ≡ every (j - i) here
+    said = all-front (λ x. eqb x 0) (j - i) (drop i l) (omega (arith, length-drop i l))

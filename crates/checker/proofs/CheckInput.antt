@@ -1,7 +1,6 @@
 -- Laws of `CheckInput`: a sheet whose slices have the right lengths, with a good job.
 --
---   input-uncounted == `CheckInput` holds whatever the point count
---   input-chosen    == where `CheckInput` holds, it holds with b for the start and next for the route
+--   input-goal      == where `CheckInput` holds, it holds with b for the start
 --   input-shaped    == every slice is as long as d
 --   input-readable  == the moves that leave a vertex can be read from its mask
 --   input-agrees    == the moves in the mask of a vertex are those that leave it on the floor
@@ -15,44 +14,19 @@ use Rattle.moves.specs.Leaving.{leaves}
 use Rattle.moves.proofs.Table.{listed-lawful}
 use Rattle.masks.specs.Masks.{MaskAt}
 use Rattle.offsets.specs.Offsets.{Shifts}
-use Rattle.paths.specs.Sheet.{Sheet, sheet_of}
+use Rattle.paths.specs.Sheet.{Sheet}
 use Rattle.paths.specs.Local.{Shaped}
 use Rattle.grid.specs.Leaving.{leaving_graph}
 use Rattle.grid.proofs.Jobs.{goal-alone}
 use Rattle.neighbours.specs.Reading.{mask_graph, Readable}
 use Rattle.neighbours.proofs.Agree.{Agrees}
 use Rattle.neighbours.proofs.Shown.{Shows, mask-shows}
-use Rattle.checker.specs.Tests.{chosen_of, CheckInput}
-
-module _ {w h : ℕ} {l : List ℕ} {r : Directions} {a b n : ℕ} {d e f back route next : List ℕ}
-    (p : CheckInput w h l r a b (sheet_of d e f back route next n)) where
-  pub input-uncounted : CheckInput w h l r a b (sheet_of d e f back route next 0)
-  input-uncounted = record {
-    job = p.job;
-    shape = record {
-      d = p.shape.d;
-      e = p.shape.e;
-      f = p.shape.f;
-      b = p.shape.b;
-      route = p.shape.route;
-      next = p.shape.next;
-    };
-  }
-
-  pub input-chosen : CheckInput w h l r b b (chosen_of d e f back next)
-  input-chosen = record {
-    job = goal-alone p.job;
-    shape = record {
-      d = p.shape.d;
-      e = p.shape.e;
-      f = p.shape.f;
-      b = p.shape.b;
-      route = p.shape.next;
-      next = p.shape.next;
-    };
-  }
+use Rattle.checker.specs.Tests.{CheckInput}
 
 module _ {w h : ℕ} {l : List ℕ} {r : Directions} {a b : ℕ} {s : Sheet} (p : CheckInput w h l r a b s) where
+  pub input-goal : CheckInput w h l r b b s
+  input-goal = record { job = goal-alone p.job; shape = p.shape }
+
   pub input-shaped : Shaped (length s.d) s
   input-shaped = record {
     d = refl;

@@ -5,16 +5,15 @@
 --   nexts-rows                    == nexts_test g b s is next_row_test g b s w y for every row y
 --   next-choosing                 == the numbers of the vertex in column x have the form that choosing needs
 --   next-leads                    == a move leads on from the vertex in column x, where it is on the way before b
---   next-stops, next-keeps        == the loop's flag, which says that the vertices before column x pass, after column x
---                                    has failed and after it has passed
+--   next-column                   == the code's test of the vertex in column x is `next_column_test`
 use Prim.Native.Nat.{ℕ, suc, ◌+◌, ◌-◌, ◌*◌, ◌≤◌, ◌<◌}
 use mathlib.Core.Path.{◌≡◌, sym, ◌∙◌}
-use mathlib.Core.Bool.{Bool, true, false, not}
+use mathlib.Core.Bool.{Bool, true, false}
 use mathlib.Core.Logic.{◌↔◌}
 use mathlib.Core.List.{List}
 use mathlib.Core.Option.{some}
 use native.Mathlib.Omega.{arith}
-use borrow.Author.Tests.{eq-eqb, ne_eqb, eqb-true, not-true, not-false}
+use borrow.Author.Tests.{eq-eqb, ne_eqb, eqb-true}
 use lib.Dec.{eqb}
 use lib.ListN.{length}
 use Rattle.basics.specs.Bounded.{every}
@@ -27,7 +26,6 @@ use Rattle.moves.specs.Table.{OnFloor}
 use Rattle.masks.specs.Masks.{Leaving}
 use Rattle.offsets.specs.Offsets.{Shifts}
 use Rattle.paths.specs.Graph.{Graph}
-use Rattle.paths.specs.Distance.{unreachable}
 use Rattle.paths.specs.Route.{on_shortest}
 use Rattle.paths.specs.Sheet.{Sheet}
 use Rattle.paths.specs.Local.{is-there, entry, local_on, local_next, right_next}
@@ -36,37 +34,32 @@ use Rattle.grid.specs.Leaving.{leaving_graph}
 use Rattle.neighbours.specs.Reading.{mask_graph}
 use Rattle.neighbours.specs.Choice.{Choosing, OffWay, next_of, LeadsBy}
 use Rattle.neighbours.proofs.Agree.{Agrees}
-use Rattle.neighbours.proofs.Columns.{flag-stops, flag-keeps}
-use Rattle.checker.specs.Tests.{chosen_of, nexts_test, next_column_test, next_row_test, Zeros, Choosable}
+use Rattle.checker.specs.Tests.{nexts_test, next_column_test, next_row_test, Zeros, Choosable}
 use Rattle.checker.proofs.CheckInput.{input-agrees}
 use Rattle.checker.proofs.Passes.{column-readable, column-mask}
 use Rattle.checker.proofs.Leaving.{leads-leaving, right-leaving}
 
 -- ---- one vertex
 
-module _ (dirs : Directions) (shifts : List ℕ) (mask b : ℕ) (d e f back next : List ℕ) (v x : ℕ)
-    (is : x ≡ entry next v) where
+module _ (dirs : Directions) (shifts : List ℕ) (mask b : ℕ) (s : Sheet) (v x : ℕ) (is : x ≡ entry s.next v) where
   abbrev graph : Graph
-  graph = mask_graph (length d) dirs shifts mask
+  graph = mask_graph (length s.d) dirs shifts mask
 
-  abbrev sheet : Sheet
-  sheet = chosen_of d e f back next
-
-  module _ {o : Bool} (on : o ≡ on_shortest (entry d) (entry e) b v) where
-    pub next_off : not o ≡ true → eqb x 0 ≡ right_next graph b sheet v
+  module _ {o : Bool} (on : o ≡ on_shortest (entry s.d) (entry s.e) b v) where
+    pub next_off : o ≡ false → eqb x 0 ≡ right_next graph b s v
     unfolding right_next local_on
-    next_off t = rw (sym on ∙ not-true o t, is)
+    next_off t = rw (sym on ∙ t, is)
 
-    module _ (t : not o ≡ false) where
-      way : on_shortest (entry d) (entry e) b v ≡ true
-      way = sym on ∙ not-false o t
+    module _ (t : o ≡ true) where
+      way : on_shortest (entry s.d) (entry s.e) b v ≡ true
+      way = sym on ∙ t
 
-      pub next-goal : v ≡ b → eqb x b ≡ right_next graph b sheet v
+      pub next-goal : v ≡ b → eqb x b ≡ right_next graph b s v
       unfolding right_next local_on
       next-goal q = rw (way, eq-eqb v b q, is)
 
-      pub next-to : (v ≡ b → ⊥) → (w : ℕ) → next_of dirs shifts mask d e f back b v ≡ some w
-          → eqb x w ≡ right_next graph b sheet v
+      pub next-to : (v ≡ b → ⊥) → (w : ℕ) → next_of dirs shifts mask s.d s.e s.f s.b b v ≡ some w
+          → eqb x w ≡ right_next graph b s v
       unfolding right_next local_on local_next is-there
       next-to ne w there = rw (way, ne_eqb v b ne, there, is)
 
@@ -113,27 +106,16 @@ module _ {w h : ℕ} {l : List ℕ} {r : Directions} {b : ℕ} {s : Sheet} (p : 
     e_len = p.input.shape.e ∙ sym p.input.shape.d;
   }
 
-  module _ (small : entry s.d v ≤ unreachable) where
-    inside : number w x y < vertices w h
-    inside = number_lt w h x y o.column o.row
+  inside : number w x y < vertices w h
+  inside = number_lt w h x y o.column o.row
 
-    agrees : Agrees (mask_graph (length s.d) r m mask) (leaving_graph (floor_of w h l) r) (number w x y)
-    agrees = input-agrees p.input S inside (column-mask p.input S o k numbered)
+  agrees : Agrees (mask_graph (length s.d) r m mask) (leaving_graph (floor_of w h l) r) (number w x y)
+  agrees = input-agrees p.input S inside (column-mask p.input S o k numbered)
 
-    pub next-leads : LeadsBy r m mask s.d s.e s.f s.b b v
-    next-leads =
-        rw numbered (leads-leaving p.input.job s p.pinches p.reached inside (rw numbered at small) agrees
-        (p.leads (number w x y) inside))
+  pub next-leads : LeadsBy r m mask s.d s.e s.f s.b b v
+  next-leads =
+      rw numbered (leads-leaving p.input.job s p.pinches p.reached inside agrees (p.leads (number w x y) inside))
 
-    module _ {old new : Bool} (before : old ≡ every x (next_column_test g b s w y))
-        (is : new ≡ right_next (mask_graph (length s.d) r m mask) b s v) where
-      on-floor : new ≡ next_column_test g b s w y x
-      on-floor =
-          rw numbered at is
-          ∙ right-leaving p.input.job s p.pinches p.reached inside (rw numbered at small) agrees
-
-      pub next-stops : not new ≡ true → false ≡ every (x + 1) (next_column_test g b s w y)
-      next-stops = flag-stops (next_column_test g b s w y) x on-floor
-
-      pub next-keeps : not new ≡ false → old ≡ every (x + 1) (next_column_test g b s w y)
-      next-keeps = flag-keeps (next_column_test g b s w y) x on-floor before
+  pub next-column : {t : Bool} → t ≡ right_next (mask_graph (length s.d) r m mask) b s v
+      → t ≡ next_column_test g b s w y x
+  next-column is = rw numbered at is ∙ right-leaving p.input.job s p.pinches p.reached inside agrees

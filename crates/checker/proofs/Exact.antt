@@ -6,18 +6,11 @@
 --   no_route_test-local == no_route_test g a b s = local_no_route g a b s
 --   counts-fit          == where costs and counts pass the tests, the traversal counts fit 64 bits
 --   counts-lead         == where costs and counts pass the tests, a move leads on from each vertex on the way before b
---   route-..            == `route_test` after each test that the code runs: false where it fails, the rest where it
---                          holds
---   no_route-..         == `no_route_test` after each test that the code runs
---   vertices-uncounted  == `vertices_test` does not read n
---   nexts-alone         == `nexts_test` reads neither route nor n
---   points-alone        == `points_test` reads no costs and no counts
 use Prim.Native.Nat.{ℕ, ◌^◌, ◌<◌}
-use mathlib.Core.Path.{◌≡◌, refl, sym, ◌∙◌}
-use mathlib.Core.Bool.{Bool, true, false, ◌&&◌, not}
-use mathlib.Core.List.{List}
+use mathlib.Core.Path.{◌≡◌, sym, ◌∙◌}
+use mathlib.Core.Bool.{Bool, true, false, ◌&&◌}
 use native.Mathlib.Omega.{arith}
-use borrow.Author.Tests.{lt-ltb, le-ltb, eq-eqb, ne_eqb, not-false}
+use borrow.Author.Tests.{lt-ltb, eq-eqb}
 use lib.Dec.{ltb, eqb}
 use lib.ListN.{length}
 use Rattle.basics.specs.Bounded.{every}
@@ -26,18 +19,17 @@ use Rattle.basics.proofs.Bounded.{every-all, every-at}
 use Rattle.paths.specs.Graph.{Graph, Lawful}
 use Rattle.paths.specs.Distance.{unreachable}
 use Rattle.paths.specs.Route.{on_shortest}
-use Rattle.paths.specs.Sheet.{Sheet, sheet_of}
-use Rattle.paths.specs.Local.{right_cost, right_costs, count_at, right_counts, entry, local_on, local_next, local_numbers}
-use Rattle.paths.specs.Local.{Shaped, right_next, local_route, blank_at, local_no_route}
+use Rattle.paths.specs.Sheet.{Sheet}
+use Rattle.paths.specs.Local.{right_cost, right_costs, count_at, right_counts, entry, local_on, local_numbers}
+use Rattle.paths.specs.Local.{Shaped, local_route, blank_at, local_no_route}
 use Rattle.paths.specs.Onward.{Leads}
 use Rattle.paths.proofs.Sheets.{TrueNumbers}
 use Rattle.paths.proofs.SheetTest.{numbers-true, numbers_fit, sheet-leads}
 use Rattle.neighbours.specs.Least.{right_cost_in}
 use Rattle.neighbours.specs.Choice.{traversal_of, Counted}
 use Rattle.neighbours.proofs.Incoming.{costs-in}
-use Rattle.checker.specs.Tests.{chosen_of, walk_of, counts_test, vertex_test, vertices_test, nexts_test, points_test}
+use Rattle.checker.specs.Tests.{counts_test, vertex_test, vertices_test, nexts_test, points_test}
 use Rattle.checker.specs.Tests.{route_test, no_route_test}
-use Rattle.checker.proofs.Chains.{fails, holds, fact-fails, fact-holds}
 
 -- ---- one vertex, and every vertex
 
@@ -175,94 +167,22 @@ module _ (g : Graph) (a b : ℕ) (s : Sheet) where
           and_intro _ _ (costs-at L a (entry s.d) (and_right start _ c) v i)
           (every-at g.size (blank_at s) (and_right none _ t2) v i)))))
 
-  -- ---- the tests as the code runs them
+  -- ---- what follows once the code has tested costs and counts
 
-  pub route-unreached : entry s.d b ≡ unreachable → false ≡ route_test g a b s
-  unfolding route_test
-  route-unreached e = fact-fails _ (le-ltb (entry s.d b) unreachable (omega arith))
+  module _ (near : entry s.d b < unreachable) (start : entry s.d a ≡ 0) (end : entry s.e b ≡ 0)
+      (all : vertices_test true g a b s ≡ true) (L : Lawful g) (in-a : a < g.size) (in_b : b < g.size) where
+    numbers : TrueNumbers g a b s
+    numbers =
+        numbers-true g L a b in-a in_b s (tests-numbers L (lt-ltb _ _ near) (eq-eqb _ _ start) (eq-eqb _ _ end) all)
 
-  module _ (near : entry s.d b < unreachable) where
-    pub route-start : (entry s.d a ≡ 0 → ⊥) → false ≡ route_test g a b s
-    unfolding route_test
-    route-start ne = fact-holds (lt-ltb _ _ near) (fact-fails _ (ne_eqb _ _ ne))
+    pub counts-fit : Shaped g.size s → entry s.f b < 2 ^ 64 → Counted (length s.d) s.f s.b
+    counts-fit shape total = record {
+      f_len = shape.f ∙ sym shape.d;
+      b_len = shape.b ∙ sym shape.d;
+      fit = λ v i. omega (arith, numbers_fit g L a b in-a in_b s numbers v (omega (arith, shape.d)));
+    }
 
-    module _ (start : entry s.d a ≡ 0) where
-      pub route-end : (entry s.e b ≡ 0 → ⊥) → false ≡ route_test g a b s
-      unfolding route_test
-      route-end ne = fact-holds (lt-ltb _ _ near) (fact-holds (eq-eqb _ _ start) (fact-fails _ (ne_eqb _ _ ne)))
-
-      module _ (end : entry s.e b ≡ 0) {k : Bool} (all : k ≡ vertices_test true g a b s) where
-        pub route-vertices : not k ≡ true → false ≡ route_test g a b s
-        unfolding route_test
-        route-vertices f =
-            fact-holds (lt-ltb _ _ near) (fact-holds (eq-eqb _ _ start) (fact-holds (eq-eqb _ _ end) (fails all _ f)))
-
-        module _ (f : not k ≡ false) where
-          module _ {x : Bool} (nexts : x ≡ nexts_test g b s) where
-            pub route-nexts : not x ≡ true → false ≡ route_test g a b s
-            unfolding route_test
-            route-nexts t =
-                fact-holds (lt-ltb _ _ near) (fact-holds (eq-eqb _ _ start)
-                (fact-holds (eq-eqb _ _ end) (holds all f (fails nexts _ t))))
-
-            pub route-points : not x ≡ false → {p : Bool} → p ≡ points_test g.size a b s → p ≡ route_test g a b s
-            unfolding route_test
-            route-points t q =
-                fact-holds (lt-ltb _ _ near) (fact-holds (eq-eqb _ _ start)
-                (fact-holds (eq-eqb _ _ end) (holds all f (holds nexts t q))))
-
-          module _ (L : Lawful g) (in-a : a < g.size) (in_b : b < g.size) where
-            numbers : TrueNumbers g a b s
-            numbers =
-                numbers-true g L a b in-a in_b s
-                (tests-numbers L (lt-ltb _ _ near) (eq-eqb _ _ start) (eq-eqb _ _ end) (sym all ∙ not-false k f))
-
-            pub counts-fit : Shaped g.size s → entry s.f b < 2 ^ 64 → Counted (length s.d) s.f s.b
-            counts-fit shape total = record {
-              f_len = shape.f ∙ sym shape.d;
-              b_len = shape.b ∙ sym shape.d;
-              fit = λ v i. omega (arith, numbers_fit g L a b in-a in_b s numbers v (omega (arith, shape.d)));
-            }
-
-            pub counts-lead : (v : ℕ) → v < g.size
-                → Leads g (on_shortest (entry s.d) (entry s.e) b) (entry s.d) (traversal_of s.f s.b) b v
-            unfolding local_on
-            counts-lead v i = sheet-leads g L a b in-a in_b s numbers v i
-
-  pub no_route-reached : (entry s.d b ≡ unreachable → ⊥) → false ≡ no_route_test g a b s
-  unfolding no_route_test
-  no_route-reached ne = fact-fails _ (ne_eqb _ _ ne)
-
-  module _ (far : entry s.d b ≡ unreachable) where
-    pub no_route-counted : (s.n ≡ 0 → ⊥) → false ≡ no_route_test g a b s
-    unfolding no_route_test
-    no_route-counted ne = fact-holds (eq-eqb _ _ far) (fact-fails _ (ne_eqb _ _ ne))
-
-    module _ (none : s.n ≡ 0) where
-      pub no_route-start : (entry s.d a ≡ 0 → ⊥) → false ≡ no_route_test g a b s
-      unfolding no_route_test
-      no_route-start ne = fact-holds (eq-eqb _ _ far) (fact-holds (eq-eqb _ _ none) (fact-fails _ (ne_eqb _ _ ne)))
-
-      pub no_route-vertices : entry s.d a ≡ 0 → {p : Bool} → p ≡ vertices_test false g a b s
-          → p ≡ no_route_test g a b s
-      unfolding no_route_test
-      no_route-vertices start q =
-          fact-holds (eq-eqb _ _ far) (fact-holds (eq-eqb _ _ none) (fact-holds (eq-eqb _ _ start) q))
-
--- ---- what each test does not read
-
-module _ (d e f back route next : List ℕ) (n : ℕ) where
-  pub vertices-uncounted : (j : Bool) (g : Graph) (a b : ℕ)
-      → vertices_test j g a b (sheet_of d e f back route next 0) ≡ vertices_test j g a b (sheet_of d e f back route next n)
-  unfolding vertices_test vertex_test counts_test local_on blank_at
-  vertices-uncounted j g a b = refl
-
-  pub nexts-alone : (g : Graph) (b : ℕ)
-      → nexts_test g b (chosen_of d e f back next) ≡ nexts_test g b (sheet_of d e f back route next n)
-  unfolding nexts_test right_next local_on local_next
-  nexts-alone g b = refl
-
-  pub points-alone : (v a b : ℕ)
-      → points_test v a b (walk_of route next n) ≡ points_test v a b (sheet_of d e f back route next n)
-  unfolding points_test
-  points-alone v a b = refl
+    pub counts-lead : (v : ℕ) → v < g.size
+        → Leads g (on_shortest (entry s.d) (entry s.e) b) (entry s.d) (traversal_of s.f s.b) b v
+    unfolding local_on
+    counts-lead v i = sheet-leads g L a b in-a in_b s numbers v i

@@ -9,11 +9,12 @@
 use Prim.Native.Nat.{ℕ, ◌+◌, ◌<◌, ◌≤◌}
 use mathlib.Core.Path.{◌≡◌, sym, ap, ◌∙◌}
 use mathlib.Core.Bool.{Bool, true, false, ◌&&◌, and-false}
+use mathlib.Core.Logic.{⊎_elim}
 use mathlib.Core.List.{List}
 use native.Mathlib.Omega.{arith}
-use borrow.Author.Tests.{ne_eqb}
+use borrow.Author.Tests.{ne_eqb, eqb-true}
 use lib.Dec.{ltb, eqb}
-use Rattle.basics.proofs.Bools.{iff-eq, and_left}
+use Rattle.basics.proofs.Bools.{iff-eq, and_left, and_right, true-or-false}
 use Rattle.basics.proofs.Bounded.{every-all, every-at}
 use Rattle.floor.specs.Floor.{Floor, floor_of, vertices}
 use Rattle.moves.specs.declared.Directions.{Directions}
@@ -121,7 +122,7 @@ module _ {w h : ℕ} {l : List ℕ} {r : Directions} {a b : ℕ} (J : GoodJob w 
   pinches-far t = record { at = far-of from_start D (λ v i. (right-all g t v i).d) }
 
   module _ (far : PinchesFar f s.d) (near : D b < unreachable) {q : Graph} {v : ℕ} (i : v < vertices w h)
-      (small : D v ≤ unreachable) (same : Agrees q k v) where
+      (same : Agrees q k v) where
     -- No vertex of cost M is on the way.
     unreached-off : (u : ℕ) → D u ≡ unreachable → on_shortest D E b u ≡ false
     unfolding on_shortest
@@ -129,16 +130,23 @@ module _ {w h : ℕ} {l : List ℕ} {r : Directions} {a b : ℕ} (J : GoodJob w 
         ap (λ c. ltb (D b) unreachable && c) (ne_eqb (D u + E u) (D b) (λ t. omega arith))
         ∙ and-false (ltb (D b) unreachable)
 
-    next-leaving : local_next q b s v ≡ local_next g b s v
+    -- A vertex on the way costs at most as much as b.
+    small : on_shortest D E b v ≡ true → D v ≤ unreachable
+    unfolding on_shortest
+    small t = omega (arith, eqb-true (D v + E v) (D b) (and_right (ltb (D b) unreachable) _ t), near)
+
+    next-leaving : on_shortest D E b v ≡ true → local_next q b s v ≡ local_next g b s v
     unfolding local_next local_on
-    next-leaving =
+    next-leaving t =
         next_vertex-agrees same D (local_on b s) (traversal_of s.f s.b)
-        ∙ sym (next-half from-goal D far.at v i small (local_on b s) unreached-off (traversal_of s.f s.b))
+        ∙ sym (next-half from-goal D far.at v i (small t) (local_on b s) unreached-off (traversal_of s.f s.b))
 
     pub leads-leaving : {T : ℕ → ℕ} → Leads g (on_shortest D E b) D T b v → Leads q (on_shortest D E b) D T b v
-    leads-leaving k =
-        leads-agrees same D (leads-half from-goal D far.at v i small (on_shortest D E b) unreached-off k)
+    leads-leaving k = record {
+      onward = λ t ne.
+          (leads-agrees same D (leads-half from-goal D far.at v i (small t) (on_shortest D E b) unreached-off k)).onward t ne;
+    }
 
     pub right-leaving : right_next q b s v ≡ right_next g b s v
-    unfolding right_next
-    right-leaving = rw next-leaving
+    unfolding right_next local_on
+    right-leaving = ⊎_elim (λ t. rw (next-leaving t)) (λ t. rw t) (true-or-false (on_shortest D E b v))

@@ -6,6 +6,7 @@ pub mod Vertex
 pub mod CheckInput
 pub mod Passes
 pub mod Choices
+pub mod Chosen
 pub mod Blank
 pub mod Points
 pub mod Verdict

@@ -4,11 +4,10 @@
 --   vertices-rows        == vertices_test j g a b s is row_test j g a b s w y for every row y
 --   column-mask          == the mask of the vertex in column x is that of the moves that leave it
 --   column-readable      == the moves that leave the vertex in column x can be read from its mask
---   column-stops, column-keeps == the loop's flag, which says that the vertices before column x pass, after column x
---                           has failed and after it has passed
-use Prim.Native.Nat.{ℕ, suc, ◌+◌, ◌<◌}
+--   column-passes        == the code's test of the vertex in column x is `column_test`
+use Prim.Native.Nat.{ℕ, suc, ◌<◌}
 use mathlib.Core.Path.{◌≡◌, sym, ◌∙◌}
-use mathlib.Core.Bool.{Bool, true, false, not}
+use mathlib.Core.Bool.{Bool}
 use mathlib.Core.List.{List}
 use lib.ListN.{length}
 use Rattle.basics.specs.Bounded.{every}
@@ -27,7 +26,6 @@ use Rattle.paths.specs.Local.{entry, local_on}
 use Rattle.grid.specs.Leaving.{leaving_graph}
 use Rattle.neighbours.specs.Reading.{mask_graph, Readable}
 use Rattle.neighbours.proofs.Agree.{Agrees, right_cost_in-agrees, count_at-agrees}
-use Rattle.neighbours.proofs.Columns.{flag-stops, flag-keeps}
 use Rattle.checker.specs.Tests.{counts_test, vertex_test, vertices_test, column_test, row_test, CheckInput}
 use Rattle.checker.proofs.CheckInput.{input-readable, input-agrees}
 
@@ -47,8 +45,7 @@ pub vertices-rows : (w h : ℕ) (l : List ℕ) (r : Directions) (j : Bool) (a b 
 unfolding vertices_test
 vertices-rows w h l r j a b s = sym (every-rows (suc h) (suc w) (vertex_test j (leaving_graph (floor_of w h l) r) a b s))
 
--- The loop at column x, over the graph of the moves that leave: its flag becomes false where the test fails, and stays
--- as it was where the test holds.
+-- The vertex in column x, over the graph of the moves that leave.
 module _ {w h : ℕ} {l : List ℕ} {r : Directions} {a b : ℕ} {s : Sheet} (p : CheckInput w h l r a b s) {m : List ℕ}
     (S : Shifts w r m) {x y mask v : ℕ} (o : OnFloor w h x y) (k : Leaving (floor_of w h l) r x y mask)
     (numbered : v ≡ number w x y) where
@@ -64,13 +61,6 @@ module _ {w h : ℕ} {l : List ℕ} {r : Directions} {a b : ℕ} {s : Sheet} (p 
   pub column-readable : Readable (length s.d) r m mask v
   column-readable = rw numbered (input-readable p S inside column-mask)
 
-  module _ (j : Bool) {old new : Bool} (before : old ≡ every x (column_test j g a b s w y))
-      (is : new ≡ vertex_test j (mask_graph (length s.d) r m mask) a b s v) where
-    on-floor : new ≡ column_test j g a b s w y x
-    on-floor = rw numbered at is ∙ vertex_test-agrees (input-agrees p S inside column-mask) j a b s
-
-    pub column-stops : not new ≡ true → false ≡ every (x + 1) (column_test j g a b s w y)
-    column-stops = flag-stops (column_test j g a b s w y) x on-floor
-
-    pub column-keeps : not new ≡ false → old ≡ every (x + 1) (column_test j g a b s w y)
-    column-keeps = flag-keeps (column_test j g a b s w y) x on-floor before
+  pub column-passes : (j : Bool) {t : Bool} → t ≡ vertex_test j (mask_graph (length s.d) r m mask) a b s v
+      → t ≡ column_test j g a b s w y x
+  column-passes j is = rw numbered at is ∙ vertex_test-agrees (input-agrees p S inside column-mask) j a b s

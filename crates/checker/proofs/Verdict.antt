@@ -3,8 +3,8 @@
 --   accepts-route     == the first test of `verdict` holds exactly where `TrueRoute` does
 --   accepts-no_route  == the second test of `verdict` holds exactly where `TrueNoRoute` does
 --   verdict-tests     == `verdict` in terms of the tests that the checker runs
---   verdict-route     == `verdict` is Route exactly where `TrueRoute` holds
---   verdict-no_route  == `verdict` is NoRoute exactly where `TrueNoRoute` holds
+--   verdict-route     == `verdict` is `Ok Route` exactly where `TrueRoute` holds
+--   verdict-no_route  == `verdict` is `Ok NoRoute` exactly where `TrueNoRoute` holds
 --   verdict-else      == `verdict` is refusal 9 where neither holds
 --   Exactly g a b s c == c is the answer that rule 8.2 asks for, said with walks in place of `joined`
 --   check-exact       == the checker's answer to every job of good shape is `Exactly` right, whatever numbers stand on
@@ -14,11 +14,12 @@ use mathlib.Core.Path.{◌≡◌, refl, sym, ap, ap₂, ◌∙◌}
 use mathlib.Core.Logic.{◌↔◌}
 use mathlib.Core.Bool.{Bool, true, false, ◌&&◌, not}
 use mathlib.Core.List.{List}
-use native.Mathlib.Omega.{arith}
 use borrow.Author.Tests.{not-true}
+use Rattle.std.specs.Prelude.{Result, Ok, Err}
 use Rattle.basics.specs.Bounded.{pick}
 use Rattle.basics.proofs.Bools.{iff-eq, and_intro, and_left, and_right, not-both}
 use Rattle.floor.specs.Floor.{floor_of, vertices}
+use Rattle.floor.specs.declared.Refusal.{Refusal}
 use Rattle.floor.specs.declared.Refusal.TheVariants.{FalseSheet}
 use Rattle.moves.specs.declared.Directions.{Directions}
 use Rattle.paths.specs.Graph.{Graph, Lawful}
@@ -29,11 +30,10 @@ use Rattle.paths.specs.Local.{entry, Shaped, local_route, local_no_route}
 use Rattle.paths.proofs.Sheets.{same_sheet-exact, joined-exact, fits-total, total_fits}
 use Rattle.paths.proofs.SheetTest.{local_route-exact, local_no_route-exact}
 use Rattle.grid.specs.Grid.{floor_graph, job_shape}
-use Rattle.grid.specs.declared.JobShape.TheVariants.{Fit}
 use Rattle.grid.proofs.Jobs.{job-fit}
 use Rattle.grid.proofs.Lawful.{floor-lawful, size-le}
-use Rattle.checker.specs.declared.Checked.{Checked}
-use Rattle.checker.specs.declared.Checked.TheVariants.{Route, NoRoute, Refused}
+use Rattle.checker.specs.declared.SheetKind.{SheetKind}
+use Rattle.checker.specs.declared.SheetKind.TheVariants.{Route, NoRoute}
 use Rattle.checker.specs.Answer.{verdict, sheet_sized, check_answer}
 use Rattle.checker.specs.Tests.{route_test, no_route_test}
 use Rattle.checker.proofs.Exact.{route_test-local, no_route_test-local}
@@ -70,8 +70,8 @@ module _ (g : Graph) (a b : ℕ) (s : Sheet) where
   )
 
   -- The answer, from the two tests of `verdict`.
-  abbrev answer : Bool → Bool → Checked
-  answer p q = pick p Route (pick q NoRoute (Refused FalseSheet))
+  abbrev answer : Bool → Bool → Result SheetKind Refusal
+  answer p q = pick p (Ok Route) (pick q (Ok NoRoute) (Err FalseSheet))
 
   -- ---- the checker's tests
 
@@ -94,19 +94,19 @@ module _ (g : Graph) (a b : ℕ) (s : Sheet) where
 
   -- ---- the three answers, exactly
 
-  abbrev Answers : Checked → Type 0
+  abbrev Answers : Result SheetKind Refusal → Type 0
   Answers c = verdict g a b s ≡ c
 
-  pub verdict-route : Answers Route ↔ TrueRoute g a b s
+  pub verdict-route : Answers (Ok Route) ↔ TrueRoute g a b s
   unfolding verdict
   verdict-route = (λ e. accepts-route.0 (cases route_good no_route_good e), λ t. rw (accepts-route.1 t))
     where
-      cases : (p q : Bool) → answer p q ≡ Route → p ≡ true
+      cases : (p q : Bool) → answer p q ≡ Ok Route → p ≡ true
       cases true q e = refl
-      cases false true e = let z : ◌≡◌ {A = ℕ} 0 1 = cc in absurd (omega arith)
-      cases false false e = let z : ◌≡◌ {A = ℕ} 0 1 = cc in absurd (omega arith)
+      cases false true e = cc
+      cases false false e = cc
 
-  pub verdict-no_route : Answers NoRoute ↔ TrueNoRoute g a b s
+  pub verdict-no_route : Answers (Ok NoRoute) ↔ TrueNoRoute g a b s
   unfolding verdict
   verdict-no_route = (
     λ e. accepts-no_route.0 (cases route_good no_route_good e),
@@ -116,30 +116,30 @@ module _ (g : Graph) (a b : ℕ) (s : Sheet) where
     ),
   )
     where
-      cases : (p q : Bool) → answer p q ≡ NoRoute → q ≡ true
-      cases true q e = let z : ◌≡◌ {A = ℕ} 0 1 = cc in absurd (omega arith)
+      cases : (p q : Bool) → answer p q ≡ Ok NoRoute → q ≡ true
+      cases true q e = cc
       cases false true e = refl
-      cases false false e = let z : ◌≡◌ {A = ℕ} 0 1 = cc in absurd (omega arith)
+      cases false false e = cc
 
-  pub verdict-else : (TrueRoute g a b s → ⊥) → (TrueNoRoute g a b s → ⊥) → Answers (Refused FalseSheet)
+  pub verdict-else : (TrueRoute g a b s → ⊥) → (TrueNoRoute g a b s → ⊥) → Answers (Err FalseSheet)
   unfolding verdict
   verdict-else p q =
       cases route_good no_route_good (λ e. p (accepts-route.0 e)) (λ e. q (accepts-no_route.0 e))
     where
-      cases : (x y : Bool) → (x ≡ true → ⊥) → (y ≡ true → ⊥) → answer x y ≡ Refused FalseSheet
+      cases : (x y : Bool) → (x ≡ true → ⊥) → (y ≡ true → ⊥) → answer x y ≡ Err FalseSheet
       cases true y m n = absurd (m refl)
       cases false true m n = absurd (n refl)
       cases false false m n = refl
 
 -- ---- rule 8.2
 
-pub record Exactly (g : Graph) (a b : ℕ) (s : Sheet) (c : Checked) : Type 0 where
+pub record Exactly (g : Graph) (a b : ℕ) (s : Sheet) (c : Result SheetKind Refusal) : Type 0 where
   -- A route exactly when an open walk joins the ends, the total is below 2^64, and every number is the true one.
-  pub route : (c ≡ Route) ↔ (((k : ℕ) × HasWalk g k a b) × (path_count g a b < 2 ^ 64) × (s ≡ route_sheet g a b))
+  pub route : (c ≡ Ok Route) ↔ (((k : ℕ) × HasWalk g k a b) × (path_count g a b < 2 ^ 64) × (s ≡ route_sheet g a b))
   -- No route exactly when no open walk joins the ends, every cost from the start is the true one and all else is 0.
-  pub no_route : (c ≡ NoRoute) ↔ ((((k : ℕ) × HasWalk g k a b) → ⊥) × (s ≡ no_route_sheet g a))
+  pub no_route : (c ≡ Ok NoRoute) ↔ ((((k : ℕ) × HasWalk g k a b) → ⊥) × (s ≡ no_route_sheet g a))
   -- Every other sheet is refused.
-  pub refused : (c ≡ Route → ⊥) → (c ≡ NoRoute → ⊥) → c ≡ Refused FalseSheet
+  pub refused : (c ≡ Ok Route → ⊥) → (c ≡ Ok NoRoute → ⊥) → c ≡ Err FalseSheet
 
 verdict-exact : (g : Graph) → Lawful g → (a b : ℕ) (s : Sheet) → a < g.size → g.size ≤ 16384 → Exactly g a b s
     (verdict g a b s)
@@ -163,7 +163,7 @@ verdict-exact g L a b s i few =
     never_true true h = absurd (h refl)
     never_true false h = refl
 
-pub check-exact : (w h : ℕ) (l : List ℕ) (nb a b : ℕ) (r : Directions) (s : Sheet) → job_shape w h l nb a b ≡ Fit r
+pub check-exact : (w h : ℕ) (l : List ℕ) (nb a b : ℕ) (r : Directions) (s : Sheet) → job_shape w h l nb a b ≡ Ok r
     → sheet_sized (vertices w h) s ≡ true → Exactly (floor_graph (floor_of w h l) r) a b s (check_answer w h l nb a b s)
 unfolding check_answer
 check-exact w h l nb a b r s fit sized =

@@ -1,12 +1,6 @@
 -- Used by contracts between functions; nobody has to believe it: laws tie it to the definitions.
 -- The tests that the checker runs, in the order in which it runs them. They say the same as `verdict`.
 --
---   numbers_of d e f b        == a sheet with these costs and counts, for tests that read nothing else
---   blank_of e f b r x        == a sheet with these slices, for tests that do not read d
---   chosen_of d e f b x       == a sheet with these slices, for tests that read neither route nor n; x stands for route
---                                and next
---   walk_of r x n             == a sheet with the route r, next vertices x and point count n, for tests that read no
---                                more
 --   counts_test g a b s v     == each of the two counts of vertex v is `count_at`: 0 off the way, 1 at its own end, and
 --                                elsewhere the sum over the neighbours
 --   vertex_test j g a b s v   == the numbers of vertex v pass the test: where j holds, both costs and both counts, as
@@ -26,7 +20,7 @@
 --   CheckInput w h l r a b s  == a good job, with a sheet whose slices have a place for each vertex
 --   Choosable w h l r b s     == the costs and counts of the sheet s, of a job to b, are such that `nexts_test` can be
 --                                run: products of counts fit, and a move leads on from each vertex on the way before b
-use Rattle.std.specs.Prelude.{ℕ, suc, ◌≤◌, ◌<◌, ◌≡◌, Bool, true, false, ◌&&◌, List, [], ltb, eqb, length}
+use Rattle.std.specs.Prelude.{ℕ, suc, ◌≤◌, ◌<◌, ◌≡◌, Bool, true, false, ◌&&◌, List, ltb, eqb, length}
 use Rattle.basics.specs.Bounded.{pick, every}
 use Rattle.floor.specs.Floor.{Floor, floor_of, vertices, number, column, row}
 use Rattle.sight.specs.Sight.{pinch}
@@ -34,25 +28,13 @@ use Rattle.moves.specs.declared.Directions.{Directions}
 use Rattle.paths.specs.Graph.{Graph}
 use Rattle.paths.specs.Distance.{unreachable}
 use Rattle.paths.specs.Route.{on_shortest}
-use Rattle.paths.specs.Sheet.{Sheet, sheet_of}
+use Rattle.paths.specs.Sheet.{Sheet}
 use Rattle.paths.specs.Onward.{Leads}
 use Rattle.paths.specs.Local.{count_at, right_point, right_route, entry, Shaped, local_on, right_next, by_next, blank_at}
 use Rattle.grid.specs.Grid.{floor_graph}
 use Rattle.grid.specs.Known.{GoodJob}
 use Rattle.neighbours.specs.Least.{right_cost_in}
 use Rattle.neighbours.specs.Choice.{traversal_of, Counted}
-
-abbrev pub numbers_of : List ℕ → List ℕ → List ℕ → List ℕ → Sheet
-numbers_of d e f b = sheet_of d e f b [] [] 0
-
-abbrev pub blank_of : List ℕ → List ℕ → List ℕ → List ℕ → List ℕ → Sheet
-blank_of e f b r x = sheet_of [] e f b r x 0
-
-abbrev pub chosen_of : List ℕ → List ℕ → List ℕ → List ℕ → List ℕ → Sheet
-chosen_of d e f b x = sheet_of d e f b x x 0
-
-abbrev pub walk_of : List ℕ → List ℕ → ℕ → Sheet
-walk_of r x n = sheet_of [] [] [] [] r x n
 
 unfoldable pub counts_test : Graph → ℕ → ℕ → Sheet → ℕ → Bool
 counts_test g a b s v =

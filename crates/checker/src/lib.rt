@@ -6,186 +6,112 @@ mod route; // route.rt: the test of the route
 mod vertices; // vertices.rt: the tests of costs and counts
 mod zeros; // zeros.rt: places that must be 0
 
-ghost use Rattle.std.specs.Prelude.{◌≡◌};
-ghost use Rattle.floor.specs.Floor.{floor_of};
-ghost use Rattle.paths.specs.Sheet.{sheet_of};
+ghost use Rattle.std.specs.Prelude.{◌≡◌, ◌<◌, ◌^◌};
+ghost use Rattle.floor.specs.Plan.{floor_on};
+ghost use Rattle.paths.specs.Local.{entry};
+ghost use Rattle.paths.specs.Sheet.{sheet_in};
 ghost use Rattle.grid.specs.Grid.{floor_graph};
 ghost use Rattle.grid.specs.Known.{GoodJob};
-ghost use Rattle.grid.specs.declared.JobShape.TheVariants.{Fit};
 ghost use Rattle.checker.specs.Answer.{sheet_sized, judged, check_answer, check_number};
 ghost use Rattle.checker.specs.Tests.{route_test, no_route_test, CheckInput};
 
-use floor::{Refusal, Vertex};
-use grid::JobShape;
+use floor::{FloorPlan, Refusal, Vertex};
 use moves::Directions;
+use paths::Sheet;
 
-// The answer: the sheet is the true route sheet, the true no_route sheet, or refused.
-#[derive(Clone, Copy)]
-pub enum Checked {
+// The kind of a sheet that is true.
+#[derive(Clone, Copy, Debug, PartialEq, Eq)]
+pub enum SheetKind {
     Route,
     NoRoute,
-    Refused(Refusal),
 }
 
 // The number of an answer (rule 6.1).
-pub fn check_number(c: Checked) -> u8
-    ensures { result ≡ check_number c }
+pub fn check_number(answer: Result<SheetKind, Refusal>) -> u8
+    ensures { result ≡ check_number answer }
 {
-    match c {
-        Checked::Route => 0,
-        Checked::NoRoute => 7,
-        Checked::Refused(r) => floor::refusal_number(r),
+    match answer {
+        Ok(SheetKind::Route) => 0,
+        Ok(SheetKind::NoRoute) => 7,
+        Err(r) => u8::from(r),
     }
 }
 
 // The sheet is the true route sheet.
-fn is_route(
-    w: usize,
-    h: usize,
-    map: &[u8],
-    dirs: Directions,
-    a: Vertex,
-    b: Vertex,
-    d: &[u32],
-    e: &[u32],
-    f: &[u64],
-    back: &[u64],
-    route: &[u16],
-    next: &[u16],
-    n: usize,
-) -> bool
-    requires { CheckInput w h map.now dirs a.0 b.0
-        (sheet_of d.now e.now f.now back.now route.now next.now n) }
-    ensures { result ≡ route_test (floor_graph (floor_of w h map.now) dirs) a.0 b.0
-        (sheet_of d.now e.now f.now back.now route.now
-        next.now n) }
+#[tactic(auto, unfolding(crate::specs::Tests::route_test))]
+fn is_route(floor: FloorPlan<'_>, dirs: Directions, a: Vertex, b: Vertex, sheet: Sheet<'_>) -> bool
+    requires { CheckInput floor.w floor.h floor.map.now dirs a.0 b.0 (sheet_in sheet) }
+    ensures { (result ≡ route_test (floor_graph (floor_on floor.entry) dirs) a.0 b.0 (sheet_in sheet.entry))
+        × (entry sheet.entry.f.now b.0 < 2 ^ 64) }
 {
-    let start = a.0;
-    let goal = b.0;
-    if d[goal] == paths::UNREACHABLE {
-        return false;
-    }
-    if d[start] != 0 {
-        return false;
-    }
-    if e[goal] != 0 {
-        return false;
-    }
-    if !vertices::vertices_right(w, h, map, dirs, true, a, b, d, e, f, back, route, next) {
-        return false;
-    }
-    if !nexts::nexts_right(w, h, map, dirs, b, d, e, f, back, next) {
-        return false;
-    }
-    route::route_right(a, b, route, next, n)
+    // The total is read here so that it is known to fit 64 bits.
+    let _total = sheet.f[b.0];
+    sheet.d[b.0] != paths::UNREACHABLE
+        && sheet.d[a.0] == 0
+        && sheet.e[b.0] == 0
+        && vertices::vertices_right(floor, dirs, true, a, b, sheet)
+        && nexts::nexts_right(floor, dirs, b, sheet)
+        && route::route_right(a, b, sheet)
 }
 
 // The sheet is the true no_route sheet.
+#[tactic(auto, unfolding(crate::specs::Tests::no_route_test))]
 fn is_no_route(
-    w: usize,
-    h: usize,
-    map: &[u8],
+    floor: FloorPlan<'_>,
     dirs: Directions,
     a: Vertex,
     b: Vertex,
-    d: &[u32],
-    e: &[u32],
-    f: &[u64],
-    back: &[u64],
-    route: &[u16],
-    next: &[u16],
-    n: usize,
+    sheet: Sheet<'_>,
 ) -> bool
-    requires { CheckInput w h map.now dirs a.0 b.0
-        (sheet_of d.now e.now f.now back.now route.now next.now n) }
-    ensures { result ≡ no_route_test (floor_graph (floor_of w h map.now) dirs) a.0 b.0
-        (sheet_of d.now e.now f.now back.now route.now
-        next.now n) }
+    requires { CheckInput floor.w floor.h floor.map.now dirs a.0 b.0 (sheet_in sheet) }
+    ensures { result ≡ no_route_test (floor_graph (floor_on floor.entry) dirs) a.0 b.0 (sheet_in sheet.entry) }
 {
-    let start = a.0;
-    let goal = b.0;
-    if d[goal] != paths::UNREACHABLE {
-        return false;
-    }
-    if n != 0 {
-        return false;
-    }
-    if d[start] != 0 {
-        return false;
-    }
-    vertices::vertices_right(w, h, map, dirs, false, a, b, d, e, f, back, route, next)
+    sheet.d[b.0] == paths::UNREACHABLE
+        && sheet.n == 0
+        && sheet.d[a.0] == 0
+        && vertices::vertices_right(floor, dirs, false, a, b, sheet)
 }
 
 // Refusal 6 does not apply: each slice of the sheet has v places.
-fn sheet_sized(
-    v: usize,
-    d: &[u32],
-    e: &[u32],
-    f: &[u64],
-    back: &[u64],
-    route: &[u16],
-    next: &[u16],
-) -> bool
-    ensures { result ≡ sheet_sized v
-        (sheet_of d.now e.now f.now back.now route.now
-        next.now 0) }
+#[tactic(auto, unfolding(crate::specs::Answer::sheet_sized))]
+fn sheet_sized(v: usize, sheet: Sheet<'_>) -> bool
+    ensures { result ≡ sheet_sized v (sheet_in sheet.entry) }
 {
-    if d.len() != v {
-        return false;
-    }
-    if e.len() != v {
-        return false;
-    }
-    if f.len() != v {
-        return false;
-    }
-    if back.len() != v {
-        return false;
-    }
-    if route.len() != v {
-        return false;
-    }
-    next.len() == v
+    sheet.d.len() == v
+        && sheet.e.len() == v
+        && sheet.f.len() == v
+        && sheet.back.len() == v
+        && sheet.route.len() == v
+        && sheet.next.len() == v
 }
 
 // The answer to a job whose floor, neighbourhood and ends have a good shape.
 fn judge(
-    w: usize,
-    h: usize,
-    map: &[u8],
+    floor: FloorPlan<'_>,
     dirs: Directions,
     a: Vertex,
     b: Vertex,
-    d: &[u32],
-    e: &[u32],
-    f: &[u64],
-    back: &[u64],
-    route: &[u16],
-    next: &[u16],
-    n: usize,
-) -> Checked
-    requires { GoodJob w h map.now dirs a.0 b.0 }
-    ensures { result ≡ judged w h map.now a.0 b.0
-        (sheet_of d.now e.now f.now back.now route.now
-        next.now n)
-        (Fit dirs) }
+    sheet: Sheet<'_>,
+) -> Result<SheetKind, Refusal>
+    requires { GoodJob floor.w floor.h floor.map.now dirs a.0 b.0 }
+    ensures { result ≡ judged floor.entry.w floor.entry.h floor.entry.map.now a.0 b.0 (sheet_in sheet.entry) (Ok dirs) }
 {
-    let v = floor::vertex_count(w, h);
-    if !sheet_sized(v, d, e, f, back, route, next) {
-        return Checked::Refused(Refusal::SliceLength);
+    if !sheet_sized(floor::vertex_count(floor.w, floor.h), sheet) {
+        return Err(Refusal::SliceLength);
     }
-    if is_route(w, h, map, dirs, a, b, d, e, f, back, route, next, n) {
-        return Checked::Route;
+    if is_route(floor, dirs, a, b, sheet) {
+        return Ok(SheetKind::Route);
     }
-    if is_no_route(w, h, map, dirs, a, b, d, e, f, back, route, next, n) {
-        return Checked::NoRoute;
+    if is_no_route(floor, dirs, a, b, sheet) {
+        return Ok(SheetKind::NoRoute);
     }
-    Checked::Refused(Refusal::FalseSheet)
+    Err(Refusal::FalseSheet)
 }
 
 // Checks a sheet that any planner filled, for the job from a to b on the floor of width w and height h with the
-// neighbourhood of number nb. The sheet is the slices d, e, f, back, route and next, and the point count n. Any numbers
-// may be handed in, and nothing is written.
+// neighbourhood of number nb. Any numbers may be handed in, and nothing is written.
+// Kept: what may not change: the parameters of `check` but for the sheet.
+#[tactic(auto, unfolding(crate::specs::Answer::check_answer))]
 pub fn check(
     w: usize,
     h: usize,
@@ -193,35 +119,10 @@ pub fn check(
     nb: usize,
     a: usize,
     b: usize,
-    d: &[u32],
-    e: &[u32],
-    f: &[u64],
-    back: &[u64],
-    route: &[u16],
-    next: &[u16],
-    n: usize,
-) -> Checked
-    ensures { result ≡ check_answer w h map.now nb a b
-        (sheet_of d.now e.now f.now back.now route.now
-        next.now n) }
+    sheet: Sheet<'_>,
+) -> Result<SheetKind, Refusal>
+    ensures { result ≡ check_answer w h map.now nb a b (sheet_in sheet.entry) }
 {
-    let shape = grid::job_shape(w, h, map, nb, a, b);
-    match shape {
-        JobShape::Fit(dirs) => judge(
-            w,
-            h,
-            map,
-            dirs,
-            Vertex(a),
-            Vertex(b),
-            d,
-            e,
-            f,
-            back,
-            route,
-            next,
-            n,
-        ),
-        JobShape::Refused(r) => Checked::Refused(r),
-    }
+    let dirs = grid::job_shape(w, h, map, nb, a, b)?;
+    judge(FloorPlan { w, h, map }, dirs, Vertex(a), Vertex(b), sheet)
 }

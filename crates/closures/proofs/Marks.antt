@@ -7,14 +7,13 @@ use Prim.Native.Nat.{ℕ, ◌+◌, ◌≤◌, ◌<◌}
 use mathlib.Core.Path.{◌≡◌, sym, ap, ◌∙◌}
 use mathlib.Core.Bool.{Bool}
 use mathlib.Core.List.{List}
-use mathlib.Core.Option.{Option, none}
 use native.Mathlib.Omega.{arith}
 use native.Mathlib.Numerals.{add-one}
 use lib.ListN.{length}
 use Rattle.basics.specs.Bounded.{any}
 use Rattle.floor.specs.Floor.{Floor, floor_of, map_of, with_blocked}
 use Rattle.floor.specs.Refusals.{floor_shape}
-use Rattle.floor.specs.declared.Shape.TheVariants.{Good}
+use Rattle.std.proofs.Common.{Ok, None, Option}
 use Rattle.floor.proofs.Packed.{Bytes}
 use Rattle.floor.proofs.Maps.{blocked-more, blocked-none, blocked-good, blocked-length}
 use Rattle.closures.specs.Plain.{covered_by, closed_by, working_map}
@@ -24,7 +23,7 @@ use Rattle.closures.specs.declared.Rectangle.{Rectangle}
 use Rattle.closures.specs.declared.Closures.{Closures}
 
 -- A free slot blocks no cell.
-pub unmarked : (s : Option Rectangle) (w h : ℕ) (l : List ℕ) → floor_shape w h l ≡ Good → Bytes l → s ≡ none
+pub unmarked : (s : Option Rectangle) (w h : ℕ) (l : List ℕ) → floor_shape w h l ≡ Ok tt → Bytes l → s ≡ None
     → Marked s w h l l
 unmarked s w h l g small e = rw e (blocked-none w h l g small)
 
@@ -35,12 +34,12 @@ abbrev plan_of : Closures → List ℕ → Floor
 plan_of t base = floor_of t.width t.height base
 
 pub record Marking (t : Closures) (base : List ℕ) (k : ℕ) (work : List ℕ) : Type 0 where
-  pub base_good : floor_shape t.width t.height base ≡ Good
+  pub base_good : floor_shape t.width t.height base ≡ Ok tt
   pub within : k ≤ 16
   pub at : work ≡ map_of (with_blocked (plan_of t base) (closed_to t k))
 
 pub marking-good : {t : Closures} {base work : List ℕ} {k : ℕ} → Marking t base k work
-    → floor_shape t.width t.height work ≡ Good
+    → floor_shape t.width t.height work ≡ Ok tt
 marking-good {t} {base} {work} {k} h =
     rw h.at (blocked-good t.width t.height base h.base_good (closed_to t k))
 
@@ -48,7 +47,7 @@ pub marking-length : {t : Closures} {base work : List ℕ} {k : ℕ} → Marking
 marking-length {t} {base} {work} {k} h =
     ap length h.at ∙ blocked-length t.width t.height base h.base_good (closed_to t k)
 
-pub marking-none : (t : Closures) (base work : List ℕ) → floor_shape t.width t.height base ≡ Good → Bytes base
+pub marking-none : (t : Closures) (base work : List ℕ) → floor_shape t.width t.height base ≡ Ok tt → Bytes base
     → work ≡ base → Marking t base 0 work
 unfolding any
 marking-none t base work g small e =

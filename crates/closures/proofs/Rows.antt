@@ -8,7 +8,6 @@ use mathlib.Core.Path.{◌≡◌, refl, sym, ap, ap₂, ◌∙◌}
 use mathlib.Core.Bool.{Bool, true, false, ◌&&◌, ◌||◌, and-true, and-false, or-false}
 use mathlib.Core.Logic.{⊎_elim}
 use mathlib.Core.List.{List}
-use mathlib.Core.Option.{some}
 use native.Mathlib.Omega.{arith}
 use borrow.Author.Tests.{le-leb, lt-leb, lt-ltb, le-ltb, eq-eqb, ne_eqb}
 use lib.Dec.{leb, ltb}
@@ -17,7 +16,7 @@ use Rattle.basics.proofs.Order.{le-or-lt, eq-or-ne}
 use Rattle.floor.specs.Floor.{cell_number, floor_of, map_of, with_blocked}
 use Rattle.floor.specs.Known.{blocked_from}
 use Rattle.floor.specs.Refusals.{floor_shape}
-use Rattle.floor.specs.declared.Shape.TheVariants.{Good}
+use Rattle.std.proofs.Common.{Ok, Some}
 use Rattle.floor.proofs.Packed.{Bytes}
 use Rattle.floor.proofs.Maps.{
   map_same,
@@ -81,7 +80,7 @@ all-rows r n i j e = ⊎_elim
     (λ (p : j < n). rw (lt-ltb j n p) (and-true (covers r i j)))
     (le-or-lt n j)
 
-module _ (r : Rectangle) (w h : ℕ) (old : List ℕ) (good : floor_shape w h old ≡ Good) where
+module _ (r : Rectangle) (w h : ℕ) (old : List ℕ) (good : floor_shape w h old ≡ Ok tt) where
   pub rows_none : Bytes old → (end : ℕ) → end ≡ r.row + r.rows → Rows r w h old end r.row old
   rows_none small end e = record {
     last = e;
@@ -93,13 +92,13 @@ module _ (r : Rectangle) (w h : ℕ) (old : List ℕ) (good : floor_shape w h ol
   }
 
   module _ {end j : ℕ} {s : List ℕ} (g : Rows r w h old end j s) where
-    pub rows-good : floor_shape w h s ≡ Good
+    pub rows-good : floor_shape w h s ≡ Ok tt
     rows-good = rw g.at (blocked-good w h old good (covers_to r j))
 
     pub rows-length : length s ≡ length old
     rows-length = ap length g.at ∙ blocked-length w h old good (covers_to r j)
 
-    pub rows-done : end ≤ j → Marked (some r) w h old s
+    pub rows-done : end ≤ j → Marked (Some r) w h old s
     rows-done l =
         g.at ∙ map_same w h _ _ (λ x y a b.
         ap (λ t. (floor_of w h old).cell x y || t) (all-rows r j x y (omega (arith, g.within, g.last))))
@@ -148,6 +147,6 @@ module _ (r : Rectangle) (w h : ℕ) where
   pub clipped-on : CellsOnFloor (clipped w h r) w h
   clipped-on = record { columns = omega arith; rows = omega arith }
 
-  pub clipped-marked : (l left : List ℕ) → Marked (some (clipped w h r)) w h l left → Marked (some r) w h l left
+  pub clipped-marked : (l left : List ℕ) → Marked (Some (clipped w h r)) w h l left → Marked (Some r) w h l left
   clipped-marked l left e =
       e ∙ map_same w h _ _ (λ i j a b. ap (λ t. (floor_of w h l).cell i j || t) (clipped-covers i j a b))

@@ -8,16 +8,15 @@
 --   writes-any-calls   == after any calls from empty, writing the working map answers and leaves what it does by the
 --                         plain map
 use Prim.Native.Nat.{ℕ, ◌≤◌, ◌<◌}
-use mathlib.Core.Path.{◌≡◌, refl, ap, ap₂, ◌∙◌}
+use mathlib.Core.Path.{◌≡◌, refl, ap₂, ◌∙◌}
 use mathlib.Core.Logic.{⊎_elim}
 use mathlib.Core.List.{List, [], ◌∷◌}
-use mathlib.Core.Option.{none}
 use borrow.Author.Tests.{eq-eqb, ne_eqb}
 use lib.ListN.{length, replicate, length-set, length-replicate, get_or-replicate, get_or-eq_default}
 use lib.Seq.{get_or-set_same, get_or-set_other}
 use Rattle.basics.proofs.Order.{le-or-lt, eq-or-ne}
-use Rattle.floor.specs.declared.Shape.{Shape}
-use Rattle.floor.specs.declared.Shape.TheVariants.{Good, Refused}
+use Rattle.floor.specs.Refusals.{Shape}
+use Rattle.std.proofs.Common.{Ok, Err, Some, None, Option}
 use Rattle.floor.specs.Refusals.{left_by}
 use Rattle.closures.specs.Plain.{
   Plain,
@@ -29,7 +28,7 @@ use Rattle.closures.specs.Plain.{
   work_shape,
   work_left,
 }
-use Rattle.closures.specs.Table.{held_in, slot_of, held, with_slot, empty_table, Writes}
+use Rattle.closures.specs.Table.{held, with_slot, empty_table, Writes}
 use Rattle.closures.specs.Calls.{
   Call,
   post,
@@ -43,9 +42,11 @@ use Rattle.closures.specs.Calls.{
   plain_answers,
 }
 use Rattle.closures.proofs.Shapes.{good-post, good-strike}
-use Rattle.closures.specs.declared.Hold.{Hold}
-use Rattle.closures.specs.declared.Hold.TheVariants.{Free, Held}
+use Rattle.closures.specs.declared.Rectangle.{Rectangle}
 use Rattle.closures.specs.declared.Closures.{Closures}
+
+abbrev free_slot : Option Rectangle
+free_slot = None
 
 -- A table for a floor of width w and height h, with sixteen slots.
 pub record Sided (w h : ℕ) (t : Closures) : Type 0 where
@@ -54,58 +55,56 @@ pub record Sided (w h : ℕ) (t : Closures) : Type 0 where
   pub sixteen : length t.slots ≡ 16
 
 pub empty-sided : (w h : ℕ) → Sided w h (empty_table w h)
-empty-sided w h = record { wide = refl; high = refl; sixteen = length-replicate 16 (slot_of Free) }
+empty-sided w h = record { wide = refl; high = refl; sixteen = length-replicate 16 free_slot }
 
-pub with-sided : {w h : ℕ} {t : Closures} (k : ℕ) (s : Hold) → Sided w h t → Sided w h (with_slot t k s)
+pub with-sided : {w h : ℕ} {t : Closures} (k : ℕ) (s : Option Rectangle) → Sided w h t → Sided w h (with_slot t k s)
 with-sided {w} {h} {t} k s g =
-    record { wide = g.wide; high = g.high; sixteen = length-set t.slots k (slot_of s) ∙ g.sixteen }
+    record { wide = g.wide; high = g.high; sixteen = length-set t.slots k s ∙ g.sixteen }
 
-left-sided : {w h : ℕ} {t : Closures} (x : Shape) (k : ℕ) (s : Hold) → Sided w h t
+left-sided : {w h : ℕ} {t : Closures} (x : Shape) (k : ℕ) (s : Option Rectangle) → Sided w h t
     → Sided w h (left_by x (with_slot t k s) t)
-left-sided Good k s g = with-sided k s g
-left-sided (Refused r) k s g = g
+left-sided (Ok u) k s g = with-sided k s g
+left-sided (Err r) k s g = g
 
 pub call-sided : {w h : ℕ} {t : Closures} (c : Call) → Sided w h t → Sided w h (table_left t c)
 call-sided {t = t} (post r) g =
-    left-sided (post_shape t.width t.height (held t) r) (lowest_free (held t)) (Held r) g
-call-sided {t = t} (strike k) g = left-sided (strike_shape t.width t.height (held t) k) k Free g
+    left-sided (post_shape t.width t.height (held t) r) (lowest_free (held t)) (Some r) g
+call-sided {t = t} (strike k) g = left-sided (strike_shape t.width t.height (held t) k) k None g
 
 pub held-empty : (w h : ℕ) → held (empty_table w h) ≡ nothing_held
 held-empty w h = λ i k. at k i
   where
-    at : (k : ℕ) → held (empty_table w h) k ≡ none
+    at : (k : ℕ) → held (empty_table w h) k ≡ None
     at k =
-        ⊎_elim (λ (l : 16 ≤ k). ap (λ s. held_in s.hold)
-        (get_or-eq_default (replicate 16 (slot_of Free)) (slot_of Free) {n = k} l))
-        (λ (l : k < 16). ap (λ s. held_in s.hold) (get_or-replicate 16 k (slot_of Free) (slot_of Free) l))
+        ⊎_elim
+        (λ (l : 16 ≤ k). get_or-eq_default (replicate 16 free_slot) free_slot {n = k} l)
+        (λ (l : k < 16). get_or-replicate 16 k free_slot free_slot l)
         (le-or-lt 16 k)
 
-pub held_with : (t : Closures) (k : ℕ) (s : Hold) → k < length t.slots
-    → held (with_slot t k s) ≡ changed (held t) k (held_in s)
+pub held_with : (t : Closures) (k : ℕ) (s : Option Rectangle) → k < length t.slots
+    → held (with_slot t k s) ≡ changed (held t) k s
 held_with t k s l = λ i j. at j i
   where
-    at : (j : ℕ) → held (with_slot t k s) j ≡ changed (held t) k (held_in s) j
+    at : (j : ℕ) → held (with_slot t k s) j ≡ changed (held t) k s j
     at j =
         ⊎_elim
-        (λ (e : j ≡ k). rw (eq-eqb j k e, e)
-        (ap (λ x. held_in x.hold) (get_or-set_same t.slots k (slot_of s) (slot_of Free) l)))
-        (λ (n : j ≡ k → ⊥). rw (ne_eqb j k n)
-        (ap (λ x. held_in x.hold) (get_or-set_other t.slots k j (slot_of s) (slot_of Free) n)))
+        (λ (e : j ≡ k). rw (eq-eqb j k e, e) (get_or-set_same t.slots k s None l))
+        (λ (n : j ≡ k → ⊥). rw (ne_eqb j k n) (get_or-set_other t.slots k j s None n))
         (eq-or-ne j k)
 
 -- A good shape changes the table and the plain map alike, and a refusal leaves both.
-held_by : (t : Closures) (x : Shape) (k : ℕ) (s : Hold) → (x ≡ Good → k < length t.slots)
-    → held (left_by x (with_slot t k s) t) ≡ left_by x (changed (held t) k (held_in s)) (held t)
-held_by t Good k s l = held_with t k s (l refl)
-held_by t (Refused r) k s l = refl
+held_by : (t : Closures) (x : Shape) (k : ℕ) (s : Option Rectangle) → (x ≡ Ok tt → k < length t.slots)
+    → held (left_by x (with_slot t k s) t) ≡ left_by x (changed (held t) k s) (held t)
+held_by t (Ok u) k s l = held_with t k s (l refl)
+held_by t (Err r) k s l = refl
 
 pub held-left : (t : Closures) (c : Call) → length t.slots ≡ 16
     → held (table_left t c) ≡ plain_left t.width t.height (held t) c
 held-left t (post r) e =
-    held_by t (post_shape t.width t.height (held t) r) (lowest_free (held t)) (Held r)
+    held_by t (post_shape t.width t.height (held t) r) (lowest_free (held t)) (Some r)
     (λ g. rw e (good-post t.width t.height (held t) r g))
 held-left t (strike k) e =
-    held_by t (strike_shape t.width t.height (held t) k) k Free
+    held_by t (strike_shape t.width t.height (held t) k) k None
     (λ g. rw e (good-strike t.width t.height (held t) k g))
 
 module _ (w h : ℕ) where

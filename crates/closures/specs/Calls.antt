@@ -9,20 +9,20 @@
 --   table_answers t cs         == what the calls cs answer, by the contracts
 --   plain_after w h m cs       == the plain map m after the calls cs, for a floor of width w and height h
 --   plain_answers w h m cs     == what the calls cs answer by the plain map m, for a floor of width w and height h
-use Rattle.std.specs.Prelude.{ℕ, List, [], ◌∷◌}
-use Rattle.floor.specs.declared.Shape.{Shape}
+use Rattle.std.specs.Prelude.{ℕ, List, [], ◌∷◌, Result}
+use Rattle.floor.specs.Refusals.{Shape}
+use Rattle.floor.specs.declared.Refusal.{Refusal}
 use Rattle.closures.specs.Plain.{Plain, post_answer, post_map, strike_shape, strike_map}
 use Rattle.closures.specs.Table.{held, post_left, strike_left}
 use Rattle.closures.specs.declared.Rectangle.{Rectangle}
 use Rattle.closures.specs.declared.Closures.{Closures}
-use Rattle.closures.specs.declared.Posting.{Posting}
 
 pub data Call : Type 0 where
   post : Rectangle → Call
   strike : ℕ → Call
 
 pub data Answer : Type 0 where
-  of_post : Posting → Answer
+  of_post : Result ℕ Refusal → Answer
   of_strike : Shape → Answer
 
 abbrev pub table_left : Closures → Call → Closures

@@ -19,20 +19,16 @@
 --                             then 6
 --   working_map w h base m == the base map, with every cell blocked that any closure of m covers
 --   work_left w h base m l == the slice l after the writing of the working map; at a refusal the same slice
---   posting_of s k         == what post answers where its refusals are the shape s and the slot is k
 --   post_number p          == the number of what post answers (rule 6.1): 0, or that of the refusal
 --   post_slot p            == the slot that post answers; 0 at a refusal
 use Rattle.std.specs.Prelude.{ℕ, ◌+◌, Bool, true, false, ◌&&◌, not, List, leb, ltb, eqb, length}
-use Rattle.std.proofs.Math.Option.{Option, none, some}
+use Rattle.std.specs.Prelude.{Option, None, Some, Result, Ok, Err}
 use Rattle.basics.specs.Bounded.{pick, any, seek}
 use Rattle.floor.specs.Floor.{floor_of, map_of, with_blocked}
-use Rattle.floor.specs.Refusals.{refusal_number, sides_shape, floor_shape, and_then, left_by}
+use Rattle.floor.specs.Refusals.{Shape, answer_number, sides_shape, floor_shape, and_then, left_by}
+use Rattle.floor.specs.declared.Refusal.{Refusal}
 use Rattle.floor.specs.declared.Refusal.TheVariants.{SliceLength, ClosureBounds, SlotsFull, SlotEmpty}
-use Rattle.floor.specs.declared.Shape.{Shape}
-use Rattle.floor.specs.declared.Shape.TheVariants.{Good, Refused as BadShape}
 use Rattle.closures.specs.declared.Rectangle.{Rectangle}
-use Rattle.closures.specs.declared.Posting.{Posting}
-use Rattle.closures.specs.declared.Posting.TheVariants.{In, Refused}
 
 -- ---- the table: "a plain map from slot to rectangle"
 
@@ -40,11 +36,11 @@ abbrev pub Plain : Type 0
 Plain = ℕ → Option Rectangle
 
 abbrev pub nothing_held : Plain
-nothing_held k = none
+nothing_held k = None
 
 abbrev pub is_free : Option Rectangle → Bool
-is_free none = true
-is_free (some r) = false
+is_free None = true
+is_free (Some r) = false
 
 abbrev pub free_in : Plain → ℕ → Bool
 free_in m k = is_free (m k)
@@ -66,27 +62,23 @@ within w h r =
 unfoldable pub post_shape : ℕ → ℕ → Plain → Rectangle → Shape
 post_shape w h m r =
     and_then (sides_shape w h)
-    (and_then (pick (within w h r) Good (BadShape ClosureBounds))
-    (pick (ltb (lowest_free m) 16) Good (BadShape SlotsFull)))
+    (and_then (pick (within w h r) (Ok tt) (Err ClosureBounds))
+    (pick (ltb (lowest_free m) 16) (Ok tt) (Err SlotsFull)))
 
-abbrev pub posting_of : Shape → ℕ → Posting
-posting_of Good k = In k
-posting_of (BadShape r) k = Refused r
-
-abbrev pub post_answer : ℕ → ℕ → Plain → Rectangle → Posting
-post_answer w h m r = posting_of (post_shape w h m r) (lowest_free m)
+abbrev pub post_answer : ℕ → ℕ → Plain → Rectangle → Result ℕ Refusal
+post_answer w h m r = and_then (post_shape w h m r) (Ok (lowest_free m))
 
 abbrev pub post_map : ℕ → ℕ → Plain → Rectangle → Plain
-post_map w h m r = left_by (post_shape w h m r) (changed m (lowest_free m) (some r)) m
+post_map w h m r = left_by (post_shape w h m r) (changed m (lowest_free m) (Some r)) m
 
 -- ---- strike: "14 if it is above 15 or empty"
 
 unfoldable pub strike_shape : ℕ → ℕ → Plain → ℕ → Shape
 strike_shape w h m k =
-    and_then (sides_shape w h) (pick (ltb k 16 && not (free_in m k)) Good (BadShape SlotEmpty))
+    and_then (sides_shape w h) (pick (ltb k 16 && not (free_in m k)) (Ok tt) (Err SlotEmpty))
 
 abbrev pub strike_map : ℕ → ℕ → Plain → ℕ → Plain
-strike_map w h m k = left_by (strike_shape w h m k) (changed m k none) m
+strike_map w h m k = left_by (strike_shape w h m k) (changed m k None) m
 
 -- ---- the working map: "blocked where the base is or where any held closure covers"
 
@@ -95,14 +87,14 @@ covers r i j =
     (leb r.column i && ltb i (r.column + r.columns)) && (leb r.row j && ltb j (r.row + r.rows))
 
 abbrev pub covered_by : Option Rectangle → ℕ → ℕ → Bool
-covered_by none i j = false
-covered_by (some r) i j = covers r i j
+covered_by None i j = false
+covered_by (Some r) i j = covers r i j
 
 unfoldable pub closed_by : Plain → ℕ → ℕ → Bool
 closed_by m i j = any 16 (λ k. covered_by (m k) i j)
 
 unfoldable pub work_shape : ℕ → ℕ → List ℕ → ℕ → Shape
-work_shape w h base n = and_then (floor_shape w h base) (pick (eqb n (length base)) Good (BadShape SliceLength))
+work_shape w h base n = and_then (floor_shape w h base) (pick (eqb n (length base)) (Ok tt) (Err SliceLength))
 
 abbrev pub working_map : ℕ → ℕ → List ℕ → Plain → List ℕ
 working_map w h base m = map_of (with_blocked (floor_of w h base) (closed_by m))
@@ -110,12 +102,11 @@ working_map w h base m = map_of (with_blocked (floor_of w h base) (closed_by m))
 abbrev pub work_left : ℕ → ℕ → List ℕ → Plain → List ℕ → List ℕ
 work_left w h base m work = left_by (work_shape w h base (length work)) (working_map w h base m) work
 
--- ---- the numbers of answers
+-- ---- the number and the value of an answer
 
-abbrev pub post_number : Posting → ℕ
-post_number (In k) = 0
-post_number (Refused r) = refusal_number r
+abbrev pub post_number : Result ℕ Refusal → ℕ
+post_number p = answer_number p
 
-abbrev pub post_slot : Posting → ℕ
-post_slot (In k) = k
-post_slot (Refused r) = 0
+abbrev pub post_slot : Result ℕ Refusal → ℕ
+post_slot (Ok k) = k
+post_slot (Err r) = 0

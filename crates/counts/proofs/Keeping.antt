@@ -1,5 +1,6 @@
 -- A loop that filters a list in place: the numbers that pass a test are kept at its beginning.
 --
+--   kept-one    == what a test adds to the number of those kept
 --   kept-none   == `Filtered` before the first turn
 --   kept_more   == `Filtered` after one turn more: the next number is stored after those kept, and counts as kept where
 --                  it passes the test
@@ -7,8 +8,9 @@
 use Prim.Native.Nat.{ℕ, ◌+◌, ◌≤◌, ◌<◌}
 use mathlib.Core.Path.{◌≡◌, refl, sym, ap, ◌∙◌, subst}
 use mathlib.Core.Logic.{◌⊎◌, inl, inr, ⊎_elim}
-use mathlib.Core.Bool.{Bool, true}
+use mathlib.Core.Bool.{Bool, true, false}
 use mathlib.Core.List.{List}
+use mir.Val.{bool_byte}
 use native.Mathlib.Omega.{arith}
 use lib.ListN.{length, set, length-set}
 use lib.Seq.{get_or-set_same, get_or-set_other}
@@ -17,6 +19,10 @@ use Rattle.basics.proofs.Order.{eq-or-ne}
 use Rattle.basics.proofs.Bools.{true-or-false}
 use Rattle.paths.specs.Local.{entry}
 use Rattle.counts.specs.Passes.{Filtered}
+
+pub kept-one : (b : Bool) → bool_byte b ≡ pick b 1 0
+kept-one true = refl
+kept-one false = refl
 
 pub kept-none : {p : ℕ → Bool} {l : List ℕ} → Filtered p 0 0 l l
 kept-none = record {

@@ -21,6 +21,7 @@ use mathlib.Core.List.{List}
 use native.Mathlib.Omega.{arith}
 use lib.ListN.{length, set, length-set, length-replicate}
 use lib.Seq.{get_or-set_same, get_or-set_other}
+use Rattle.std.specs.Prelude.{Option, Some, None}
 use Rattle.basics.specs.Lists.{tabulate, zeros}
 use Rattle.basics.proofs.Order.{le-or-lt, eq-or-ne}
 use Rattle.basics.proofs.Bools.{true-or-false}
@@ -34,8 +35,6 @@ use Rattle.paths.proofs.Counts.{path_count-self}
 use Rattle.paths.proofs.Way.{count_from-way, count_from-off, count_from-fits}
 use Rattle.paths.proofs.CountTest.{way-closed, count_at-start, count_at-other, count_next}
 use Rattle.moves.specs.declared.Directions.{Directions}
-use Rattle.neighbours.specs.declared.Sum.{Sum}
-use Rattle.neighbours.specs.declared.Sum.TheVariants.{Is, Over}
 use Rattle.neighbours.specs.Reading.{mask_graph, sum_of}
 use Rattle.neighbours.proofs.Agree.{count_at-agrees}
 use Rattle.neighbours.proofs.Sums.{sum_of-fits, sum_of-is, sum_of-passes}
@@ -52,13 +51,13 @@ module _ (dirs : Directions) (shifts : List ℕ) (mask s : ℕ) (d f : List ℕ)
   abbrev maskGraph-here : Graph
   maskGraph-here = mask_graph (length d) dirs shifts mask
 
-  pub count-one : u ≡ s → Is 1 ≡ sum_of (count_of dirs shifts mask s d f u)
+  pub count-one : u ≡ s → Some 1 ≡ sum_of (count_of dirs shifts mask s d f u)
   count-one q =
       let at : count_of dirs shifts mask s d f u ≡ 1
       = ap (count_of dirs shifts mask s d f) q ∙ count_at-start maskGraph-here s all (entry d) (entry f) refl in
       rw at (sum_of-fits 1 (omega arith))
 
-  pub count-sum : (u ≡ s → ⊥) → (r : Sum) → r ≡ sum_of (inflow maskGraph-here (entry d) (entry f) u)
+  pub count-sum : (u ≡ s → ⊥) → (r : Option ℕ) → r ≡ sum_of (inflow maskGraph-here (entry d) (entry f) u)
       → r ≡ sum_of (count_of dirs shifts mask s d f u)
   count-sum ne r q = q ∙ ap sum_of (sym (count_at-other maskGraph-here s all (entry d) (entry f) u refl ne))
 
@@ -167,7 +166,7 @@ module _ {dirs : Directions} {shifts : List ℕ} {s n : ℕ} {rev : Bool} {d wor
   turn-len h q = h.len ∙ sym (ap length q ∙ length-replicate (length d) 0)
 
   module _ {i : ℕ} {f : List ℕ} (h : Turning dirs shifts s n rev d work i f) (l : i < n) (u : ℕ)
-      (at : u ≡ turn_of work n rev i) (r : Sum)
+      (at : u ≡ turn_of work n rev i) (r : Option ℕ)
       (sum : r ≡ sum_of (count_of dirs shifts (mask_at (length d) work u) s d f u)) where
     -- `count_of` gives the count of the vertex.
     worked : (g : Graph) (x : ℕ) (K : Passable g dirs shifts s x n rev d work)
@@ -177,7 +176,7 @@ module _ {dirs : Directions} {shifts : List ℕ} {s n : ℕ} {rev : Bool} {d wor
         (sym at)
         (count-right K l (h.counted g x K))
 
-    pub turn_more : (y : ℕ) → r ≡ Is y → Turning dirs shifts s n rev d work (i + 1) (set f u y)
+    pub turn_more : (y : ℕ) → r ≡ Some y → Turning dirs shifts s n rev d work (i + 1) (set f u y)
     turn_more y q = record {
       within = omega arith;
       len = length-set f u y ∙ h.len;
@@ -186,7 +185,7 @@ module _ {dirs : Directions} {shifts : List ℕ} {s n : ℕ} {rev : Bool} {d wor
           (counted-more K l (h.counted g x K) y (sym (sum_of-is _ y (sym sum ∙ q)) ∙ worked g x K));
     }
 
-    pub turn-over : r ≡ Over → (g : Graph) (x : ℕ) → Passable g dirs shifts s x n rev d work → Summed g s x f false
+    pub turn-over : r ≡ None → (g : Graph) (x : ℕ) → Passable g dirs shifts s x n rev d work → Summed g s x f false
     turn-over q g x K = record {
       counted = λ z. absurd (true≢false (sym z));
       over = λ z. count-over K l (h.counted g x K) (omega (arith, sum_of-passes _ (sym sum ∙ q), worked g x K));

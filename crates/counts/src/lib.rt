@@ -8,7 +8,6 @@
 #![tactic(auto)]
 
 ghost use Rattle.std.specs.Prelude.{◌≡◌, ℕ, ◌<◌, ◌≤◌, length};
-ghost use Rattle.basics.specs.Bounded.{pick};
 ghost use Rattle.basics.specs.Lists.{zeros};
 ghost use Rattle.paths.specs.Graph.{Graph};
 ghost use Rattle.paths.specs.Local.{entry};
@@ -26,24 +25,13 @@ ghost use Rattle.counts.specs.Passes.{
 };
 
 use moves::Directions;
-use neighbours::Sum;
-
-// 1 where the test holds, else 0.
-fn one_if(b: bool) -> usize
-    ensures { (result ≡ pick b 1 0) × (result ≤ 1) }
-{
-    if b {
-        return 1;
-    }
-    0
-}
 
 // Whether d[u] + e[u] is `whole`. Where that is the cost of the way, u is then on it.
 fn sums_to(d: &[u32], e: &[u32], whole: u32, u: usize) -> bool
     requires { (u < length d.now) × (u < length e.now) }
     ensures { result ≡ sums_to d.now e.now whole u }
 {
-    basics::wide(d[u]) + basics::wide(e[u]) == basics::wide(whole)
+    u64::from(d[u]) + u64::from(e[u]) == u64::from(whole)
 }
 
 // Of the vertices at the first n places keeps those on a way of cost `whole`, in their order, at the beginning, and
@@ -58,21 +46,19 @@ fn keep_on_way(whole: u32, n: usize, d: &[u32], e: &[u32], work: &mut [u32]) -> 
     let mut kept: usize = 0;
     for i in 0..n {
         let u = workspace::copy_settled(work, i, kept);
-        kept += one_if(sums_to(d, e, whole, u));
+        kept += usize::from(sums_to(d, e, whole, u));
     }
     kept
 }
 
 // The vertex that a pass over the n places of the order comes to at turn i: from the front, or, where `rev` holds, from
 // the back.
+// Kept: no plainer, since the contracts of a pass speak of the place of turn i by the flag (`turn_place`).
 fn vertex_of_turn(work: &[u32], n: usize, rev: bool, i: usize) -> usize
     requires { (n ≤ length work.now) × (i < n) }
     ensures { result ≡ turn_of work.now n rev i }
 {
-    if rev {
-        return workspace::settled_at(work, n - 1 - i);
-    }
-    workspace::settled_at(work, i)
+    workspace::settled_at(work, if rev { n - 1 - i } else { i })
 }
 
 // The count from the start of vertex u, which is on the way: 1 at the start, elsewhere the sum of the counts f over the
@@ -85,12 +71,12 @@ fn count_of(
     d: &[u32],
     f: &[u64],
     u: usize,
-) -> Sum
+) -> Option<u64>
     requires { Readable (length d.now) dirs shifts.now mask u × (length f.now ≡ length d.now) }
     ensures { result ≡ sum_of (count_of dirs shifts.now mask start d.now f.now u) }
 {
     if u == start {
-        return Sum::Is(1);
+        return Some(1);
     }
     neighbours::inflow_at(dirs, shifts, mask, d, f, u)
 }
@@ -116,7 +102,7 @@ fn count_along(
     for i in 0..n {
         let u = vertex_of_turn(work, n, rev, i);
         let mask = workspace::mask_at(work, d.len(), u);
-        let Sum::Is(x) = count_of(dirs, shifts, mask, start, d, f, u) else {
+        let Some(x) = count_of(dirs, shifts, mask, start, d, f, u) else {
             return false;
         };
         f[u] = x;
@@ -150,6 +136,6 @@ pub fn fill_counts(
     if count_along(dirs, shifts, b, e, kept, false, work, back) {
         return count_along(dirs, shifts, a, d, kept, true, work, f);
     }
-    basics::clear_u64(back);
+    back.fill(0);
     false
 }

@@ -13,20 +13,17 @@ use mathlib.Core.List.{List, [], ◌∷◌, ◌++◌}
 use borrow.Author.Tests.{ltb-true}
 use lib.Dec.{leb, eqb}
 use lib.ListN.{length}
+use Rattle.std.proofs.Common.{Result, Ok, Err}
 use Rattle.basics.specs.Bounded.{pick}
 use Rattle.basics.specs.Lists.{tabulate, padded, zeros}
 use Rattle.basics.proofs.Bools.{and_both}
 use Rattle.floor.specs.Floor.{floor_of, vertices}
-use Rattle.floor.specs.Refusals.{refusal_number, end_shape, and_then, shape_number}
+use Rattle.floor.specs.Refusals.{Shape, refusal_number, end_shape, and_then, answer_number}
 use Rattle.floor.specs.declared.Refusal.{Refusal}
 use Rattle.floor.specs.declared.Refusal.TheVariants.{End, SliceLength, NoRoute, TooMany, FalseSheet, NotJoined}
-use Rattle.floor.specs.declared.Shape.{Shape}
-use Rattle.floor.specs.declared.Shape.TheVariants.{Good, Refused as BadShape}
 use Rattle.sight.specs.Sight.{sees, segment}
 use Rattle.sight.specs.Obstacle.{obstacle}
-use Rattle.sight.specs.Question.{or_refused, sight_answer, sight_number}
-use Rattle.sight.specs.declared.Sight.{Sight}
-use Rattle.sight.specs.declared.Sight.TheVariants.{Answered}
+use Rattle.sight.specs.Question.{Sight, sight_answer, sight_number}
 use Rattle.sight.proofs.Passed.{obstacle-sees-segment}
 use Rattle.paths.specs.Graph.{Graph}
 use Rattle.paths.specs.Distance.{distance, path_count}
@@ -36,19 +33,16 @@ use Rattle.given_costs.specs.Given.{costs_true}
 use Rattle.planner.specs.Plan.{CostSlices, cost_slices_of, Slices, costs_sized, slices_sized, sheet_slices, costs_alone}
 use Rattle.planner.specs.Plan.{route_answer, route_left, job_costs, job_costs_left, costs_answer, costs_left, FillsCosts}
 use Rattle.planner.specs.Plan.{job_answer, job_left, finish_answer, finish_left, Finishes}
-use Rattle.planner.specs.Plan.{plan_number, plan_cost, plan_total, plan_points}
-use Rattle.planner.specs.declared.Planned.{Planned}
-use Rattle.planner.specs.declared.Planned.TheVariants.{Found, Refused as NotPlanned}
+use Rattle.planner.specs.Plan.{Planned, plan_of as planned_of, plan_number, plan_cost, plan_total, plan_points}
+use Rattle.checker.specs.declared.SheetKind.{SheetKind}
+use Rattle.checker.specs.declared.SheetKind.TheVariants.{Route, NoRoute as NoRouteSheet}
 use Rattle.checker.specs.Answer.{verdict, sheet_sized, judged, check_answer, check_number}
-use Rattle.checker.specs.declared.Checked.{Checked}
-use Rattle.checker.specs.declared.Checked.TheVariants.{Route, NoRoute as AcceptedNoRoute, Refused as NotAccepted}
 use Rattle.thinning.specs.Thinning.{kept_positions, joined_list}
 use Rattle.thinning.specs.Answer.{list_shape, thin_answer, thin_output, Thins}
-use Rattle.thinning.specs.declared.Thinned.{Thinned}
 use Rattle.demands.specs.Demands.{line, first_of, at_zero, is_vertex, graph_of}
 use Rattle.demands.specs.Demands.{AnswersSight, costs_lines, AnswersCosts, finish_shape, plan_lines, plan_left}
 use Rattle.demands.specs.Demands.{AnswersPlan, verdict_lines, AnswersCheck, thin_lines, AnswersThin}
-use Rattle.demands.proofs.Shapes.{test-first, and_first, floor-first}
+use Rattle.demands.proofs.Shapes.{tested, test-first, and_first, floor-first}
 use Rattle.demands.proofs.Shapes.{job-first, job-cases, answer-number, answer-kept, left-zero}
 
 -- ---- the sight question
@@ -58,7 +52,7 @@ module _ (w h : ℕ) (map : List ℕ) (a b : ℕ) where
   clear = sees (floor_of w h map) (segment w a b)
 
   abbrev asked : Sight
-  asked = Answered (obstacle (floor_of w h map) (segment w a b))
+  asked = Ok (obstacle (floor_of w h map) (segment w a b))
 
   -- The number is 0 exactly where the two vertices see each other, else 100.
   clear-number : (is_vertex w h a && is_vertex w h b) ≡ true → sight_number asked ≡ pick (not clear) 100 0
@@ -72,13 +66,13 @@ module _ (w h : ℕ) (map : List ℕ) (a b : ℕ) where
       turned true = refl
       turned false = refl
 
-  ends-number : sight_number (or_refused (and_then (end_shape w h a) (end_shape w h b)) asked)
+  ends-number : sight_number (and_then (and_then (end_shape w h a) (end_shape w h b)) asked)
       ≡ first_of (line 5 (not (is_vertex w h a && is_vertex w h b)) ∷ line 100 (not clear) ∷ [])
   unfolding end_shape
   ends-number = cases (is_vertex w h a) (is_vertex w h b) clear-number
     where
       cases : (x y : Bool) → ((x && y) ≡ true → sight_number asked ≡ pick (not clear) 100 0)
-          → sight_number (or_refused (and_then (pick x Good (BadShape End)) (pick y Good (BadShape End))) asked)
+          → sight_number (and_then (and_then (tested x End) (tested y End)) asked)
           ≡ first_of (line 5 (not (x && y)) ∷ line 100 (not clear) ∷ [])
       cases false y k = refl
       cases true false k = refl
@@ -88,7 +82,7 @@ module _ (w h : ℕ) (map : List ℕ) (a b : ℕ) where
   unfolding sight_answer
   sight-answers r e = record {
     number = ap sight_number e ∙ floor-first w h map
-        (λ s. sight_number (or_refused (and_then s (and_then (end_shape w h a) (end_shape w h b))) asked)) (λ q. refl)
+        (λ s. sight_number (and_then (and_then s (and_then (end_shape w h a) (end_shape w h b))) asked)) (λ q. refl)
         (line 5 (not (is_vertex w h a && is_vertex w h b)) ∷ line 100 (not clear) ∷ []) ends-number;
   }
 
@@ -98,31 +92,31 @@ module _ (w h : ℕ) (map : List ℕ) (nb a : ℕ) (s : CostSlices) where
   abbrev filled : CostSlices
   filled = cost_slices_of (tabulate (vertices w h) (distance (graph_of w h map nb) a)) (zeros (4 * vertices w h))
 
-  costs-number : shape_number (costs_answer w h map nb a s) ≡ first_of (costs_lines w h map nb a s)
+  costs-number : answer_number (costs_answer w h map nb a s) ≡ first_of (costs_lines w h map nb a s)
   unfolding costs_answer
   costs-number =
-      job-first w h map nb a a (λ j. shape_number (job_costs w h s j)) (λ r. refl)
+      job-first w h map nb a a (λ j. answer_number (job_costs w h s j)) (λ r. refl)
       (line 6 (not (costs_sized (vertices w h) s)) ∷ []) (cases (costs_sized (vertices w h) s))
     where
       cases : (x : Bool)
-          → shape_number (pick x Good (BadShape SliceLength)) ≡ first_of (line 6 (not x) ∷ [])
+          → answer_number (tested x SliceLength) ≡ first_of (line 6 (not x) ∷ [])
       cases true = refl
       cases false = refl
 
-  costs-leaves : costs_left w h map nb a s ≡ at_zero (shape_number (costs_answer w h map nb a s)) filled s
+  costs-leaves : costs_left w h map nb a s ≡ at_zero (answer_number (costs_answer w h map nb a s)) filled s
   unfolding costs_answer costs_left
   costs-leaves =
-      job-cases w h map nb a a (λ j. job_costs_left w h map a s j ≡ at_zero (shape_number (job_costs w h s j)) filled s)
-      refl refl refl refl refl refl (cases (costs_sized (vertices w h) s))
+      job-cases w h map nb a a
+      (λ j. job_costs_left w h map a s j ≡ at_zero (answer_number (job_costs w h s j)) filled s) refl refl refl refl refl refl (cases (costs_sized (vertices w h) s))
     where
-      cases : (x : Bool) → pick x filled s ≡ at_zero (shape_number (pick x Good (BadShape SliceLength))) filled s
+      cases : (x : Bool) → pick x filled s ≡ at_zero (answer_number (tested x SliceLength)) filled s
       cases true = refl
       cases false = refl
 
   pub costs-answers : (r : Shape) (s' : CostSlices) → FillsCosts w h map nb a s r s'
       → AnswersCosts w h map nb a s r s'
   costs-answers r s' F = record {
-    number = ap shape_number F.answer ∙ costs-number;
+    number = ap answer_number F.answer ∙ costs-number;
     leaves = rw (F.answer, F.left) costs-leaves;
   }
 
@@ -131,13 +125,13 @@ module _ (w h : ℕ) (map : List ℕ) (nb a b : ℕ) (d : List ℕ) (s : Slices)
   g = graph_of w h map nb
 
   abbrev found : Planned
-  found = Found (distance g a b) (path_count g a b) (length (central_route g a b))
+  found = Ok (planned_of (distance g a b) (path_count g a b) (length (central_route g a b)))
 
   -- The answer of a fit job by its four tests: lengths, true costs, joined ends, a total that fits.
   abbrev planned : Bool → Bool → Bool → Bool → Planned
   planned x y z u =
-      pick x (pick y (pick z (pick u found (NotPlanned TooMany)) (NotPlanned NoRoute)) (NotPlanned FalseSheet))
-      (NotPlanned SliceLength)
+      pick x (pick y (pick z (pick u found (Err TooMany)) (Err NoRoute)) (Err FalseSheet))
+      (Err SliceLength)
 
   abbrev left : Bool → Bool → Bool → Bool → Slices
   left x y z u =
@@ -163,9 +157,9 @@ module _ (w h : ℕ) (map : List ℕ) (nb a b : ℕ) (d : List ℕ) (s : Slices)
   -- P holds of the answer and what is left, where it holds at every refusal of the shape and at 0, 7 and 8.
   plan-cases : (P : Planned → Slices → Type 0)
       → ((r : Refusal) → eqb (refusal_number r) 0 ≡ false → eqb (refusal_number r) 7 ≡ false
-      → eqb (refusal_number r) 8 ≡ false → P (NotPlanned r) s)
-      → P found (sheet_slices g.size (route_sheet g a b)) → P (NotPlanned TooMany) (costs_alone g b)
-      → P (NotPlanned NoRoute) (sheet_slices g.size (no_route_sheet g a))
+      → eqb (refusal_number r) 8 ≡ false → P (Err r) s)
+      → P found (sheet_slices g.size (route_sheet g a b)) → P (Err TooMany) (costs_alone g b)
+      → P (Err NoRoute) (sheet_slices g.size (no_route_sheet g a))
       → P (finish_answer w h map nb a b d s) (finish_left w h map nb a b d s)
   unfolding finish_answer finish_left route_answer route_left
   plan-cases P shape at_0 at_8 at_7 =
@@ -205,8 +199,8 @@ module _ (w h : ℕ) (map : List ℕ) (nb a b : ℕ) (d : List ℕ) (s : Slices)
 
 -- ---- the checker
 
-pub check-answers : (w h : ℕ) (map : List ℕ) (nb a b : ℕ) (s : Sheet) (r : Checked) → r ≡ check_answer w h map nb a b s
-    → AnswersCheck w h map nb a b s r
+pub check-answers : (w h : ℕ) (map : List ℕ) (nb a b : ℕ) (s : Sheet) (r : Result SheetKind Refusal)
+    → r ≡ check_answer w h map nb a b s → AnswersCheck w h map nb a b s r
 unfolding check_answer verdict
 check-answers w h map nb a b s r e =
     let g = graph_of w h map nb in
@@ -219,7 +213,7 @@ check-answers w h map nb a b s r e =
   where
     cases : (x y z : Bool)
         → check_number
-        (pick x (pick y Route (pick z AcceptedNoRoute (NotAccepted FalseSheet))) (NotAccepted SliceLength))
+        (pick x (pick y (Ok Route) (pick z (Ok NoRouteSheet) (Err FalseSheet))) (Err SliceLength))
         ≡ first_of (line 6 (not x) ∷ line 0 y ∷ line 7 z ∷ line 9 true ∷ [])
     cases false y z = refl
     cases true true z = refl
@@ -232,12 +226,13 @@ module _ (w h : ℕ) (map list out : List ℕ) (n : ℕ) where
   abbrev shape : Shape
   shape = list_shape w h map list (length out) n
 
-  list-number : shape_number shape ≡ first_of (thin_lines w h map list out n)
+  list-number : answer_number shape ≡ first_of (thin_lines w h map list out n)
   unfolding list_shape
   list-number =
-      floor-first w h map (λ s. shape_number (and_then s rest)) (λ r. refl) (line 6 (not fit) ∷ line 10 (not joins) ∷ [])
-      (and_first shape_number (λ r. refl) fit SliceLength (pick joins Good (BadShape NotJoined))
-      ∙ ap (pick (not fit) 6) (test-first shape_number (λ r. refl) joins NotJoined))
+      floor-first w h map (λ s. answer_number (and_then s rest)) (λ r. refl)
+      (line 6 (not fit) ∷ line 10 (not joins) ∷ [])
+      (and_first answer_number (λ r. refl) fit SliceLength (tested joins NotJoined)
+      ∙ ap (pick (not fit) 6) (test-first answer_number (λ r. refl) joins NotJoined))
     where
       fit : Bool
       fit = leb (length list) 16384 && eqb (length out) (length list)
@@ -246,9 +241,9 @@ module _ (w h : ℕ) (map list out : List ℕ) (n : ℕ) where
       joins = joined_list (floor_of w h map) list n
 
       rest : Shape
-      rest = and_then (pick fit Good (BadShape SliceLength)) (pick joins Good (BadShape NotJoined))
+      rest = and_then (tested fit SliceLength) (tested joins NotJoined)
 
-  pub thin-answers : (r : Thinned) (out' : List ℕ) → Thins w h map list out n r out'
+  pub thin-answers : (r : Result ℕ Refusal) (out' : List ℕ) → Thins w h map list out n r out'
       → AnswersThin w h map list out n r out'
   unfolding thin_answer thin_output
   thin-answers r out' T =

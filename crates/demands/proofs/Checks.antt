@@ -8,23 +8,25 @@ use mathlib.Core.Bool.{Bool, true, false, ◌&&◌, not}
 use mathlib.Core.List.{List, [], ◌∷◌}
 use native.Mathlib.Omega.{arith}
 use borrow.Author.Tests.{not-true}
+use Rattle.std.proofs.Common.{Result, Ok, Err}
 use Rattle.basics.specs.Bounded.{pick}
 use Rattle.basics.proofs.Bools.{and_both, and_intro, not-both}
 use Rattle.floor.specs.Floor.{vertices}
+use Rattle.floor.specs.declared.Refusal.{Refusal}
 use Rattle.floor.specs.declared.Refusal.TheVariants.{FalseSheet}
 use Rattle.paths.specs.Graph.{Graph}
 use Rattle.paths.specs.Sheet.{Sheet, joined, fits, route_sheet, no_route_sheet, same_sheet}
 use Rattle.paths.proofs.Sheets.{same_sheet-exact}
+use Rattle.checker.specs.declared.SheetKind.{SheetKind}
+use Rattle.checker.specs.declared.SheetKind.TheVariants.{Route, NoRoute}
 use Rattle.checker.specs.Answer.{verdict, sheet_sized, check_answer}
-use Rattle.checker.specs.declared.Checked.{Checked}
-use Rattle.checker.specs.declared.Checked.TheVariants.{Route, NoRoute, Refused}
 use Rattle.demands.specs.Demands.{line, first_of, graph_of, check_shape, TrueRouteSheet}
 use Rattle.demands.specs.Demands.{TrueNoRouteSheet, Checks}
 use Rattle.demands.proofs.Routes.{GoodJob, job_good, good-job}
 use Rattle.demands.proofs.Sheets.{route-words, none-words}
 
-module _ (w h : ℕ) (map : List ℕ) (nb a b : ℕ) (s : Sheet) (r : Checked) (is : r ≡ check_answer w h map nb a b s)
-    (good : first_of (check_shape w h map nb a b s) ≡ 0) where
+module _ (w h : ℕ) (map : List ℕ) (nb a b : ℕ) (s : Sheet) (r : Result SheetKind Refusal)
+    (is : r ≡ check_answer w h map nb a b s) (good : first_of (check_shape w h map nb a b s) ≡ 0) where
   abbrev g : Graph
   g = graph_of w h map nb
 
@@ -79,7 +81,7 @@ module _ (w h : ℕ) (map : List ℕ) (nb a b : ℕ) (s : Sheet) (r : Checked) (
   checks = rw answered (cases is_route is_none refl refl)
     where
       cases : (x y : Bool) → is_route ≡ x → is_none ≡ y
-          → Checks g a b s (pick x Route (pick y NoRoute (Refused FalseSheet)))
+          → Checks g a b s (pick x (Ok Route) (pick y (Ok NoRoute) (Err FalseSheet)))
       cases true y p q =
           let yes = route-said.0 p in
           record {

@@ -17,19 +17,17 @@ use native.Mathlib.Omega.{arith}
 use borrow.Author.Tests.{eqb-true, eq-eqb}
 use lib.Dec.{eqb}
 use lib.ListN.{length, get_or}
+use Rattle.std.proofs.Common.{Option, Some, None, Result, Ok, Err}
 use Rattle.basics.specs.Bounded.{pick}
 use Rattle.basics.specs.Lists.{tabulate, padded}
 use Rattle.basics.proofs.Order.{le-or-lt}
 use Rattle.basics.proofs.Bools.{true-or-false, not-both}
 use Rattle.basics.proofs.Lists.{length-tabulate, get_d_tabulate, get_or-zeros, get_or-padded, get_or-padded-past}
 use Rattle.floor.specs.Floor.{Floor, floor_of, vertices}
-use Rattle.floor.specs.Refusals.{refusal_number, shape_number}
+use Rattle.floor.specs.Refusals.{Shape, refusal_number, answer_number}
+use Rattle.floor.specs.declared.Refusal.{Refusal}
 use Rattle.floor.specs.declared.Refusal.TheVariants.{NoRoute, TooMany}
-use Rattle.floor.specs.declared.Shape.{Shape}
-use Rattle.floor.specs.declared.Shape.TheVariants.{Good, Refused as BadShape}
 use Rattle.moves.specs.declared.Directions.{Directions}
-use Rattle.moves.specs.declared.Neighbourhood.{Neighbourhood}
-use Rattle.moves.specs.declared.Neighbourhood.TheVariants.{Known, Refused as NotKnown}
 use Rattle.moves.specs.Moves.{directions_of, neighbourhood_of}
 use Rattle.moves.specs.Table.{Listed}
 use Rattle.paths.specs.Graph.{Graph, Lawful}
@@ -40,21 +38,16 @@ use Rattle.paths.specs.Local.{entry}
 use Rattle.paths.proofs.Distance.{distance-le}
 use Rattle.paths.proofs.Sheets.{joined-reached, not-joined-at, fits-total, total_fits}
 use Rattle.grid.specs.Grid.{job_shape}
-use Rattle.grid.specs.declared.JobShape.{JobShape}
-use Rattle.grid.specs.declared.JobShape.TheVariants.{Fit, Refused as BadJob}
 use Rattle.grid.proofs.Jobs.{job-fit}
 use Rattle.grid.proofs.Lawful.{floor-lawful, size-le}
 use Rattle.grid.proofs.Costs.{cost-small, cost-sixteen}
 use Rattle.given_costs.specs.Given.{costs_true}
 use Rattle.given_costs.proofs.Tested.{true-list, list-true}
 use Rattle.planner.specs.Plan.{CostSlices, Slices, costs_sized, slices_sized, sheet_slices, costs_alone}
-use Rattle.planner.specs.Plan.{route_answer, route_left, FillsCosts, Finishes}
-use Rattle.planner.specs.declared.Planned.{Planned}
-use Rattle.planner.specs.declared.Planned.TheVariants.{Found, Refused}
+use Rattle.planner.specs.Plan.{Planned, plan_of as planned_of, route_answer, route_left, FillsCosts, Finishes}
 use Rattle.planner.proofs.Together.{finish-true}
 use Rattle.thinning.specs.Thinning.{seen, kept_positions}
 use Rattle.thinning.specs.Answer.{list_shape, shape_answer, thin_answer, Thins, thin_number, thin_kept}
-use Rattle.thinning.specs.declared.Thinned.{Thinned}
 use Rattle.thinning.proofs.Shapes.{good-list}
 use Rattle.thinning.proofs.Kept.{KeptLaws, kept_laws}
 use Rattle.demands.specs.Demands.{Line, line, first_of, job_lines, dirs_for, graph_of, costs_lines, finish_shape}
@@ -69,38 +62,38 @@ use Rattle.demands.proofs.Sheets.{route-words, none-words}
 
 module _ (w h : ℕ) (map : List ℕ) (nb a b : ℕ) where
   -- k for a fit job, else the number of its refusal.
-  abbrev number_with : ℕ → JobShape → ℕ
-  number_with k (Fit dirs) = k
-  number_with k (BadJob r) = refusal_number r
+  abbrev number_with : ℕ → Result Directions Refusal → ℕ
+  number_with k (Ok dirs) = k
+  number_with k (Err r) = refusal_number r
 
-  known-dirs : {r : Directions} → neighbourhood_of nb ≡ Known r → dirs_for (neighbourhood_of nb) ≡ r
+  known-dirs : {r : Directions} → neighbourhood_of nb ≡ Some r → dirs_for (neighbourhood_of nb) ≡ r
   known-dirs e = ap dirs_for e
 
   pub job_good : (rest : List Line) → first_of (job_lines w h map nb a b ++ rest) ≡ 0
-      → (job_shape w h map nb a b ≡ Fit (dirs_for (neighbourhood_of nb))) × (first_of rest ≡ 0)
+      → (job_shape w h map nb a b ≡ Ok (dirs_for (neighbourhood_of nb))) × (first_of rest ≡ 0)
   job_good rest e =
       cases (job_shape w h map nb a b) refl
       (job-first w h map nb a b (number_with (first_of rest)) (λ r. refl) rest refl ∙ e)
     where
-      cases : (j : JobShape) → job_shape w h map nb a b ≡ j → number_with (first_of rest) j ≡ 0
-          → (job_shape w h map nb a b ≡ Fit (dirs_for (neighbourhood_of nb))) × (first_of rest ≡ 0)
-      cases (Fit dirs) q z = (
-        q ∙ ap Fit (sym (known-dirs (job-fit w h map nb a b dirs q).known)),
+      cases : (j : Result Directions Refusal) → job_shape w h map nb a b ≡ j → number_with (first_of rest) j ≡ 0
+          → (job_shape w h map nb a b ≡ Ok (dirs_for (neighbourhood_of nb))) × (first_of rest ≡ 0)
+      cases (Ok dirs) q z = (
+        q ∙ ap Ok (sym (known-dirs (job-fit w h map nb a b dirs q).known)),
         z,
       )
-      cases (BadJob r) q z = refused-zero r z
+      cases (Err r) q z = refused-zero r z
 
   pub record GoodJob : Type 0 where
-    pub fit : job_shape w h map nb a b ≡ Fit (dirs_for (neighbourhood_of nb))
+    pub fit : job_shape w h map nb a b ≡ Ok (dirs_for (neighbourhood_of nb))
     pub lawful : Lawful (graph_of w h map nb)
     pub small : vertices w h ≤ 16384
     pub start : a < vertices w h
     pub end : b < vertices w h
     pub wide : w ≤ 127
     pub high : h ≤ 127
-    pub known : neighbourhood_of nb ≡ Known (dirs_for (neighbourhood_of nb))
+    pub known : neighbourhood_of nb ≡ Some (dirs_for (neighbourhood_of nb))
 
-  pub good-job : job_shape w h map nb a b ≡ Fit (dirs_for (neighbourhood_of nb)) → GoodJob
+  pub good-job : job_shape w h map nb a b ≡ Ok (dirs_for (neighbourhood_of nb)) → GoodJob
   good-job fit =
       let r = dirs_for (neighbourhood_of nb) in
       let j = job-fit w h map nb a b r fit in
@@ -119,21 +112,21 @@ module _ (w h : ℕ) (map : List ℕ) (nb a b : ℕ) where
 -- ---- the bound of the costs
 
 module _ (nb : ℕ) where
-  hood : Bool → Bool → Bool → Neighbourhood
+  hood : Bool → Bool → Bool → Option Directions
   hood x y z =
-      pick x (Known (directions_of 16 1 16))
-      (pick y (Known (directions_of 0 2 8)) (pick z (Known (directions_of 0 4 4)) NotKnown))
+      pick x (Some (directions_of 16 1 16))
+      (pick y (Some (directions_of 0 2 8)) (pick z (Some (directions_of 0 4 4)) None))
 
   -- Only neighbourhood 16 has sixteen moves.
-  count-sixteen : (r : Directions) → neighbourhood_of nb ≡ Known r → eqb r.count 16 ≡ eqb nb 16
+  count-sixteen : (r : Directions) → neighbourhood_of nb ≡ Some r → eqb r.count 16 ≡ eqb nb 16
   unfolding neighbourhood_of hood
   count-sixteen r e = cases (eqb nb 16) (eqb nb 8) (eqb nb 4) e
     where
-      cases : (x y z : Bool) → hood x y z ≡ Known r → eqb r.count 16 ≡ x
+      cases : (x y z : Bool) → hood x y z ≡ Some r → eqb r.count 16 ≡ x
       cases true y z q = let c : 16 ≡ r.count = cc in rw (← c)
       cases false true z q = let c : 8 ≡ r.count = cc in rw (← c)
       cases false false true q = let c : 4 ≡ r.count = cc in rw (← c)
-      cases false false false q = let z : ◌≡◌ {A = ℕ} 0 1 = cc in absurd (omega arith)
+      cases false false false q = cc
 
 module _ (w h : ℕ) (map : List ℕ) (nb a b : ℕ) (J : GoodJob w h map nb a b) where
   abbrev g : Graph
@@ -194,7 +187,7 @@ module _ (w h : ℕ) (map : List ℕ) (nb a b : ℕ) (J : GoodJob w h map nb a b
     L = J.lawful
 
     abbrev found : Planned
-    found = Found (distance g a b) (path_count g a b) (length (central_route g a b))
+    found = Ok (planned_of (distance g a b) (path_count g a b) (length (central_route g a b)))
 
     counted : {n : ℕ} → Number g a b n → n ≡ path_count g a b
     counted N = number-one g L J.small a b J.start N
@@ -222,7 +215,7 @@ module _ (w h : ℕ) (map : List ℕ) (nb a b : ℕ) (J : GoodJob w h map nb a b
           bounded_to = λ n. to-bounded _ refl;
         }
 
-    too_many : joined g a b ≡ true → fits g a b ≡ false → Plans g nb a b d (Refused TooMany) (costs_alone g b)
+    too_many : joined g a b ≡ true → fits g a b ≡ false → Plans g nb a b d (Err TooMany) (costs_alone g b)
     too_many y f =
         let joins = (reached-joins g L J.small a b J.start).0 (joined-reached g a b y) in
         let many : 2 ^ 64 ≤ path_count g a b =
@@ -247,7 +240,7 @@ module _ (w h : ℕ) (map : List ℕ) (nb a b : ℕ) (J : GoodJob w h map nb a b
           bounded_to = λ n. to-bounded _ refl;
         }
 
-    no_route : joined g a b ≡ false → Plans g nb a b d (Refused NoRoute) (sheet_slices g.size (no_route_sheet g a))
+    no_route : joined g a b ≡ false → Plans g nb a b d (Err NoRoute) (sheet_slices g.size (no_route_sheet g a))
     unfolding no_route_sheet
     no_route n =
         let apart : Joins g a b → ⊥ = λ j.
@@ -271,7 +264,7 @@ module _ (w h : ℕ) (map : List ℕ) (nb a b : ℕ) (J : GoodJob w h map nb a b
     planned = cases (joined g a b) (fits g a b) refl refl
       where
         cases : (x y : Bool) → joined g a b ≡ x → fits g a b ≡ y
-            → Plans g nb a b d (pick x (pick y found (Refused TooMany)) (Refused NoRoute))
+            → Plans g nb a b d (pick x (pick y found (Err TooMany)) (Err NoRoute))
             (pick x (pick y (sheet_slices g.size (route_sheet g a b)) (costs_alone g b))
             (sheet_slices g.size (no_route_sheet g a)))
         cases true true p q = with-route p q
@@ -281,7 +274,7 @@ module _ (w h : ℕ) (map : List ℕ) (nb a b : ℕ) (J : GoodJob w h map nb a b
 -- ---- the operations
 
 module _ (w h : ℕ) (map : List ℕ) (nb a : ℕ) (s : CostSlices) (r : Shape) (s' : CostSlices)
-    (F : FillsCosts w h map nb a s r s') (good : shape_number r ≡ 0) where
+    (F : FillsCosts w h map nb a s r s') (good : answer_number r ≡ 0) where
   costs-good : first_of (costs_lines w h map nb a s) ≡ 0
   costs-good = sym (costs-answers w h map nb a s r s' F).number ∙ good
 
@@ -316,7 +309,7 @@ module _ (w h : ℕ) (map : List ℕ) (nb a b : ℕ) (d : List ℕ) (s : Slices)
 
 -- On the d of the first operation line 9 does not apply, so the lines of the job and line 6 decide the shape.
 pub planner : (w h : ℕ) (map : List ℕ) (nb a b : ℕ) (s : CostSlices) (r : Shape) (s' : CostSlices) (t : Slices)
-    (q : Planned) (t' : Slices) → FillsCosts w h map nb a s r s' → shape_number r ≡ 0
+    (q : Planned) (t' : Slices) → FillsCosts w h map nb a s r s' → answer_number r ≡ 0
     → Finishes w h map nb a b s'.d t q t'
     → first_of (job_lines w h map nb a b ++ (line 6 (not (slices_sized (vertices w h) s'.d t)) ∷ [])) ≡ 0
     → Planner w h map nb a b s'.d t q t'
@@ -339,22 +332,22 @@ planner w h map nb a b s r s' t q t' F zero P good =
 
 -- ---- thinning
 
-module _ (w h : ℕ) (map list out : List ℕ) (n : ℕ) (r : Thinned) (out' : List ℕ) (T : Thins w h map list out n r out')
-    (good : thin_number r ≡ 0) where
+module _ (w h : ℕ) (map list out : List ℕ) (n : ℕ) (r : Result ℕ Refusal) (out' : List ℕ)
+    (T : Thins w h map list out n r out') (good : thin_number r ≡ 0) where
   abbrev f : Floor
   f = floor_of w h map
 
   abbrev ps : List ℕ
   ps = kept_positions f list n
 
-  list-good : list_shape w h map list (length out) n ≡ Good
+  list-good : list_shape w h map list (length out) n ≡ Ok tt
   unfolding thin_answer
   list-good = cases (list_shape w h map list (length out) n) refl (sym (ap thin_number T.answer) ∙ good)
     where
       cases : (s : Shape) → list_shape w h map list (length out) n ≡ s → thin_number (shape_answer s (length ps)) ≡ 0
-          → list_shape w h map list (length out) n ≡ Good
-      cases Good e z = e
-      cases (BadShape q) e z = refused-zero q z
+          → list_shape w h map list (length out) n ≡ Ok tt
+      cases (Ok _) e z = e
+      cases (Err q) e z = refused-zero q z
 
   list-kept : KeptLaws (seen f list) n ps
   list-kept = kept_laws f list n (good-list w h map list (length out) n list-good).joined

@@ -25,19 +25,17 @@
 --   line n c              == a line of a table of answers: answer n where c holds
 --   first_of l             == the number of the first of the lines l that applies; 0 where none does
 use Rattle.std.specs.Prelude.{ℕ, suc, ◌+◌, ◌-◌, ◌*◌, ◌^◌, ◌≤◌, ◌<◌, pred, ◌≡◌, ◌↔◌, ◌⊎◌, Bool, true, false, ◌&&◌, ◌||◌, not, leb, ltb, eqb, length, get_or, take, drop}
+use Rattle.std.specs.Prelude.{Option, Some, None, Result}
 use mathlib.Core.List.{List, [], ◌∷◌, ◌++◌, Memᴰ}
 use Rattle.std.proofs.Math.Option.{some}
 use Rattle.basics.specs.Bounded.{pick}
 use Rattle.basics.specs.Lists.{tabulate, padded, zeros}
 use Rattle.floor.specs.Floor.{Floor, floor_of, byte_floor, stored_cells, with_blocked, map_length, vertices, column, row}
-use Rattle.floor.specs.Refusals.{side, unused_clear, shape_number}
-use Rattle.floor.specs.declared.Shape.{Shape}
+use Rattle.floor.specs.Refusals.{Shape, side, unused_clear, answer_number}
+use Rattle.floor.specs.declared.Refusal.{Refusal}
 use Rattle.sight.specs.Sight.{sees, segment, pinch}
-use Rattle.sight.specs.Question.{sight_answer, sight_number}
-use Rattle.sight.specs.declared.Sight.{Sight}
+use Rattle.sight.specs.Question.{Sight, sight_answer, sight_number}
 use Rattle.moves.specs.declared.Directions.{Directions}
-use Rattle.moves.specs.declared.Neighbourhood.{Neighbourhood}
-use Rattle.moves.specs.declared.Neighbourhood.TheVariants.{Known, Refused}
 use Rattle.moves.specs.Moves.{directions_of, neighbourhood_of}
 use Rattle.paths.specs.Graph.{Graph}
 use Rattle.paths.specs.Distance.{unreachable, distance, path_count}
@@ -49,21 +47,17 @@ use Rattle.paths.specs.Walk.{Walk, HasWalk, Distinct}
 use Rattle.grid.specs.Grid.{floor_graph}
 use Rattle.given_costs.specs.Given.{costs_true}
 use Rattle.planner.specs.Plan.{CostSlices, cost_slices_of, Slices, costs_sized, slices_sized, sheet_slices, costs_alone}
-use Rattle.planner.specs.Plan.{FillsCosts, Finishes, plan_number, plan_cost, plan_total, plan_points}
-use Rattle.planner.specs.declared.Planned.{Planned}
+use Rattle.planner.specs.Plan.{Planned, FillsCosts, Finishes, plan_number, plan_cost, plan_total, plan_points}
 use Rattle.checker.specs.Answer.{sheet_sized, check_answer, check_number}
-use Rattle.checker.specs.declared.Checked.{Checked}
+use Rattle.checker.specs.declared.SheetKind.{SheetKind}
 use Rattle.thinning.specs.Thinning.{seen, joined_list, kept_positions}
 use Rattle.thinning.specs.Answer.{Thins, thin_number, thin_kept}
-use Rattle.thinning.specs.declared.Thinned.{Thinned}
 use Rattle.closures.specs.Plain.{Plain, nothing_held, within, lowest_free, free_in, closed_by, working_map}
-use Rattle.closures.specs.Plain.{post_number, post_slot}
+use Rattle.closures.specs.Plain.{post_slot}
 use Rattle.closures.specs.Table.{held, with_slot, empty_table, Posts, Strikes, Writes as WritesMap}
 use Rattle.closures.specs.Calls.{Call as ClosureCall, table_after, plain_after}
 use Rattle.closures.specs.declared.Rectangle.{Rectangle}
 use Rattle.closures.specs.declared.Closures.{Closures}
-use Rattle.closures.specs.declared.Hold.TheVariants.{Free, Held}
-use Rattle.closures.specs.declared.Posting.{Posting}
 use Rattle.stored_closures.specs.Stored.{stored_in, with_numbers, no_numbers, PostsIn, StrikesIn, WritesFrom}
 use Rattle.stored_closures.specs.Calls.{none_stored, stored_after}
 use Rattle.logs.specs.Log.{Log, log_of}
@@ -72,17 +66,15 @@ use Rattle.replay.specs.Replay.{replay_number, replay_read, replay_cost, replay_
 use Rattle.replay.specs.declared.Replayed.{Replayed}
 use Rattle.changes.specs.Changes.{GivenFloor, floor_in, differing, ReportsCells, cells_number}
 use Rattle.changes.specs.Changes.{ReportSlices, costs_on, ReportsCosts}
-use Rattle.changes.specs.declared.CellReport.{CellReport}
+use Rattle.changes.specs.declared.Tally.{Tally}
 use Rattle.records.specs.Format.{map_side}
-use Rattle.writer.specs.Writing.{Call, put_map, put_job, call_bytes, in_turn, Writes as WritesRecord}
+use Rattle.writer.specs.Writing.{Call, put_map, put_job, call_bytes, in_turn, writer_after, Writes as WritesRecord}
 use Rattle.writer.specs.Calls.{fresh, after, ReadBack, read_end, WrittenBack}
 use Rattle.writer.specs.declared.Writer.{Writer}
-use Rattle.writer.specs.declared.AfterWrite.{AfterWrite}
 use Rattle.legs.specs.Choices.{Choice, Fewest, fewest_legs}
 use Rattle.legs.specs.Answer.{true_choice, proposed, check_answer as legsAnswer, Proposes}
 use Rattle.mending.specs.Mending.{MendSlices, sheet_in, with_costs, sheet_differences, no_differences, Mends}
-use Rattle.mending.specs.Mending.{mend_number, mend_points, mend_differences}
-use Rattle.mending.specs.declared.Mended.{Mended}
+use Rattle.mending.specs.Mending.{MendAnswer, mend_number, mend_points, mend_differences}
 
 -- ==== walks, and the numbers on a sheet
 
@@ -221,9 +213,9 @@ job_lines w h map nb a b =
     ∷ [])
 
 -- The directions of a neighbourhood, none where its number is refused, and the floor with these moves.
-abbrev pub dirs_for : Neighbourhood → Directions
-dirs_for (Known r) = r
-dirs_for Refused = directions_of 0 0 0
+abbrev pub dirs_for : Option Directions → Directions
+dirs_for (Some r) = r
+dirs_for None = directions_of 0 0 0
 
 abbrev pub graph_of : ℕ → ℕ → List ℕ → ℕ → Graph
 graph_of w h map nb = floor_graph (floor_of w h map) (dirs_for (neighbourhood_of nb))
@@ -242,8 +234,8 @@ costs_lines w h map nb a s = job_lines w h map nb a a ++ (line 6 (not (costs_siz
 
 pub record AnswersCosts (w h : ℕ) (map : List ℕ) (nb a : ℕ) (s : CostSlices) (r : Shape) (s' : CostSlices)
     : Type 0 where
-  pub number : shape_number r ≡ first_of (costs_lines w h map nb a s)
-  pub leaves : s' ≡ at_zero (shape_number r)
+  pub number : answer_number r ≡ first_of (costs_lines w h map nb a s)
+  pub leaves : s' ≡ at_zero (answer_number r)
       (cost_slices_of (tabulate (vertices w h) (distance (graph_of w h map nb) a)) (zeros (4 * vertices w h))) s
 
 -- The planner's second operation, lent all other slices of the sheet and a working slice, with d to read. Its shape is
@@ -281,7 +273,7 @@ verdict_lines g a b s =
     ∷ line 9 true
     ∷ []
 
-pub record AnswersCheck (w h : ℕ) (map : List ℕ) (nb a b : ℕ) (s : Sheet) (r : Checked) : Type 0 where
+pub record AnswersCheck (w h : ℕ) (map : List ℕ) (nb a b : ℕ) (s : Sheet) (r : Result SheetKind Refusal) : Type 0 where
   pub number : check_number r
       ≡ first_of (check_shape w h map nb a b s ++ verdict_lines (graph_of w h map nb) a b s)
 
@@ -293,7 +285,7 @@ thin_lines w h map list out n =
     ∷ line 10 (not (joined_list (floor_of w h map) list n))
     ∷ [])
 
-pub record AnswersThin (w h : ℕ) (map list out : List ℕ) (n : ℕ) (r : Thinned) (out' : List ℕ) : Type 0 where
+pub record AnswersThin (w h : ℕ) (map list out : List ℕ) (n : ℕ) (r : Result ℕ Refusal) (out' : List ℕ) : Type 0 where
   pub number : thin_number r ≡ first_of (thin_lines w h map list out n)
   pub kept : thin_kept r ≡ at_zero (thin_number r) (length (kept_positions (floor_of w h map) list n)) 0
   pub leaves : out' ≡ at_zero (thin_number r) (padded (length out) (kept_positions (floor_of w h map) list n)) out
@@ -310,31 +302,31 @@ strike_lines w h m k = line 1 (not (side w && side h)) ∷ line 14 (not (ltb k 1
 abbrev pub work_lines : ℕ → ℕ → List ℕ → List ℕ → List Line
 work_lines w h base work = floor_lines w h base ++ (line 6 (not (eqb (length work) (length base))) ∷ [])
 
-pub record AnswersPost (t : Closures) (r : Rectangle) (p : Posting) (t' : Closures) : Type 0 where
-  pub number : post_number p ≡ first_of (post_lines t.width t.height (held t) r)
-  pub slot : post_slot p ≡ at_zero (post_number p) (lowest_free (held t)) 0
-  pub leaves : t' ≡ at_zero (post_number p) (with_slot t (lowest_free (held t)) (Held r)) t
+pub record AnswersPost (t : Closures) (r : Rectangle) (p : Result ℕ Refusal) (t' : Closures) : Type 0 where
+  pub number : answer_number p ≡ first_of (post_lines t.width t.height (held t) r)
+  pub slot : post_slot p ≡ at_zero (answer_number p) (lowest_free (held t)) 0
+  pub leaves : t' ≡ at_zero (answer_number p) (with_slot t (lowest_free (held t)) (Some r)) t
 
 pub record AnswersStrike (t : Closures) (k : ℕ) (p : Shape) (t' : Closures) : Type 0 where
-  pub number : shape_number p ≡ first_of (strike_lines t.width t.height (held t) k)
-  pub leaves : t' ≡ at_zero (shape_number p) (with_slot t k Free) t
+  pub number : answer_number p ≡ first_of (strike_lines t.width t.height (held t) k)
+  pub leaves : t' ≡ at_zero (answer_number p) (with_slot t k None) t
 
 pub record AnswersWorkingMap (t : Closures) (base work : List ℕ) (p : Shape) (work' : List ℕ) : Type 0 where
-  pub number : shape_number p ≡ first_of (work_lines t.width t.height base work)
-  pub leaves : work' ≡ at_zero (shape_number p) (working_map t.width t.height base (held t)) work
+  pub number : answer_number p ≡ first_of (work_lines t.width t.height base work)
+  pub leaves : work' ≡ at_zero (answer_number p) (working_map t.width t.height base (held t)) work
 
-pub record AnswersStoredPost (w h : ℕ) (l : List ℕ) (r : Rectangle) (p : Posting) (l' : List ℕ) : Type 0 where
-  pub number : post_number p ≡ first_of (post_lines w h (stored_in l) r)
-  pub slot : post_slot p ≡ at_zero (post_number p) (lowest_free (stored_in l)) 0
-  pub leaves : l' ≡ at_zero (post_number p) (with_numbers l (lowest_free (stored_in l)) r) l
+pub record AnswersStoredPost (w h : ℕ) (l : List ℕ) (r : Rectangle) (p : Result ℕ Refusal) (l' : List ℕ) : Type 0 where
+  pub number : answer_number p ≡ first_of (post_lines w h (stored_in l) r)
+  pub slot : post_slot p ≡ at_zero (answer_number p) (lowest_free (stored_in l)) 0
+  pub leaves : l' ≡ at_zero (answer_number p) (with_numbers l (lowest_free (stored_in l)) r) l
 
 pub record AnswersStoredStrike (w h : ℕ) (l : List ℕ) (k : ℕ) (p : Shape) (l' : List ℕ) : Type 0 where
-  pub number : shape_number p ≡ first_of (strike_lines w h (stored_in l) k)
-  pub leaves : l' ≡ at_zero (shape_number p) (with_numbers l k no_numbers) l
+  pub number : answer_number p ≡ first_of (strike_lines w h (stored_in l) k)
+  pub leaves : l' ≡ at_zero (answer_number p) (with_numbers l k no_numbers) l
 
 pub record AnswersStoredMap (w h : ℕ) (l base work : List ℕ) (p : Shape) (work' : List ℕ) : Type 0 where
-  pub number : shape_number p ≡ first_of (work_lines w h base work)
-  pub leaves : work' ≡ at_zero (shape_number p) (working_map w h base (stored_in l)) work
+  pub number : answer_number p ≡ first_of (work_lines w h base work)
+  pub leaves : work' ≡ at_zero (answer_number p) (working_map w h base (stored_in l)) work
 
 -- The replay of a log, lent a cost slice and a working slice. Both answers 0 and 17 write them.
 abbrev pub replay_lines : ℕ → ℕ → List ℕ → ℕ → List ℕ → ReplaySlices → List Line
@@ -345,8 +337,8 @@ replay_lines w h map nb log s =
     ∷ line 6 (not (eqb (length s.costs) (vertices w h) && eqb (length s.work) (4 * vertices w h)))
     ∷ [])
 
-pub record AnswersReplay (w h : ℕ) (map : List ℕ) (nb : ℕ) (log : List ℕ) (s : ReplaySlices) (r : Replayed)
-    (s' : ReplaySlices) : Type 0 where
+pub record AnswersReplay (w h : ℕ) (map : List ℕ) (nb : ℕ) (log : List ℕ) (s : ReplaySlices)
+    (r : Result Replayed Refusal) (s' : ReplaySlices) : Type 0 where
   pub number : replay_number r
       ≡ first_of (replay_lines w h map nb log s ++ (line 17 (log_of log (vertices w h)).broken ∷ []))
   pub leaves : s' ≡ pick (eqb (replay_number r) 0 || eqb (replay_number r) 17)
@@ -359,7 +351,7 @@ floors_lines p q =
     floor_lines p.wide p.high p.map ++ floor_lines q.wide q.high q.map
     ++ (line 15 (not (eqb p.wide q.wide && eqb p.high q.high)) ∷ [])
 
-pub record AnswersCells (p q : GivenFloor) (l : List ℕ) (r : CellReport) (l' : List ℕ) : Type 0 where
+pub record AnswersCells (p q : GivenFloor) (l : List ℕ) (r : Result Tally Refusal) (l' : List ℕ) : Type 0 where
   pub number : cells_number r
       ≡ first_of (floors_lines p q ++ (line 6 (not (eqb (length l) (p.wide * p.high))) ∷ []))
   pub leaves : l' ≡ at_zero (cells_number r) (padded (length l) (differing (floor_in p) (floor_in q))) l
@@ -377,8 +369,8 @@ report_lines p q nb a s =
 
 pub record AnswersChanges (p q : GivenFloor) (nb a : ℕ) (s : ReportSlices) (r : Shape) (s' : ReportSlices)
     : Type 0 where
-  pub number : shape_number r ≡ first_of (report_lines p q nb a s)
-  pub leaves : s' ≡ at_zero (shape_number r)
+  pub number : answer_number r ≡ first_of (report_lines p q nb a s)
+  pub leaves : s' ≡ at_zero (answer_number r)
       (costs_on (graph_of p.wide p.high p.map nb) (graph_of q.wide q.high q.map nb) a) s
 
 -- A call of the writer.
@@ -391,11 +383,12 @@ write_lines c x buf =
     given_lines x
     ++ (line 20 (not (in_turn c.due x)) ∷ line 18 (not (leb (c.at + length (call_bytes x)) (length buf))) ∷ [])
 
-pub record AnswersWrite (c : Writer) (x : Call) (buf : List ℕ) (r : AfterWrite) (buf' : List ℕ) : Type 0 where
-  pub number : shape_number r.answer ≡ first_of (write_lines c x buf)
-  pub writer : r.writer ≡ at_zero (shape_number r.answer)
+pub record AnswersWrite (c : Writer) (x : Call) (buf : List ℕ) (r : Result Writer Refusal) (buf' : List ℕ)
+    : Type 0 where
+  pub number : answer_number r ≡ first_of (write_lines c x buf)
+  pub writer : writer_after c r ≡ at_zero (answer_number r)
       (record { at = c.at + length (call_bytes x); due = c.due + 1 }) c
-  pub leaves : buf' ≡ at_zero (shape_number r.answer)
+  pub leaves : buf' ≡ at_zero (answer_number r)
       (take c.at buf ++ call_bytes x ++ drop (c.at + length (call_bytes x)) buf) buf
 
 -- Fewest stops: the checker of a proposal, and the proposer.
@@ -408,11 +401,11 @@ legs_lines w h map list kept legs n =
 
 pub record AnswersLegs (w h : ℕ) (map list : List ℕ) (n : ℕ) (kept : List ℕ) (c : ℕ) (legs : List ℕ) (r : Shape)
     : Type 0 where
-  pub number : shape_number r ≡ first_of (
+  pub number : answer_number r ≡ first_of (
       legs_lines w h map list kept legs n
       ++ (line 19 (not (true_choice (seen (floor_of w h map) list) n kept c legs)) ∷ []))
 
-pub record AnswersProposal (w h : ℕ) (map list kept legs : List ℕ) (n : ℕ) (r : Thinned) (kept' legs' : List ℕ)
+pub record AnswersProposal (w h : ℕ) (map list kept legs : List ℕ) (n : ℕ) (r : Result ℕ Refusal) (kept' legs' : List ℕ)
     : Type 0 where
   pub number : thin_number r ≡ first_of (legs_lines w h map list kept legs n)
   pub count : thin_kept r ≡ at_zero (thin_number r) (length (proposed (seen (floor_of w h map) list) n)) 0
@@ -428,7 +421,7 @@ mend_lines w h map nb a b old s =
     job_lines w h map nb a b
     ++ (line 6 (not (sheet_sized v old && sheet_sized v (sheet_in s 0) && eqb (length s.work) (4 * v))) ∷ [])
 
-pub record AnswersMend (w h : ℕ) (map : List ℕ) (nb a b : ℕ) (old : Sheet) (s : MendSlices) (r : Mended)
+pub record AnswersMend (w h : ℕ) (map : List ℕ) (nb a b : ℕ) (old : Sheet) (s : MendSlices) (r : MendAnswer)
     (s' : MendSlices) (g : Graph) : Type 0 where
   pub number : mend_number r ≡ first_of (mend_lines w h map nb a b old s ++ plan_lines g a b)
   pub leaves : s' ≡ plan_left (mend_number r)
@@ -446,33 +439,35 @@ pub record Demand1 : Type 0 where
       → FillsCosts w h map nb a s r s' → AnswersCosts w h map nb a s r s'
   pub plan : (w h : ℕ) (map : List ℕ) (nb a b : ℕ) (d : List ℕ) (s : Slices) (r : Planned) (s' : Slices)
       → Finishes w h map nb a b d s r s' → AnswersPlan w h map nb a b d s r s' (graph_of w h map nb)
-  pub check : (w h : ℕ) (map : List ℕ) (nb a b : ℕ) (s : Sheet) (r : Checked)
+  pub check : (w h : ℕ) (map : List ℕ) (nb a b : ℕ) (s : Sheet) (r : Result SheetKind Refusal)
       → r ≡ check_answer w h map nb a b s → AnswersCheck w h map nb a b s r
-  pub thin : (w h : ℕ) (map list out : List ℕ) (n : ℕ) (r : Thinned) (out' : List ℕ)
+  pub thin : (w h : ℕ) (map list out : List ℕ) (n : ℕ) (r : Result ℕ Refusal) (out' : List ℕ)
       → Thins w h map list out n r out' → AnswersThin w h map list out n r out'
-  pub post : (t : Closures) (r : Rectangle) (p : Posting) (t' : Closures) → Posts t r p t' → AnswersPost t r p t'
+  pub post : (t : Closures) (r : Rectangle) (p : Result ℕ Refusal) (t' : Closures)
+      → Posts t r p t' → AnswersPost t r p t'
   pub strike : (t : Closures) (k : ℕ) (p : Shape) (t' : Closures) → Strikes t k p t' → AnswersStrike t k p t'
   pub the_working_map : (t : Closures) (base work : List ℕ) (p : Shape) (work' : List ℕ)
       → WritesMap t base work p work' → AnswersWorkingMap t base work p work'
-  pub stored_post : (w h : ℕ) (l : List ℕ) (r : Rectangle) (p : Posting) (l' : List ℕ)
+  pub stored_post : (w h : ℕ) (l : List ℕ) (r : Rectangle) (p : Result ℕ Refusal) (l' : List ℕ)
       → PostsIn w h l r p l' → AnswersStoredPost w h l r p l'
   pub stored_strike : (w h : ℕ) (l : List ℕ) (k : ℕ) (p : Shape) (l' : List ℕ)
       → StrikesIn w h l k p l' → AnswersStoredStrike w h l k p l'
   pub stored_map : (w h : ℕ) (l base work : List ℕ) (p : Shape) (work' : List ℕ)
       → WritesFrom w h l base work p work' → AnswersStoredMap w h l base work p work'
-  pub replay : (w h : ℕ) (map : List ℕ) (nb : ℕ) (log : List ℕ) (s : ReplaySlices) (r : Replayed) (s' : ReplaySlices)
+  pub replay : (w h : ℕ) (map : List ℕ) (nb : ℕ) (log : List ℕ) (s : ReplaySlices) (r : Result Replayed Refusal)
+      (s' : ReplaySlices)
       → Replays w h map nb log s r s' → AnswersReplay w h map nb log s r s'
-  pub cells : (p q : GivenFloor) (l : List ℕ) (r : CellReport) (l' : List ℕ)
+  pub cells : (p q : GivenFloor) (l : List ℕ) (r : Result Tally Refusal) (l' : List ℕ)
       → ReportsCells p q l r l' → AnswersCells p q l r l'
   pub changes : (p q : GivenFloor) (nb a : ℕ) (s : ReportSlices) (r : Shape) (s' : ReportSlices)
       → ReportsCosts p q nb a s r s' → AnswersChanges p q nb a s r s'
-  pub write : (c : Writer) (x : Call) (buf : List ℕ) (r : AfterWrite) (buf' : List ℕ)
+  pub write : (c : Writer) (x : Call) (buf : List ℕ) (r : Result Writer Refusal) (buf' : List ℕ)
       → WritesRecord c x buf r buf' → AnswersWrite c x buf r buf'
   pub legs : (w h : ℕ) (map list kept legs : List ℕ) (n c : ℕ) (r : Shape)
       → r ≡ legsAnswer w h map list n kept c legs → AnswersLegs w h map list n kept c legs r
-  pub proposal : (w h : ℕ) (map list kept legs : List ℕ) (n : ℕ) (r : Thinned) (kept' legs' : List ℕ)
+  pub proposal : (w h : ℕ) (map list kept legs : List ℕ) (n : ℕ) (r : Result ℕ Refusal) (kept' legs' : List ℕ)
       → Proposes w h map list kept legs n r kept' legs' → AnswersProposal w h map list kept legs n r kept' legs'
-  pub mend : (w h : ℕ) (map : List ℕ) (nb a b : ℕ) (old : Sheet) (s : MendSlices) (r : Mended) (s' : MendSlices)
+  pub mend : (w h : ℕ) (map : List ℕ) (nb a b : ℕ) (old : Sheet) (s : MendSlices) (r : MendAnswer) (s' : MendSlices)
       → Mends w h map nb a b old s r s' → AnswersMend w h map nb a b old s r s' (graph_of w h map nb)
 
 -- ==== demand 2: costs, counts, route, "no route" and "too many" are exactly the published method's
@@ -540,29 +535,29 @@ pub record Kept (f : Floor) (list : List ℕ) (n k : ℕ) (out : List ℕ) : Typ
 -- Demand 2, of the planner's operations, of the two together, and of thinning.
 pub record Demand2 : Type 0 where
   pub costs : (w h : ℕ) (map : List ℕ) (nb a : ℕ) (s : CostSlices) (r : Shape) (s' : CostSlices)
-      → FillsCosts w h map nb a s r s' → shape_number r ≡ 0 → TrueCosts (graph_of w h map nb) nb a s'.d
+      → FillsCosts w h map nb a s r s' → answer_number r ≡ 0 → TrueCosts (graph_of w h map nb) nb a s'.d
   pub plan : (w h : ℕ) (map : List ℕ) (nb a b : ℕ) (d : List ℕ) (s : Slices) (r : Planned) (s' : Slices)
       → Finishes w h map nb a b d s r s' → first_of (finish_shape w h map nb a b d s) ≡ 0
       → Plans (graph_of w h map nb) nb a b d r s'
   pub planner : (w h : ℕ) (map : List ℕ) (nb a b : ℕ) (s : CostSlices) (r : Shape) (s' : CostSlices) (t : Slices)
-      (q : Planned) (t' : Slices) → FillsCosts w h map nb a s r s' → shape_number r ≡ 0
+      (q : Planned) (t' : Slices) → FillsCosts w h map nb a s r s' → answer_number r ≡ 0
       → Finishes w h map nb a b s'.d t q t'
       → first_of (job_lines w h map nb a b ++ (line 6 (not (slices_sized (vertices w h) s'.d t)) ∷ [])) ≡ 0
       → Planner w h map nb a b s'.d t q t'
-  pub thin : (w h : ℕ) (map list out : List ℕ) (n : ℕ) (r : Thinned) (out' : List ℕ)
+  pub thin : (w h : ℕ) (map list out : List ℕ) (n : ℕ) (r : Result ℕ Refusal) (out' : List ℕ)
       → Thins w h map list out n r out' → thin_number r ≡ 0 → Kept (floor_of w h map) list n (thin_kept r) out'
 
 -- ==== demand 3: the checker accepts exactly the true sheets
 
-pub record Checks (g : Graph) (a b : ℕ) (s : Sheet) (r : Checked) : Type 0 where
+pub record Checks (g : Graph) (a b : ℕ) (s : Sheet) (r : Result SheetKind Refusal) : Type 0 where
   pub route : (check_number r ≡ 0) ↔ TrueRouteSheet g a b s
   pub no_route : (check_number r ≡ 7) ↔ TrueNoRouteSheet g a b s
   pub refused : (check_number r ≡ 9) ↔ ((TrueRouteSheet g a b s → ⊥) × (TrueNoRouteSheet g a b s → ⊥))
 
 -- Demand 3, where the shape is good, whatever numbers stand on the sheet.
 pub record Demand3 : Type 0 where
-  pub check : (w h : ℕ) (map : List ℕ) (nb a b : ℕ) (s : Sheet) (r : Checked) → r ≡ check_answer w h map nb a b s
-      → first_of (check_shape w h map nb a b s) ≡ 0 → Checks (graph_of w h map nb) a b s r
+  pub check : (w h : ℕ) (map : List ℕ) (nb a b : ℕ) (s : Sheet) (r : Result SheetKind Refusal)
+      → r ≡ check_answer w h map nb a b s → first_of (check_shape w h map nb a b s) ≡ 0 → Checks (graph_of w h map nb) a b s r
 
 -- ==== the requests
 
@@ -579,7 +574,7 @@ pub record ReadsClosures (w h : ℕ) (base work : List ℕ) (m : Plain) : Type 0
   pub graph : (nb : ℕ) → graph_of w h work nb ≡ closed_graph w h base m nb
   pub plan : (nb a b : ℕ) (d : List ℕ) (s : Slices) (r : Planned) (s' : Slices) → Finishes w h work nb a b d s r s'
       → first_of (finish_shape w h work nb a b d s) ≡ 0 → Plans (closed_graph w h base m nb) nb a b d r s'
-  pub check : (nb a b : ℕ) (s : Sheet) (r : Checked) → r ≡ check_answer w h work nb a b s
+  pub check : (nb a b : ℕ) (s : Sheet) (r : Result SheetKind Refusal) → r ≡ check_answer w h work nb a b s
       → first_of (check_shape w h work nb a b s) ≡ 0 → Checks (closed_graph w h base m nb) a b s r
 
 -- 6. A packed floor is the byte floor with the same cells, so whatever is asked of one is answered as of the other.
@@ -590,7 +585,7 @@ pub record ReadsPacked (w h : ℕ) (cells : List ℕ) : Type 0 where
 
 -- 9. A log is called cheapest exactly when it has a record, none is bad, each follows the one before, and its cost is
 -- the least of an open walk from its first stop to its last.
-pub record RightlyCheapest (g : Graph) (l : Log) (r : Replayed) : Type 0 where
+pub record RightlyCheapest (g : Graph) (l : Log) (r : Result Replayed Refusal) : Type 0 where
   pub called : (replay_cheapest r ≡ true) ↔ ((1 ≤ replay_read r) × (replay_number r ≡ 0) × (replay_unfollowed r ≡ 0)
       × Cheapest g (first_stop l) (last_stop l) (replay_cost r))
 
@@ -618,10 +613,11 @@ pub record FewestStops (s : ℕ → ℕ → Bool) (n : ℕ) (kept : List ℕ) (c
 -- proposes is accepted.
 pub record JudgesStops (w h : ℕ) (map list : List ℕ) (n : ℕ) (kept : List ℕ) (c : ℕ) (legs : List ℕ) (r : Shape)
     : Type 0 where
-  pub accepts : (shape_number r ≡ 0) ↔ FewestStops (seen (floor_of w h map) list) n kept c legs
+  pub accepts : (answer_number r ≡ 0) ↔ FewestStops (seen (floor_of w h map) list) n kept c legs
 
-pub record ProposesStops (w h : ℕ) (map list : List ℕ) (n : ℕ) (r : Thinned) (kept' legs' : List ℕ) : Type 0 where
-  pub accepted : shape_number (legsAnswer w h map list n kept' (thin_kept r) legs') ≡ 0
+pub record ProposesStops (w h : ℕ) (map list : List ℕ) (n : ℕ) (r : Result ℕ Refusal) (kept' legs' : List ℕ)
+    : Type 0 where
+  pub accepted : answer_number (legsAnswer w h map list n kept' (thin_kept r) legs') ≡ 0
 
 -- 13. Whenever the planner answers 0, the traversal counts are a flow with the total that it answers. `Flow` says that
 -- the traversal count of each vertex on the way is the sum of the flow that leaves it, except at b, and the sum of the
@@ -631,7 +627,8 @@ Flows g a b d s t = Flow g a b (on_shortest (entry d) (entry s.e) b) (entry d) (
 
 -- 14. At 0 and 7 the checker accepts the mended sheet, with the point count answered, and a count of differing places
 -- is 0 exactly when the old slice was the true one.
-pub record MendsSheet (w h : ℕ) (map : List ℕ) (nb a b : ℕ) (old : Sheet) (r : Mended) (s' : MendSlices) : Type 0 where
+pub record MendsSheet (w h : ℕ) (map : List ℕ) (nb a b : ℕ) (old : Sheet) (r : MendAnswer) (s' : MendSlices)
+    : Type 0 where
   pub route : mend_number r ≡ 0 → check_number (check_answer w h map nb a b (sheet_in s' (mend_points r))) ≡ 0
   pub no_route : mend_number r ≡ 7 → check_number (check_answer w h map nb a b (sheet_in s' (mend_points r))) ≡ 7
   pub d_whole : (mend_number r ≡ 0) ⊎ (mend_number r ≡ 7) → ((mend_differences r).d ≡ 0) ↔ (old.d ≡ s'.d)
@@ -643,22 +640,23 @@ pub record MendsSheet (w h : ℕ) (map : List ℕ) (nb a b : ℕ) (old : Sheet) 
 
 pub record Requests : Type 0 where
   pub closures : (w h : ℕ) (cs : List ClosureCall) (base work : List ℕ) (p : Shape) (work' : List ℕ)
-      → WritesMap (table_after (empty_table w h) cs) base work p work' → shape_number p ≡ 0
+      → WritesMap (table_after (empty_table w h) cs) base work p work' → answer_number p ≡ 0
       → ReadsClosures w h base work' (plain_after w h nothing_held cs)
   pub stored_closures : (w h : ℕ) (cs : List ClosureCall) (base work : List ℕ) (p : Shape) (work' : List ℕ)
-      → WritesFrom w h (stored_after w h none_stored cs) base work p work' → shape_number p ≡ 0
+      → WritesFrom w h (stored_after w h none_stored cs) base work p work' → answer_number p ≡ 0
       → ReadsClosures w h base work' (plain_after w h nothing_held cs)
   pub packed : (w h : ℕ) (cells : List ℕ) → ReadsPacked w h cells
-  pub cheapest : (w h : ℕ) (map : List ℕ) (nb : ℕ) (log : List ℕ) (s : ReplaySlices) (r : Replayed) (s' : ReplaySlices)
+  pub cheapest : (w h : ℕ) (map : List ℕ) (nb : ℕ) (log : List ℕ) (s : ReplaySlices) (r : Result Replayed Refusal)
+      (s' : ReplaySlices)
       → Replays w h map nb log s r s' → RightlyCheapest (graph_of w h map nb) (log_of log (vertices w h)) r
   pub read_back : (buf : List ℕ) (xs : List Call) → ReadsBack buf xs
   pub write_back : (s buf : List ℕ) → WritesBack s buf
   pub judged : (w h : ℕ) (map list : List ℕ) (n : ℕ) (kept : List ℕ) (c : ℕ) (legs : List ℕ) (r : Shape)
       → r ≡ legsAnswer w h map list n kept c legs → first_of (legs_lines w h map list kept legs n) ≡ 0
       → JudgesStops w h map list n kept c legs r
-  pub proposed : (w h : ℕ) (map list kept legs : List ℕ) (n : ℕ) (r : Thinned) (kept' legs' : List ℕ)
+  pub proposed : (w h : ℕ) (map list kept legs : List ℕ) (n : ℕ) (r : Result ℕ Refusal) (kept' legs' : List ℕ)
       → Proposes w h map list kept legs n r kept' legs' → thin_number r ≡ 0 → ProposesStops w h map list n r kept' legs'
   pub flow : (w h : ℕ) (map : List ℕ) (nb a b : ℕ) (d : List ℕ) (s : Slices) (r : Planned) (s' : Slices)
       → Finishes w h map nb a b d s r s' → plan_number r ≡ 0 → Flows (graph_of w h map nb) a b d s' (plan_total r)
-  pub mended : (w h : ℕ) (map : List ℕ) (nb a b : ℕ) (old : Sheet) (s : MendSlices) (r : Mended) (s' : MendSlices)
+  pub mended : (w h : ℕ) (map : List ℕ) (nb a b : ℕ) (old : Sheet) (s : MendSlices) (r : MendAnswer) (s' : MendSlices)
       → Mends w h map nb a b old s r s' → MendsSheet w h map nb a b old r s'

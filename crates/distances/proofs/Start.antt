@@ -1,10 +1,6 @@
 -- The start of the algorithm: the source alone is settled, at cost 0.
 --
---   classes-four    == the classes of an array, read one by one
---   classes-two     == the first two classes and two of no move are `Classes`, where the last two have no move
---   begun-four      == where the algorithm could start, it can go on with the source settled, by four classes
---   begun-two       == where the algorithm could start, it can go on with the source settled, by two classes, where the
---                      last two have no move
+--   begun           == where the algorithm could start, it can go on with the source settled
 --   costs-begun     == what the algorithm leaves from `Begun` on, said of the working slice before it began
 --   First v c p     == p is where the position of class c starts: at 0, or past v vertices for a class of no move
 --   four-first      == the positions of four classes are the first ones (`First`), the last two at one position
@@ -12,7 +8,6 @@
 use Prim.Native.Nat.{ℕ, zero, suc, ◌*◌, ◌≤◌, ◌<◌}
 use mathlib.Core.Path.{◌≡◌, refl, sym, ap, ◌∙◌, subst}
 use mathlib.Core.Logic.{⊎_elim}
-use mathlib.Core.Bool.{true}
 use mathlib.Core.List.{List, [], ◌∷◌}
 use native.Mathlib.Omega.{arith}
 use borrow.Author.Tests.{le-ltb}
@@ -23,10 +18,7 @@ use Rattle.basics.proofs.Order.{eq-or-ne}
 use Rattle.basics.proofs.Bounded.{pick_no}
 use Rattle.moves.specs.declared.Directions.{Directions}
 use Rattle.offsets.specs.declared.Class.{Class}
-use Rattle.moves.specs.Moves.{move_at}
-use Rattle.moves.specs.Table.{lawful_dirs}
-use Rattle.moves.proofs.Table.{lawful-move}
-use Rattle.offsets.specs.Classes.{class_count, Member, CostClass, Classes, class_of, class_at}
+use Rattle.offsets.specs.Classes.{class_count, class_at}
 use Rattle.paths.specs.Graph.{Graph}
 use Rattle.paths.specs.Walk.{HasWalk, stop}
 use Rattle.paths.specs.Distance.{unreachable}
@@ -34,7 +26,7 @@ use Rattle.paths.specs.Local.{entry}
 use Rattle.workspace.proofs.Regions.{masked-kept}
 use Rattle.distances.specs.Costs.{SettledCosts}
 use Rattle.distances.specs.Dijkstra.{reached, Settled, Running, Runnable}
-use Rattle.distances.specs.Dijkstra.{OnlySource, Begun, two_classes, four_classes}
+use Rattle.distances.specs.Dijkstra.{OnlySource, Begun}
 use Rattle.distances.proofs.Store.{reached-set}
 
 pub record First (v : ℕ) (c : Class) (p : ℕ) : Type 0 where
@@ -104,65 +96,13 @@ module _ (g : Graph) (a : ℕ) (work : List ℕ) (few : g.size ≤ 16384) (i : a
 start-rest : {v : ℕ} (work : List ℕ) (a j : ℕ) → v < j → entry (set work 0 a) j ≡ entry work j
 start-rest work a j h = get_or-set_other work 0 j a 0 (λ e. omega arith)
 
--- ---- the classes, one by one
-
-pub classes-four : {r : Directions} {l : List Class} → Classes r l
-    → Classes r (four_classes (class_at l 0) (class_at l 1) (class_at l 2) (class_at l 3))
-classes-four {r} {l} C = record {
-  each = λ k h. subst (CostClass r) (sym (same k h)) (C.each k h);
-  covers = λ m lt. let q = C.covers m lt in
-      let e = sym (same q.0 q.1) in
-      (q.0, q.1, subst (λ c. Member r c m) e q.2, subst (λ (c : Class). (move_at r m).cost ≡ c.cost) e q.3);
-  paired = C.paired;
-}
-  where
-    same : (k : ℕ) → k < class_count
-        → class_at (four_classes (class_at l 0) (class_at l 1) (class_at l 2) (class_at l 3)) k ≡ class_at l k
-    same zero h = refl
-    same (suc zero) h = refl
-    same (suc (suc zero)) h = refl
-    same (suc (suc (suc zero))) h = refl
-    same (suc (suc (suc (suc k)))) h = absurd (omega arith)
-
-pub classes-two : {r : Directions} {l : List Class} → lawful_dirs r ≡ true → Classes r l → (class_at l 2).cost ≡ 0
-    → Classes r (two_classes (class_at l 0) (class_at l 1))
-classes-two {r} {l} lawful C bare = record {
-  each = each;
-  covers = λ m lt. let q = C.covers m lt in one_of m lt q.0 q.1 q.2 q.3;
-  paired = refl;
-}
-  where
-    l' : List Class
-    l' = two_classes (class_at l 0) (class_at l 1)
-
-    unused : CostClass r (class_of 0 0)
-    unused = record { high = omega arith; move = λ pos j h. absurd (omega arith) }
-
-    each : (k : ℕ) → k < class_count → CostClass r (class_at l' k)
-    each zero h = C.each 0 h
-    each (suc zero) h = C.each 1 h
-    each (suc (suc zero)) h = unused
-    each (suc (suc (suc zero))) h = unused
-    each (suc (suc (suc (suc k)))) h = absurd (omega arith)
-
-    -- a move costs something, so it is in the first class or the second
-    one_of : (m : ℕ) → m < r.count → (k : ℕ) → k < class_count → Member r (class_at l k) m
-        → (move_at r m).cost ≡ (class_at l k).cost
-        → (k : ℕ) × (k < class_count) × Member r (class_at l' k) m × ((move_at r m).cost ≡ (class_at l' k).cost)
-    one_of m lt zero h M e = (0, h, M, e)
-    one_of m lt (suc zero) h M e = (1, h, M, e)
-    one_of m lt (suc (suc zero)) h M e = absurd (omega (arith, (lawful-move r m lawful lt).cost_low))
-    one_of m lt (suc (suc (suc zero))) h M e =
-        absurd (omega (arith, C.paired, (lawful-move r m lawful lt).cost_low))
-    one_of m lt (suc (suc (suc (suc k)))) h M e = absurd (omega arith)
-
 -- ---- the source settled
 
 module _ {g : Graph} {r : Directions} {shifts : List ℕ} {l : List Class} {a : ℕ} {d work : List ℕ}
     (M : Runnable g r shifts l a d work) where
   module _ {d' work' : List ℕ} (O : OnlySource a d d' work work') where
-    begun : {l' : List Class} → Classes r l' → Begun g r shifts l' a d' work'
-    begun C =
+    pub begun : Begun g r shifts l a d' work'
+    begun =
         let same = ap (λ v. set (replicate v unreachable) a 0) M.d_len in
         let S = settled-start g a work M.few M.source M.work_len in
         rw (O.costs ∙ same, O.order) (record {
@@ -170,20 +110,13 @@ module _ {g : Graph} {r : Directions} {shifts : List ℕ} {l : List Class} {a : 
             few = M.few;
             lawful = M.lawful;
             masked = masked-kept M.masked (start-rest work a);
-            classes = C;
+            classes = M.classes;
             source = M.source;
             d_len = S.d_len;
             work_len = S.work_len;
           };
           settled = S;
         })
-
-    pub begun-four : Begun g r shifts (four_classes (class_at l 0) (class_at l 1) (class_at l 2) (class_at l 3)) a d' work'
-    begun-four = begun (classes-four M.classes)
-
-    pub begun-two : (class_at l 2).cost ≡ 0 → Begun g r shifts (two_classes (class_at l 0) (class_at l 1)) a d' work'
-    begun-two bare =
-        begun (classes-two (M.masked.shows a M.source).readable.lawful M.classes bare)
 
     pub costs-begun : {n : ℕ} {d'' work'' : List ℕ} → SettledCosts g a n d'' work' work'' → SettledCosts g a n d'' work work''
     costs-begun S = record {
@@ -197,15 +130,15 @@ module _ {g : Graph} {r : Directions} {shifts : List ℕ} {l : List Class} {a : 
 -- ---- the positions
 
 -- The last two classes have one position.
-pub four-first : {v : ℕ} (c0 c1 c2 c3 : Class) (p0 p1 p2 : ℕ) → First v c0 p0 → First v c1 p1 → First v c2 p2
-    → c2.cost ≡ c3.cost
-    → (k : ℕ) → k < class_count → First v (class_at (four_classes c0 c1 c2 c3) k) (get_or (p0 ∷ p1 ∷ p2 ∷ p2 ∷ []) k 0)
-four-first c0 c1 c2 c3 p0 p1 p2 x y z e zero h = x
-four-first c0 c1 c2 c3 p0 p1 p2 x y z e (suc zero) h = y
-four-first c0 c1 c2 c3 p0 p1 p2 x y z e (suc (suc zero)) h = z
-four-first c0 c1 c2 c3 p0 p1 p2 x y z e (suc (suc (suc zero))) h =
+pub four-first : {v : ℕ} (l : List Class) (p0 p1 p2 : ℕ) → First v (class_at l 0) p0 → First v (class_at l 1) p1
+    → First v (class_at l 2) p2 → (class_at l 2).cost ≡ (class_at l 3).cost
+    → (k : ℕ) → k < class_count → First v (class_at l k) (get_or (p0 ∷ p1 ∷ p2 ∷ p2 ∷ []) k 0)
+four-first l p0 p1 p2 x y z e zero h = x
+four-first l p0 p1 p2 x y z e (suc zero) h = y
+four-first l p0 p1 p2 x y z e (suc (suc zero)) h = z
+four-first l p0 p1 p2 x y z e (suc (suc (suc zero))) h =
     record { zeroth = λ f. z.zeroth (omega arith); past = λ f. z.past (omega arith) }
-four-first c0 c1 c2 c3 p0 p1 p2 x y z e (suc (suc (suc (suc k)))) h = absurd (omega arith)
+four-first l p0 p1 p2 x y z e (suc (suc (suc (suc k)))) h = absurd (omega arith)
 
 pub running-start : {g : Graph} {r : Directions} {shifts : List ℕ} {l : List Class} {a : ℕ} {pos d work : List ℕ}
     → Begun g r shifts l a d work → ((k : ℕ) → k < class_count → First (length d) (class_at l k) (get_or pos k 0))

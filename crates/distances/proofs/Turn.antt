@@ -16,6 +16,7 @@
 --                            invariant
 --   TurnOn ..             == `Turn` on each of these
 --   turn_on, filled_on    == a turn and the end on each of these
+--   turn_again            == after a turn of the third class, that of the fourth at the same place, on each of these
 use Prim.Native.Nat.{ℕ, zero, suc, ◌+◌, ◌≤◌, ◌<◌}
 use mathlib.Core.Path.{◌≡◌, sym, ap, ◌∙◌, subst}
 use mathlib.Core.Logic.{⊎_elim}
@@ -24,7 +25,7 @@ use mathlib.Core.List.{List, [], ◌∷◌}
 use native.Mathlib.Omega.{arith}
 use borrow.Author.Tests.{lt-ltb, le-ltb}
 use lib.Dec.{ltb}
-use lib.ListN.{length, get_or, set}
+use lib.ListN.{length, get_or, set, length-set}
 use lib.Seq.{get_or-set_same, get_or-set_other}
 use Rattle.basics.proofs.Order.{le-or-lt, eq-or-ne}
 use Rattle.basics.proofs.Lists.{tabulate-of}
@@ -346,3 +347,19 @@ module _ {shifts : List ℕ} {n k key : ℕ} {l : List Class} {pos d₀ d work�
   pub filled_on : key ≡ unreachable → (g : Graph) (r : Directions) (a : ℕ) → Begun g r shifts l a d₀ work₀
       → SettledCosts g a n d work₀ work
   filled_on end g r a B = filled B.runs (I g r a B) T end
+
+-- What a turn of the third class leaves, wherever it can be made.
+module _ {shifts : List ℕ} {n key : ℕ} {l : List Class} {pos d₀ d work₀ work : List ℕ}
+    (I : RunningOn shifts n l pos d₀ d work₀ work) (T : Lowest n 2 key l pos d work) (low : key < unreachable)
+    (len : length pos ≡ class_count) (one : get_or pos 3 0 ≡ get_or pos 2 0) {s : ℕ} {d' work' : List ℕ}
+    (P : (g : Graph) (r : Directions) (a : ℕ) → Relaxing g r shifts (class_at l 2) a (get_or pos 2 0) key n d work
+    → Relaxed g r a (entry work (get_or pos 2 0)) (class_at l 2) key n s d d' work work') where
+  pub turn_again : TurnOn shifts s 3 key l (set pos 2 (get_or pos 2 0 + 1)) d₀ d' work₀ work'
+  turn_again g r a B =
+      let M = B.runs in
+      let K = I g r a B in
+      let first = turn M K T low len in
+      let R = P g r a first.relaxing in
+      turn M (first.next R)
+      (least-again M K T low len R 3 (omega arith) (λ e. omega arith) one (sym M.classes.paired)) low
+      (length-set pos 2 (get_or pos 2 0 + 1) ∙ len)

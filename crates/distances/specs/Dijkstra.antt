@@ -18,14 +18,13 @@
 --   Runnable ..               == what the algorithm takes
 --   OnlySource ..             == the source a alone has a cost, 0, and stands first in the order
 --   Begun ..                  == `Runnable`, and the source alone is settled: the algorithm can go on
---   two_classes, four_classes == two classes and two of no move, and four classes, as the loops take them one by one
 --   remaining v pos           == what the positions have before them: the algorithm's measure
 use Rattle.std.specs.Prelude.{ℕ, ◌+◌, ◌-◌, ◌*◌, ◌≤◌, ◌<◌, ◌≡◌, List, [], ◌∷◌, ltb, eqb, length, get_or, set, replicate}
 use Rattle.std.proofs.Math.Option.{some}
 use Rattle.basics.specs.Bounded.{pick}
 use Rattle.offsets.specs.declared.Class.{Class}
 use Rattle.moves.specs.declared.Directions.{Directions}
-use Rattle.offsets.specs.Classes.{class_count, Member, CostClass, Classes, class_of, class_at}
+use Rattle.offsets.specs.Classes.{class_count, Member, CostClass, Classes, class_at}
 use Rattle.paths.specs.Graph.{Graph, Lawful}
 use Rattle.paths.specs.Walk.{HasWalk}
 use Rattle.paths.specs.Distance.{unreachable}
@@ -144,12 +143,6 @@ pub record Begun (g : Graph) (r : Directions) (shifts : List ℕ) (l : List Clas
     (d work : List ℕ) : Type 0 where
   pub runs : Runnable g r shifts l a d work
   pub settled : Settled g a 1 d work
-
-abbrev pub four_classes : Class → Class → Class → Class → List Class
-four_classes c0 c1 c2 c3 = c0 ∷ c1 ∷ c2 ∷ c3 ∷ []
-
-abbrev pub two_classes : Class → Class → List Class
-two_classes c0 c1 = four_classes c0 c1 (class_of 0 0) (class_of 0 0)
 
 unfoldable pub remaining : ℕ → List ℕ → ℕ
 remaining v [] = 0

@@ -20,6 +20,7 @@ use borrow.Author.Tests.{le-leb, lt-leb, lt-ltb, le-ltb, eq-eqb, ne_eqb}
 use lib.Arith.{digits_div, digits_mod}
 use lib.Dec.{leb, ltb, eqb}
 use lib.ListN.{length}
+use Rattle.std.proofs.Common.{Ok}
 use Rattle.basics.proofs.Order.{le-or-lt, eq-or-ne}
 use Rattle.basics.proofs.Bools.{ltb-shift}
 use Rattle.floor.specs.Floor.{
@@ -36,9 +37,8 @@ use Rattle.floor.specs.Floor.{
 }
 use Rattle.floor.specs.Known.{blocked_from}
 use Rattle.floor.specs.Refusals.{sides_shape, floor_shape}
-use Rattle.floor.specs.declared.Shape.TheVariants.{Good}
 use Rattle.floor.proofs.Numbers.{cells-le, cell-lt}
-use Rattle.floor.proofs.Shapes.{good-sides, good-floor, floor-good, good-first}
+use Rattle.floor.proofs.Shapes.{good_sides, good-floor, floor-good, good-first}
 use Rattle.floor.proofs.Packed.{
   Bytes,
   bytes-cong,
@@ -80,10 +80,10 @@ module _ (f : Floor) where
       packed-bit (f.wide * f.high) (cell_numbered f) c
       ∙ rw (lt-ltb c (f.wide * f.high) (cell-lt f.wide f.high i j p q)) (numbered-cell i j p)
 
-  pub map-good : sides_shape f.wide f.high ≡ Good → floor_shape f.wide f.high (map_of f) ≡ Good
+  pub map-good : sides_shape f.wide f.high ≡ Ok tt → floor_shape f.wide f.high (map_of f) ≡ Ok tt
   unfolding map_of
   map-good e =
-      let s = good-sides f.wide f.high e in
+      let s = good_sides f.wide f.high e in
       sym (floor-good f.wide f.high (map_of f) s.wide_pos s.wide s.high_pos s.high map-length
       (packed-clear (f.wide * f.high) (cell_numbered f)))
 
@@ -141,7 +141,7 @@ pub cell-numbered : (w h : ℕ) (l : List ℕ) (c : ℕ) → bit_at l c ≡ cell
 unfolding cell_of
 cell-numbered w h l c = ap (bit_at l) (sym (div-add-mod' c w))
 
-module _ (w h : ℕ) (l : List ℕ) (g : floor_shape w h l ≡ Good) where
+module _ (w h : ℕ) (l : List ℕ) (g : floor_shape w h l ≡ Ok tt) where
   pub good-map : Bytes l → l ≡ map_of (floor_of w h l)
   unfolding map_of
   good-map small =
@@ -153,7 +153,7 @@ module _ (w h : ℕ) (l : List ℕ) (g : floor_shape w h l ≡ Good) where
   blocked-none small = good-map small ∙ map_same w h _ _ (λ i j a b. sym (or-false (cell_of w l i j)))
 
   module _ (p : ℕ → ℕ → Bool) where
-    pub blocked-good : floor_shape w h (map_of (with_blocked (floor_of w h l) p)) ≡ Good
+    pub blocked-good : floor_shape w h (map_of (with_blocked (floor_of w h l) p)) ≡ Ok tt
     unfolding floor_shape
     blocked-good = map-good (with_blocked (floor_of w h l) p) (good-first (sides_shape w h) _ g)
 

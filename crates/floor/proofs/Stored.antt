@@ -14,6 +14,7 @@ use native.Mathlib.Omega.{arith}
 use borrow.Author.Tests.{lt-ltb, le-ltb}
 use lib.Dec.{eqb}
 use lib.ListN.{length, get_or, get_or-eq_default}
+use Rattle.std.proofs.Common.{Ok}
 use Rattle.basics.specs.Bounded.{pick}
 use Rattle.basics.proofs.Order.{le-or-lt}
 use Rattle.basics.proofs.Lists.{length-tabulate, get_d_tabulate, tabulate-of}
@@ -32,8 +33,7 @@ use Rattle.floor.specs.Floor.{
   cell_bytes,
 }
 use Rattle.floor.specs.Refusals.{sides_shape, floor_shape}
-use Rattle.floor.specs.declared.Shape.TheVariants.{Good}
-use Rattle.floor.proofs.Shapes.{good-sides, good-floor, floor-good}
+use Rattle.floor.proofs.Shapes.{good_sides, good-floor, floor-good}
 use Rattle.floor.proofs.Packed.{Bytes, packed-bit, packed-length, packed-clear, packed-same}
 use Rattle.floor.proofs.Maps.{cell-numbered}
 
@@ -59,10 +59,10 @@ module _ (l : List ℕ) where
         ap (λ (c : ℕ → ℕ → Bool). record { wide = w; high = h; cell = c })
         (fun_ext (λ i. fun_ext (λ j. stored-bit (cell_number w i j))))
 
-    pub stored-good : sides_shape w h ≡ Good → length l ≡ w * h → floor_shape w h (stored_cells l) ≡ Good
+    pub stored-good : sides_shape w h ≡ Ok tt → length l ≡ w * h → floor_shape w h (stored_cells l) ≡ Ok tt
     unfolding stored_cells
     stored-good g e =
-        let s = good-sides w h g in
+        let s = good_sides w h g in
         sym (floor-good w h (stored_cells l) s.wide_pos s.wide s.high_pos s.high
         (stored-length ∙ ap map_length e) (rw (← e) (packed-clear (length l) (byte_blocked l))))
 
@@ -99,7 +99,7 @@ module _ (f : Floor) where
   cells-blocked c i =
       ap (λ x. not (eqb x 0)) (get_d_tabulate (f.wide * f.high) c byte i) ∙ byte-blocked (cell_numbered f c)
 
-module _ (w h : ℕ) (l : List ℕ) (g : floor_shape w h l ≡ Good) where
+module _ (w h : ℕ) (l : List ℕ) (g : floor_shape w h l ≡ Ok tt) where
   pub read-stored : Bytes l → stored_cells (cell_bytes (floor_of w h l)) ≡ l
   unfolding stored_cells
   read-stored small =

@@ -1,24 +1,29 @@
 // The floor: cells and vertices, what a cell reads as, and the refusals over the shape of a floor and of an end.
 #![tactic(auto)]
 
-ghost use Rattle.std.specs.Prelude.{◌≡◌, suc, ◌+◌, ◌-◌, ◌*◌, ◌<◌, ◌≤◌, length, eqb};
+ghost use Rattle.std.specs.Prelude.{◌≡◌, suc, ◌+◌, ◌-◌, ◌*◌, ◌<◌, ◌≤◌, length, eqb, IfOk};
 ghost use Rattle.basics.specs.Bounded.{pick};
 ghost use Rattle.floor.specs.Floor.{cell_number, bit_at, map_length, stored_cells, floor_of};
-ghost use Rattle.floor.specs.Known.{Sized, blocked_from};
+ghost use Rattle.floor.specs.Known.{blocked_from};
 ghost use Rattle.floor.specs.Floor.{blocked, vertices, number, column, row};
 ghost use Rattle.floor.specs.Window.{WindowMap};
-ghost use Rattle.floor.specs.Refusals.{refusal_number, shape_number, unused_clear, sides_shape, floor_shape, end_shape};
+ghost use Rattle.floor.specs.Refusals.{answer_number, good_if, unused_clear, sides_shape, floor_shape, end_shape};
+ghost use Rattle.floor.specs.Plan.{floor_on};
+
+mod plan; // plan.rt: a floor plan
+
+pub use plan::FloorPlan;
 
 // The number of a cell: column + row * W.
-#[derive(Clone, Copy)]
+#[derive(Clone, Copy, Debug, PartialEq, Eq)]
 pub struct Cell(pub usize);
 
 // The number of a vertex, a cell corner: column + row * (W + 1).
-#[derive(Clone, Copy)]
+#[derive(Clone, Copy, Debug, PartialEq, Eq)]
 pub struct Vertex(pub usize);
 
 // Every refusal of rule 6.1, in the order of the numbers.
-#[derive(Clone, Copy)]
+#[derive(Clone, Copy, Debug, PartialEq, Eq)]
 pub enum Refusal {
     Size,
     MapLength,
@@ -42,48 +47,45 @@ pub enum Refusal {
     OutOfTurn,
 }
 
-// What a test of an input's shape finds.
-#[derive(Clone, Copy)]
-pub enum Shape {
-    Good,
-    Refused(Refusal),
-}
-
 // The number of a refusal (rule 6.1).
-pub fn refusal_number(r: Refusal) -> u8
-    ensures { result ≡ refusal_number r }
-{
-    match r {
-        Refusal::Size => 1,
-        Refusal::MapLength => 2,
-        Refusal::UnusedBit => 3,
-        Refusal::Neighbourhood => 4,
-        Refusal::End => 5,
-        Refusal::SliceLength => 6,
-        Refusal::NoRoute => 7,
-        Refusal::TooMany => 8,
-        Refusal::FalseSheet => 9,
-        Refusal::NotJoined => 10,
-        Refusal::Pinched => 11,
-        Refusal::ClosureBounds => 12,
-        Refusal::SlotsFull => 13,
-        Refusal::SlotEmpty => 14,
-        Refusal::SizesDiffer => 15,
-        Refusal::LogLength => 16,
-        Refusal::BadLogRecord => 17,
-        Refusal::NoRoom => 18,
-        Refusal::FalseChoice => 19,
-        Refusal::OutOfTurn => 20,
+impl From<Refusal> for u8 {
+    ghost use Rattle.floor.specs.Refusals.{NumberOf};
+
+    ghost from_gives = { NumberOf };
+
+    fn from(r: Refusal) -> u8 {
+        match r {
+            Refusal::Size => 1,
+            Refusal::MapLength => 2,
+            Refusal::UnusedBit => 3,
+            Refusal::Neighbourhood => 4,
+            Refusal::End => 5,
+            Refusal::SliceLength => 6,
+            Refusal::NoRoute => 7,
+            Refusal::TooMany => 8,
+            Refusal::FalseSheet => 9,
+            Refusal::NotJoined => 10,
+            Refusal::Pinched => 11,
+            Refusal::ClosureBounds => 12,
+            Refusal::SlotsFull => 13,
+            Refusal::SlotEmpty => 14,
+            Refusal::SizesDiffer => 15,
+            Refusal::LogLength => 16,
+            Refusal::BadLogRecord => 17,
+            Refusal::NoRoom => 18,
+            Refusal::FalseChoice => 19,
+            Refusal::OutOfTurn => 20,
+        }
     }
 }
 
-// The number of an answer that is only good or refused (rule 6.1): 0, or that of the refusal.
-pub fn shape_number(s: Shape) -> u8
-    ensures { result ≡ shape_number s }
+// The number of an answer (rule 6.1): that of its refusal, 0 where there is none.
+pub fn answer_number<A: Copy>(answer: Result<A, Refusal>) -> u8
+    ensures { result ≡ answer_number answer }
 {
-    match s {
-        Shape::Good => 0,
-        Shape::Refused(r) => refusal_number(r),
+    match answer {
+        Ok(_) => 0,
+        Err(r) => u8::from(r),
     }
 }
 
@@ -95,21 +97,13 @@ pub fn cell_at(w: usize, i: usize, j: usize) -> Cell
     Cell(j * w + i)
 }
 
-// The cell that has the vertex (x, y) as its lower right corner.
-pub fn cell_before(w: usize, h: usize, map: &[u8], x: usize, y: usize) -> Cell
-    requires { Sized w h map.now × (1 ≤ x) × (x ≤ w) × (1 ≤ y) × (y ≤ h) }
-    ensures { (result.0 ≡ cell_number w (x - 1) (y - 1)) × (result.0 < 8 * length map.now) }
-{
-    cell_at(w, x - 1, y - 1)
-}
-
 // The number of bytes of a map, a bit to a cell: cell c is bit c % 8, from the low end, of byte c / 8. Only this,
-// `is_blocked`, `block_cell`, `window_map`, `copy_map`, `store_cells` and `unused_clear` know how a map is stored.
+// `is_blocked`, `block_cell`, `window_map`, `store_cells` and `unused_clear` know how a map is stored.
 pub fn map_length(w: usize, h: usize) -> usize
     requires { (w ≤ 127) × (h ≤ 127) }
     ensures { (result ≡ map_length (w * h)) × (result ≤ 2017) }
 {
-    (w * h + 7) / 8
+    (w * h).div_ceil(8)
 }
 
 // Whether a cell of the map is blocked.
@@ -121,34 +115,44 @@ pub fn is_blocked(map: &[u8], c: Cell) -> bool
     (map[at / 8] >> (at % 8)) % 2 == 1
 }
 
-// Whether the cell that has the vertex (x, y) as its lower right corner is blocked. A cell outside the floor is.
-pub fn blocked_at(w: usize, h: usize, map: &[u8], x: usize, y: usize) -> bool
-    requires { Sized w h map.now }
-    ensures { result ≡ blocked (floor_of w h map.now) x y }
-{
-    if x == 0 {
-        return true;
+impl<'a> FloorPlan<'a> {
+    // The plan of a floor that is not refused, or the first refusal of 1 to 3.
+    pub fn new(w: usize, h: usize, map: &'a [u8]) -> Result<Self, Refusal>
+        ensures answer { good_if result ≡ floor_shape w h map.now }
+        ensures plan { IfOk result (λ p. (p.w ≡ w) × (p.h ≡ h) × (p.map.now ≡ map.now)) }
+    {
+        floor_shape(w, h, map)?;
+        Ok(FloorPlan { w, h, map })
     }
-    if y == 0 {
-        return true;
+
+    // The cell that has the vertex (x, y) as its lower right corner.
+    pub fn cell_before(self, x: usize, y: usize) -> Cell
+        requires { (1 ≤ x) × (x ≤ self.w) × (1 ≤ y) × (y ≤ self.h) }
+        ensures { (result.0 ≡ cell_number self.entry.w (x - 1) (y - 1)) × (result.0 < 8 * length self.entry.map.now) }
+    {
+        cell_at(self.w, x - 1, y - 1)
     }
-    if w < x {
-        return true;
+
+    // Whether the cell that has the vertex (x, y) as its lower right corner is blocked. A cell outside the floor is.
+    pub fn blocked_at(self, x: usize, y: usize) -> bool
+        ensures { result ≡ blocked (floor_on self.entry) x y }
+    {
+        if x == 0 || y == 0 || self.w < x || self.h < y {
+            return true;
+        }
+        is_blocked(self.map, self.cell_before(x, y))
     }
-    if h < y {
-        return true;
-    }
-    is_blocked(map, cell_before(w, h, map, x, y))
 }
 
 // Blocks one cell of the map.
+#[tactic(auto, using(crate::proofs::Blocking::block_one))]
 fn block_cell(map: &mut [u8], c: Cell)
     requires { c.0 < 8 * length map.old }
     ensures { map.new ≡ blocked_from c.0 1 map.old }
 {
     let at = c.0;
     let bit: u8 = 1 << (at % 8);
-    map[at / 8] = map[at / 8] | bit;
+    map[at / 8] |= bit;
 }
 
 // The map of a floor of 2 by 2 cells, of which cell c is blocked where b has bit c.
@@ -169,26 +173,15 @@ pub fn block_cells(map: &mut [u8], first: Cell, count: usize)
     }
 }
 
-// Copies a map.
-pub fn copy_map(base: &[u8], map: &mut [u8])
-    requires { length map.old ≡ length base.now }
-    ensures { map.new ≡ base.now }
-{
-    for at in 0..base.len() {
-        map[at] = base[at];
-    }
-}
-
 // Blocks a cell of the map where its byte is not 0.
 fn store_cell(map: &mut [u8], c: Cell, byte: u8)
     requires { c.0 < 8 * length map.old }
     ensures { map.new
         ≡ pick (eqb byte 0) map.old (blocked_from c.0 1 map.old) }
 {
-    if byte == 0 {
-        return;
+    if byte != 0 {
+        block_cell(map, c);
     }
-    block_cell(map, c);
 }
 
 // Stores a map whose cells are given by a byte each, row by row, 0 open and 1 blocked.
@@ -196,9 +189,9 @@ pub fn store_cells(cells: &[u8], map: &mut [u8])
     requires { length map.old ≡ map_length (length cells.now) }
     ensures { map.new ≡ stored_cells cells.now }
 {
-    basics::clear_u8(map);
-    for at in 0..cells.len() {
-        store_cell(map, Cell(at), cells[at]);
+    map.fill(0);
+    for (at, byte) in cells.iter().enumerate() {
+        store_cell(map, Cell(at), *byte);
     }
 }
 
@@ -235,22 +228,14 @@ pub fn row_of(w: usize, h: usize, v: Vertex) -> usize
 }
 
 // Refusal 1: a side is not 1 to 127.
-pub fn sides_shape(w: usize, h: usize) -> Shape
+#[tactic(auto, unfolding(crate::specs::Refusals::sides_shape))]
+pub fn sides_shape(w: usize, h: usize) -> Result<(), Refusal>
     ensures { result ≡ sides_shape w h }
 {
-    if w < 1 {
-        return Shape::Refused(Refusal::Size);
+    if w < 1 || 127 < w || h < 1 || 127 < h {
+        return Err(Refusal::Size);
     }
-    if 127 < w {
-        return Shape::Refused(Refusal::Size);
-    }
-    if h < 1 {
-        return Shape::Refused(Refusal::Size);
-    }
-    if 127 < h {
-        return Shape::Refused(Refusal::Size);
-    }
-    Shape::Good
+    Ok(())
 }
 
 // Every bit of the map past its n cells is 0. Only the last byte has such bits, and where 8 divides n it has none.
@@ -258,36 +243,32 @@ fn unused_clear(map: &[u8], n: usize) -> bool
     requires { length map.now ≡ map_length n }
     ensures { result ≡ unused_clear n map.now }
 {
-    if n % 8 == 0 {
-        return true;
-    }
-    map[n / 8] >> (n % 8) == 0
+    n % 8 == 0 || map[n / 8] >> (n % 8) == 0
 }
 
 // Refusals 1 to 3 of a floor, in order: the sides, the map's length, its unused bits.
-pub fn floor_shape(w: usize, h: usize, map: &[u8]) -> Shape
+#[tactic(auto, using(crate::proofs::Shapes::good_sides), unfolding(crate::specs::Refusals::floor_shape))]
+pub fn floor_shape(w: usize, h: usize, map: &[u8]) -> Result<(), Refusal>
     ensures { result ≡ floor_shape w h map.now }
 {
-    let sides = sides_shape(w, h);
-    let Shape::Good = sides else {
-        return sides;
-    };
+    sides_shape(w, h)?;
     if map.len() != map_length(w, h) {
-        return Shape::Refused(Refusal::MapLength);
+        return Err(Refusal::MapLength);
     }
-    if unused_clear(map, w * h) {
-        return Shape::Good;
+    if !unused_clear(map, w * h) {
+        return Err(Refusal::UnusedBit);
     }
-    Shape::Refused(Refusal::UnusedBit)
+    Ok(())
 }
 
 // Refusal 5 of one end, on a floor whose sides are good: its number is V or more.
-pub fn end_shape(w: usize, h: usize, v: usize) -> Shape
+#[tactic(auto, unfolding(crate::specs::Refusals::end_shape))]
+pub fn end_shape(w: usize, h: usize, v: usize) -> Result<(), Refusal>
     requires { (w ≤ 127) × (h ≤ 127) }
     ensures { result ≡ end_shape w h v }
 {
     if v < vertex_count(w, h) {
-        return Shape::Good;
+        return Ok(());
     }
-    Shape::Refused(Refusal::End)
+    Err(Refusal::End)
 }

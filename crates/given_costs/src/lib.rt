@@ -3,7 +3,8 @@
 #![tactic(auto)]
 
 ghost use Rattle.std.specs.Prelude.{◌≡◌, suc, ◌≤◌, length};
-ghost use Rattle.floor.specs.Floor.{floor_of, vertices};
+ghost use Rattle.floor.specs.Floor.{vertices};
+ghost use Rattle.floor.specs.Plan.{floor_on};
 ghost use Rattle.masks.specs.Masks.{LeavingRow};
 ghost use Rattle.offsets.specs.Classes.{Classes};
 ghost use Rattle.paths.specs.Local.{entry};
@@ -15,7 +16,7 @@ ghost use Rattle.neighbours.specs.Least.{right_cost_in};
 ghost use Rattle.given_costs.specs.Given.{costs_true};
 ghost use Rattle.given_costs.specs.Tests.{row_test};
 
-use floor::Vertex;
+use floor::{FloorPlan, Vertex};
 use moves::Directions;
 use offsets::Class;
 
@@ -36,33 +37,28 @@ fn vertex_right(
     neighbours::cost_right(shifts, classes, mask, a, d, v)
 }
 
-// The costs of the vertices of row y are right, each by the moves that leave it, whose masks are `leaving`. Each is
-// looked at, also after one that is false: a way out of the loop makes every turn slower. The map is for the contract
-// only.
+// The costs of the vertices of row y are right, each by the moves that leave it, whose masks are `leaving`. The map is
+// for the contract only.
 fn row_right(
-    w: usize,
-    h: usize,
-    map: &[u8],
+    floor: FloorPlan<'_>,
     dirs: Directions,
     a: usize,
     d: &[u32],
     leaving: [u32; 128],
     y: usize,
 ) -> bool
-    requires { GoodJob w h map.now dirs a a × (length d.now ≡ vertices w h) × (y ≤ h)
-        × LeavingRow (floor_of w h map.now) dirs y (suc w) leaving }
-    ensures { result ≡ row_test (leaving_graph (floor_of w h map.now) dirs) a d.now w y }
+    requires { GoodJob floor.w floor.h floor.map.now dirs a a × (length d.now ≡ vertices floor.w floor.h)
+        × (y ≤ floor.h) × LeavingRow (floor_on floor) dirs y (suc floor.w) leaving }
+    ensures { result ≡ row_test (leaving_graph (floor_on floor.entry) dirs) a d.now floor.entry.w y }
 {
-    let shifts = offsets::shifts_of(w, dirs);
+    let shifts = offsets::shifts_of(floor.w, dirs);
     let classes = offsets::classes_of(dirs);
-    let first = y * (w + 1);
-    let mut right = true;
-    for x in 0..w + 1 {
-        if !vertex_right(dirs, &shifts, classes, leaving[x], a, d, first + x) {
-            right = false;
-        }
-    }
-    right
+    neighbours::row_passes(
+        floor.w,
+        y,
+        leaving,
+        |v, mask| vertex_right(dirs, &shifts, classes, mask, a, d, v),
+    )
 }
 
 // Whether d holds the true costs from a: 0 at a, and every cost right by its neighbours. It stops at the first row with
@@ -70,21 +66,20 @@ fn row_right(
 // for the rows above and below. It is not inlined, so that its lines of masks have left the stack before the counts are
 // filled.
 #[inline(never)]
-pub fn costs_true(w: usize, h: usize, map: &[u8], dirs: Directions, a: Vertex, d: &[u32]) -> bool
-    requires { GoodJob w h map.now dirs a.0 a.0 × (length d.now ≡ vertices w h) }
-    ensures { result ≡ costs_true (floor_graph (floor_of w h map.now) dirs) a.0 d.now }
+pub fn costs_true(floor: FloorPlan<'_>, dirs: Directions, a: Vertex, d: &[u32]) -> bool
+    requires { GoodJob floor.w floor.h floor.map.now dirs a.0 a.0 × (length d.now ≡ vertices floor.w floor.h) }
+    ensures { result ≡ costs_true (floor_graph (floor_on floor.entry) dirs) a.0 d.now }
 {
-    let start = a.0;
-    if d[start] != 0 {
+    if d[a.0] != 0 {
         return false;
     }
     let windows = masks::window_masks(dirs);
-    let mut above = masks::window_row(w, h, map, 0, windows);
+    let mut above = masks::window_row(floor, 0, windows);
     let mut here = above;
-    for y in 0..h + 1 {
-        let below = masks::window_row(w, h, map, y + 1, windows);
-        let leaving = masks::leaving_between(w, h, map, dirs, y, windows, above, here, below);
-        if !row_right(w, h, map, dirs, start, d, leaving, y) {
+    for y in 0..floor.h + 1 {
+        let below = masks::window_row(floor, y + 1, windows);
+        let leaving = masks::leaving_between(floor, dirs, y, windows, above, here, below);
+        if !row_right(floor, dirs, a.0, d, leaving, y) {
             return false;
         }
         above = here;

@@ -7,24 +7,22 @@
 --   dirs_shape w h l nb      == the floor and the neighbourhood alone: refusals 1 to 4
 --   GoodJob w h map dirs a b == the floor, the directions of the neighbourhood and both ends are good; no end is a
 --                               pinch
-use Rattle.std.specs.Prelude.{ℕ, ◌<◌, ◌≡◌, false, List}
+use Rattle.std.specs.Prelude.{ℕ, ◌<◌, ◌≡◌, false, List, Result, Ok}
 use Rattle.floor.specs.Floor.{floor_of, vertices, column, row}
 use Rattle.floor.specs.Known.{Sized}
-use Rattle.floor.specs.Refusals.{floor_shape}
-use Rattle.floor.specs.declared.Shape.{Shape}
-use Rattle.floor.specs.declared.Shape.TheVariants.{Good}
+use Rattle.floor.specs.Refusals.{Shape, floor_shape, and_then}
+use Rattle.floor.specs.declared.Refusal.{Refusal}
 use Rattle.sight.specs.Sight.{pinch}
 use Rattle.moves.specs.declared.Directions.{Directions}
 use Rattle.moves.specs.Moves.{neighbourhood_of}
 use Rattle.moves.specs.Table.{Listed}
-use Rattle.grid.specs.Grid.{or_refused, with_dirs}
-use Rattle.grid.specs.declared.JobShape.{JobShape}
+use Rattle.grid.specs.Grid.{with_dirs}
 
-abbrev pub shape_with : ℕ → ℕ → List ℕ → ℕ → Shape → JobShape
-shape_with w h l nb s = or_refused (floor_shape w h l) (with_dirs (neighbourhood_of nb) s)
+abbrev pub shape_with : ℕ → ℕ → List ℕ → ℕ → Shape → Result Directions Refusal
+shape_with w h l nb s = and_then (floor_shape w h l) (with_dirs (neighbourhood_of nb) s)
 
-unfoldable pub dirs_shape : ℕ → ℕ → List ℕ → ℕ → JobShape
-dirs_shape w h l nb = shape_with w h l nb Good
+unfoldable pub dirs_shape : ℕ → ℕ → List ℕ → ℕ → Result Directions Refusal
+dirs_shape w h l nb = shape_with w h l nb (Ok tt)
 
 pub record GoodJob (w h : ℕ) (map : List ℕ) (dirs : Directions) (a b : ℕ) : Type 0 where
   pub sized : Sized w h map

@@ -3,84 +3,65 @@
 #![tactic(auto)]
 
 ghost use Rattle.std.specs.Prelude.{◌≡◌, ◌<◌};
-ghost use Rattle.floor.specs.Floor.{floor_of, vertices};
-ghost use Rattle.floor.specs.Known.{Sized};
-ghost use Rattle.grid.specs.Grid.{or_refused, pinch_shape, ends_shape, job_shape};
+ghost use Rattle.floor.specs.Floor.{vertices};
+ghost use Rattle.floor.specs.Plan.{floor_on};
+ghost use Rattle.grid.specs.Grid.{pinch_shape, ends_shape, job_shape};
 ghost use Rattle.grid.specs.Known.{dirs_shape};
-ghost use Rattle.grid.specs.declared.JobShape.TheVariants.{Fit};
 
-use floor::{Refusal, Shape, Vertex};
-use moves::{Directions, Neighbourhood};
-
-// What the tests of a job's shape find: the directions of its neighbourhood, or the first refusal of 1 to 5, then 11.
-#[derive(Clone, Copy)]
-pub enum JobShape {
-    Fit(Directions),
-    Refused(Refusal),
-}
+use floor::{FloorPlan, Refusal, Vertex};
+use moves::Directions;
 
 // Refusal 11 of one end: it is a pinch.
-fn pinch_shape(w: usize, h: usize, map: &[u8], v: Vertex) -> Shape
-    requires { Sized w h map.now × (v.0 < vertices w h) }
-    ensures { result ≡ pinch_shape (floor_of w h map.now) v.0 }
+#[tactic(auto, unfolding(crate::specs::Grid::pinch_shape))]
+fn pinch_shape(floor: FloorPlan<'_>, v: Vertex) -> Result<(), Refusal>
+    requires { v.0 < vertices floor.w floor.h }
+    ensures { result ≡ pinch_shape (floor_on floor.entry) v.0 }
 {
-    if sight::is_pinch(w, h, map, floor::column_of(w, v), floor::row_of(w, h, v)) {
-        return Shape::Refused(Refusal::Pinched);
+    if sight::is_pinch(
+        floor,
+        floor::column_of(floor.w, v),
+        floor::row_of(floor.w, floor.h, v),
+    ) {
+        return Err(Refusal::Pinched);
     }
-    Shape::Good
+    Ok(())
 }
 
 // The refusals of both ends: 5 of either, then 11 of either.
-fn ends_shape(w: usize, h: usize, map: &[u8], a: usize, b: usize) -> Shape
-    requires { Sized w h map.now }
-    ensures { result ≡ ends_shape w h map.now a b }
+#[tactic(auto, unfolding(crate::specs::Grid::ends_shape))]
+fn ends_shape(floor: FloorPlan<'_>, a: usize, b: usize) -> Result<(), Refusal>
+    ensures { result ≡ ends_shape floor.entry.w floor.entry.h floor.entry.map.now a b }
 {
-    let first = floor::end_shape(w, h, a);
-    let Shape::Good = first else {
-        return first;
-    };
-    let last = floor::end_shape(w, h, b);
-    let Shape::Good = last else {
-        return last;
-    };
-    let start = pinch_shape(w, h, map, Vertex(a));
-    let Shape::Good = start else {
-        return start;
-    };
-    pinch_shape(w, h, map, Vertex(b))
+    floor::end_shape(floor.w, floor.h, a)?;
+    floor::end_shape(floor.w, floor.h, b)?;
+    pinch_shape(floor, Vertex(a))?;
+    pinch_shape(floor, Vertex(b))
 }
 
-// Refusals 1 to 4: those of the floor, then of the neighbourhood.
-pub fn dirs_shape(w: usize, h: usize, map: &[u8], nb: usize) -> JobShape
+// Refusals 1 to 4: those of the floor, then of the neighbourhood. The answer is the directions of the neighbourhood.
+// Kept: what may not change: the parameters of `dirs_shape` and `job_shape`, of which no plan is made before the tests.
+#[tactic(auto, unfolding(crate::specs::Known::dirs_shape))]
+pub fn dirs_shape(w: usize, h: usize, map: &[u8], nb: usize) -> Result<Directions, Refusal>
     ensures { result ≡ dirs_shape w h map.now nb }
 {
-    let map_shape = floor::floor_shape(w, h, map);
-    if let Shape::Refused(r) = map_shape {
-        return JobShape::Refused(r);
-    }
-    let Neighbourhood::Known(dirs) = moves::directions_of(nb) else {
-        return JobShape::Refused(Refusal::Neighbourhood);
-    };
-    JobShape::Fit(dirs)
+    floor::floor_shape(w, h, map)?;
+    moves::directions_of(nb).ok_or(Refusal::Neighbourhood)
 }
 
-// The directions where the shape of the rest is good, else its refusal.
-pub fn or_refused(rest: Shape, dirs: Directions) -> JobShape
-    ensures { result ≡ or_refused rest (Fit dirs) }
-{
-    match rest {
-        Shape::Good => JobShape::Fit(dirs),
-        Shape::Refused(r) => JobShape::Refused(r),
-    }
-}
-
-// Refusals 1 to 5, then 11, of a job: those of the floor, of the neighbourhood, then of the two ends.
-pub fn job_shape(w: usize, h: usize, map: &[u8], nb: usize, a: usize, b: usize) -> JobShape
+// Refusals 1 to 5, then 11, of a job: those of the floor, of the neighbourhood, then of the two ends. The answer is the
+// directions of the neighbourhood.
+#[tactic(auto, unfolding(crate::specs::Known::dirs_shape, crate::specs::Grid::job_shape))]
+pub fn job_shape(
+    w: usize,
+    h: usize,
+    map: &[u8],
+    nb: usize,
+    a: usize,
+    b: usize,
+) -> Result<Directions, Refusal>
     ensures { result ≡ job_shape w h map.now nb a b }
 {
-    let known = dirs_shape(w, h, map, nb);
-    let JobShape::Fit(dirs) = known else {
-        return known;
-    };
-    or_refused(ends_shape(w, h, map, a, b), dirs)
+    let dirs = dirs_shape(w, h, map, nb)?;
+    ends_shape(FloorPlan { w, h, map }, a, b)?;
+    Ok(dirs)
 }

@@ -19,12 +19,12 @@ use borrow.Author.Tests.{eqb-true, eq-eqb, ltb-true, lt-ltb}
 use lib.Dec.{ltb, eqb}
 use lib.ListN.{length, get_or, take}
 use lib.Seq.{length-take-le, get_or-take}
+use Rattle.std.proofs.Common.{Ok, Err}
 use Rattle.basics.specs.Bounded.{pick}
 use Rattle.basics.proofs.Order.{le-or-lt}
 use Rattle.basics.proofs.Bools.{and_both, or_left, or_right, or_cases}
 use Rattle.basics.proofs.Bounded.{every-all, every-at}
 use Rattle.floor.specs.declared.Refusal.TheVariants.{FalseChoice}
-use Rattle.floor.specs.declared.Shape.TheVariants.{Good, Refused}
 use Rattle.floor.proofs.Shapes.{good-first, good-second, good-pick}
 use Rattle.legs.specs.Choices.{Leg, Choice, last, leg, Fewest, is_leg, fewest_legs}
 use Rattle.legs.specs.Answer.{legs_shape, kept_right, numbers_right, zero_from, true_choice, check_answer}
@@ -164,28 +164,28 @@ module _ (s : ℕ → ℕ → Bool) (n : ℕ) where
     true-exact kept c legs = (true-parts kept c legs, true-whole kept c legs)
 
 module _ (w h : ℕ) (map list : List ℕ) (n : ℕ) (kept : List ℕ) (c : ℕ) (legs : List ℕ) where
-  accepted-parts : check_answer w h map list n kept c legs ≡ Good
-      → (legs_shape w h map list (length kept) (length legs) n ≡ Good) × TrueChoice (sight_on w h map list) n kept c legs
+  accepted-parts : check_answer w h map list n kept c legs ≡ Ok tt
+      → (legs_shape w h map list (length kept) (length legs) n ≡ Ok tt) × TrueChoice (sight_on w h map list) n kept c legs
   unfolding check_answer
   accepted-parts e =
       let shape = legs_shape w h map list (length kept) (length legs) n in
       let test = true_choice (sight_on w h map list) n kept c legs in
-      let x = good-first shape (pick test Good (Refused FalseChoice)) e in
-      let y = good-second shape (pick test Good (Refused FalseChoice)) e in
+      let x = good-first shape (pick test (Ok tt) (Err FalseChoice)) e in
+      let y = good-second shape (pick test (Ok tt) (Err FalseChoice)) e in
       let g = good-legs w h map list (length kept) (length legs) n x in
       let j = joined-on w h map list (length kept) (length legs) n g in
       (x, true-parts (sight_on w h map list) n j.sees kept c legs (good-pick FalseChoice test y))
 
-  accepted-whole : (legs_shape w h map list (length kept) (length legs) n ≡ Good)
+  accepted-whole : (legs_shape w h map list (length kept) (length legs) n ≡ Ok tt)
       × TrueChoice (sight_on w h map list) n kept c legs
-      → check_answer w h map list n kept c legs ≡ Good
+      → check_answer w h map list n kept c legs ≡ Ok tt
   accepted-whole p =
       let g = good-legs w h map list (length kept) (length legs) n p.0 in
       let j = joined-on w h map list (length kept) (length legs) n g in
       let t = true-whole (sight_on w h map list) n j.sees kept c legs p.1 in
       sym (check-true w h map list n kept c legs p.0 t)
 
-  pub accepted-exact : (check_answer w h map list n kept c legs ≡ Good)
-      ↔ ((legs_shape w h map list (length kept) (length legs) n ≡ Good)
+  pub accepted-exact : (check_answer w h map list n kept c legs ≡ Ok tt)
+      ↔ ((legs_shape w h map list (length kept) (length legs) n ≡ Ok tt)
       × TrueChoice (sight_on w h map list) n kept c legs)
   accepted-exact = (accepted-parts, accepted-whole)

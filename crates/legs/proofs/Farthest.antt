@@ -6,20 +6,20 @@
 --   farthest-is     == `farthest_next` is that position
 --   proposed-chain  == the proposed positions are those that `farthest_next` names one after the other
 --   goes-..         == the test of a leg that leaves one leg fewer
---   Seeking s n i j == the search for that position, from the last down, has come to j and not passed it
+--   Seeking s n i k == the search for that position, from the last down, has passed those from k on and not met it
 use Prim.Native.Nat.{ℕ, zero, suc, ◌≤◌, ◌<◌}
 use mathlib.Core.Path.{◌≡◌, refl, sym, ap, ◌∙◌}
 use mathlib.Core.Logic.{⊎_elim}
-use mathlib.Core.Bool.{Bool, true, false, ◌&&◌, and-true, and-false}
+use mathlib.Core.Bool.{Bool, true, false, ◌&&◌, and-true}
 use mathlib.Core.List.{List, ◌∷◌, []}
 use native.Mathlib.Omega.{arith}
-use borrow.Author.Tests.{eqb-true, eq-eqb, ne_eqb}
+use borrow.Author.Tests.{eqb-true, eq-eqb}
 use lib.Dec.{eqb, ltb}
 use lib.ListN.{get_or}
 use Rattle.basics.specs.Bounded.{pick}
 use Rattle.basics.proofs.Order.{le-or-lt, eq-or-ne}
 use Rattle.basics.proofs.Bools.{and_intro, and_both, not-both}
-use Rattle.thinning.proofs.Recording.{chain}
+use Rattle.thinning.specs.Known.{chain}
 use Rattle.legs.specs.Choices.{Leg, is_leg, fewest_legs}
 use Rattle.legs.specs.Answer.{last_below, farthest_next, proposed_from}
 use Rattle.legs.specs.Known.{RightFrom}
@@ -70,36 +70,38 @@ module _ (s : ℕ → ℕ → Bool) (n : ℕ) where
   proposed-chain (suc c) i = ap (λ q. i ∷ pick (ltb (suc i) n) q []) (proposed-chain c (farthest_next s n i))
 
   module _ (l : List ℕ) (i j : ℕ) where
-    pub goes-not : (get_or l i 0 ≡ suc (get_or l j 0) → ⊥) → false ≡ (is_leg s n i j && eqb (get_or l i 0) (suc (get_or l j 0)))
-    goes-not ne = rw (ne_eqb (get_or l i 0) (suc (get_or l j 0)) ne, and-false (is_leg s n i j))
-
     pub goes-seen : {r : Bool} → i < j → j < n → get_or l i 0 ≡ suc (get_or l j 0) → r ≡ s i j
         → r ≡ (is_leg s n i j && eqb (get_or l i 0) (suc (get_or l j 0)))
     goes-seen a b q e =
         e ∙ sym (rw (leg-seen s n i j a b, eq-eqb (get_or l i 0) (suc (get_or l j 0)) q, and-true (s i j)))
 
-  pub record Seeking (i j : ℕ) : Type 0 where
-    pub inside : j < n
-    pub reach : farthest_next s n i ≤ j
+  pub record Seeking (i k : ℕ) : Type 0 where
+    pub inside : k ≤ n
+    pub reach : farthest_next s n i < k
     pub far : Far i (farthest_next s n i)
 
-  module _ (l : List ℕ) (right : RightFrom s n l 0) (i j : ℕ) (h : Seeking i j) {r : Bool}
+  pub seeking-first : ((k : ℕ) → suc k < n → s k (suc k) ≡ true) → (i : ℕ) → suc i < n → Seeking i n
+  seeking-first steady i l =
+      let f = farthest-is steady i l in record { inside = omega arith; reach = f.leg.within; far = f }
+
+  module _ (l : List ℕ) (right : RightFrom s n l 0) (i j : ℕ) {k : ℕ} (h : Seeking i k) (d : suc j ≡ k) {r : Bool}
       (e : r ≡ (is_leg s n i j && eqb (get_or l i 0) (suc (get_or l j 0)))) where
     pub seeking-found : i < n → r ≡ true → j ≡ farthest_next s n i
     seeking-found b t =
         let p = and_both (is_leg s n i j) _ (sym e ∙ t) in
         let q = eqb-true (get_or l i 0) (suc (get_or l j 0)) p.1 in
         let f = h.far.farthest j (leg-cases s n i j p.0)
-        (omega (arith, right i (omega arith) b, right j (omega arith) h.inside, h.far.fewer)) in
+        (omega (arith, right i (omega arith) b, right j (omega arith) (omega (arith, h.inside)), h.far.fewer)) in
         omega (arith, h.reach)
 
-    pub seeking-more : i < n → r ≡ false → (k : ℕ) → suc k ≡ j → Seeking i k
-    seeking-more b t k d =
+    pub seeking-more : i < n → r ≡ false → Seeking i j
+    seeking-more b t =
         let f = h.far in
         let here : farthest_next s n i ≡ j → (is_leg s n i j && eqb (get_or l i 0) (suc (get_or l j 0))) ≡ true =
         (λ z. and_intro (is_leg s n i j) _ (leg-at s n i j (rw z at f.leg))
         (eq-eqb (get_or l i 0) (suc (get_or l j 0))
-        (right i (omega arith) b ∙ (rw z at f.fewer) ∙ ap suc (sym (right j (omega arith) h.inside))))) in
+        (right i (omega arith) b ∙ (rw z at f.fewer)
+        ∙ ap suc (sym (right j (omega arith) (omega (arith, h.inside))))))) in
         ⊎_elim (λ z. not-both _ (here z) (sym e ∙ t))
         (λ ne. record { inside = omega (arith, h.inside); reach = omega (arith, h.reach, ne); far = f })
         (eq-or-ne (farthest_next s n i) j)

@@ -1,7 +1,7 @@
 -- The loop that fills the numbers of legs from the last position on.
 --
 --   Filling s n k i l == of the k places of l those from i to n - 1 have the fewest legs, and those past n have 0
---   filled-..         == what a slice has that is filled
+--   filled-right      == what a slice has that is filled
 --   cleared-length    == the length of a slice that is cleared
 use Prim.Native.Nat.{ℕ, suc, ◌≤◌, ◌<◌}
 use mathlib.Core.Path.{◌≡◌, refl, sym, ap, ◌∙◌}
@@ -13,13 +13,13 @@ use lib.ListN.{length, get_or, set, length-set, length-replicate}
 use lib.Seq.{get_or-set_same, get_or-set_other}
 use Rattle.basics.specs.Lists.{tabulate, padded, zeros}
 use Rattle.basics.proofs.Order.{eq-or-ne}
-use Rattle.basics.proofs.Lists.{get_or-zeros, padded-of, length-padded, get_or-padded}
+use Rattle.basics.proofs.Lists.{get_or-zeros, padded-of, get_or-padded}
 use Rattle.basics.proofs.Lists.{length-tabulate, get_d_tabulate}
 use Rattle.legs.specs.Choices.{fewest_legs}
 use Rattle.legs.specs.Known.{RightFrom, Filled}
 use Rattle.legs.proofs.Fewest.{fewest-last}
 
-pub cleared-length : (k : ℕ) (l : List ℕ) → l ≡ zeros k → length l ≡ k
+cleared-length : (k : ℕ) (l : List ℕ) → l ≡ zeros k → length l ≡ k
 cleared-length k l e = ap length e ∙ length-replicate k 0
 
 pub record Filling (s : ℕ → ℕ → Bool) (n k i : ℕ) (l : List ℕ) : Type 0 where
@@ -60,14 +60,8 @@ module _ (s : ℕ → ℕ → Bool) (n k : ℕ) where
       (λ j b. h.right j (omega arith) (omega arith) ∙ sym (get_d_tabulate n j (fewest_legs s n) (omega arith)))
       (λ j b _. h.past j (omega arith))
 
-module _ {s : ℕ → ℕ → Bool} {n : ℕ} {l l' : List ℕ} (f : Filled s n l l') (a : n ≤ length l) where
-  pub filled-length : length l' ≡ length l
-  filled-length =
-      ap length f.output
-      ∙ length-padded (length l) (tabulate n (fewest_legs s n)) (omega (arith, length-tabulate n (fewest_legs s n)))
-
-  pub filled-right : RightFrom s n l' 0
-  filled-right k _ b =
-      let N = fewest_legs s n in
-      rw f.output
-      (get_or-padded (length l) k (tabulate n N) (omega (arith, length-tabulate n N)) ∙ get_d_tabulate n k N b)
+pub filled-right : {s : ℕ → ℕ → Bool} {n : ℕ} {l l' : List ℕ} → Filled s n l l' → n ≤ length l → RightFrom s n l' 0
+filled-right {s} {n} {l} f a k _ b =
+    let N = fewest_legs s n in
+    rw f.output
+    (get_or-padded (length l) k (tabulate n N) (omega (arith, length-tabulate n N)) ∙ get_d_tabulate n k N b)

@@ -15,16 +15,15 @@ use mathlib.Core.List.{List}
 use native.Mathlib.Omega.{arith}
 use lib.ListN.{length, get_or, take}
 use lib.Seq.{take-append_seam}
+use Rattle.std.proofs.Common.{Ok, Err}
 use Rattle.basics.specs.Lists.{tabulate, padded}
 use Rattle.basics.proofs.Order.{le-or-lt}
 use Rattle.basics.proofs.Lists.{length-padded, get_or-padded, get_or-padded-past, length-tabulate, get_d_tabulate}
-use Rattle.floor.specs.Refusals.{left_by}
+use Rattle.floor.specs.Refusals.{Shape, left_by}
 use Rattle.floor.specs.declared.Refusal.{Refusal}
-use Rattle.floor.specs.declared.Shape.{Shape}
-use Rattle.floor.specs.declared.Shape.TheVariants.{Good, Refused as BadShape}
 use Rattle.thinning.specs.Answer.{shape_answer}
-use Rattle.thinning.specs.declared.Thinned.TheVariants.{Kept, Refused}
-use Rattle.thinning.proofs.Recording.{chain, chain_more, chain-end}
+use Rattle.thinning.specs.Known.{chain}
+use Rattle.thinning.proofs.Recording.{chain_more, chain-end}
 use Rattle.legs.specs.Choices.{Choice, last, leg, fewest_legs}
 use Rattle.legs.specs.Answer.{legs_shape, check_answer, farthest_next, proposed_from, proposed}
 use Rattle.legs.specs.Answer.{propose_answer, kept_left, legs_left}
@@ -78,10 +77,10 @@ module _ (s : ℕ → ℕ → Bool) (n : ℕ) (steady : (i : ℕ) → suc i < n 
   proposed-choice c i a b = rw (← (proposed-chain s n c i)) (chain-choice c i a b)
 
 module _ (w h : ℕ) (map list : List ℕ) (k m n : ℕ) where
-  pub choice-accepted : legs_shape w h map list k m n ≡ Good → (l : List ℕ) → Choice (sight_on w h map list) n 0 l
+  pub choice-accepted : legs_shape w h map list k m n ≡ Ok tt → (l : List ℕ) → Choice (sight_on w h map list) n 0 l
       → length l ≡ suc (fewest_legs (sight_on w h map list) n 0)
       → check_answer w h map list n (padded k l) (length l)
-      (padded m (tabulate n (fewest_legs (sight_on w h map list) n))) ≡ Good
+      (padded m (tabulate n (fewest_legs (sight_on w h map list) n))) ≡ Ok tt
   choice-accepted good l c e =
       let s = sight_on w h map list in
       let g = good-legs w h map list k m n good in
@@ -95,8 +94,8 @@ module _ (w h : ℕ) (map list : List ℕ) (k m n : ℕ) where
       (rw (size, numbers) good, fewest-true s n j.sees k m l (omega (arith, g.kept_same)) j.some c e)
 
 module _ (w h : ℕ) (map list kept legs : List ℕ) (n : ℕ) where
-  pub proposal-accepted : (c : ℕ) → propose_answer w h map list kept legs n ≡ Kept c
-      → check_answer w h map list n (kept_left w h map list kept legs n) c (legs_left w h map list kept legs n) ≡ Good
+  pub proposal-accepted : (c : ℕ) → propose_answer w h map list kept legs n ≡ Ok c
+      → check_answer w h map list n (kept_left w h map list kept legs n) c (legs_left w h map list kept legs n) ≡ Ok tt
   unfolding propose_answer kept_left legs_left proposed
   proposal-accepted c e = cases (legs_shape w h map list (length kept) (length legs) n) refl e
     where
@@ -104,25 +103,25 @@ module _ (w h : ℕ) (map list kept legs : List ℕ) (n : ℕ) where
       s = sight_on w h map list
 
       cases : (t : Shape) → legs_shape w h map list (length kept) (length legs) n ≡ t
-          → shape_answer t (length (proposed s n)) ≡ Kept c
+          → shape_answer t (length (proposed s n)) ≡ Ok c
           → check_answer w h map list n (left_by t (padded (length kept) (proposed s n)) kept) c
-          (left_by t (padded (length legs) (tabulate n (fewest_legs s n))) legs) ≡ Good
-      cases Good q x =
+          (left_by t (padded (length legs) (tabulate n (fewest_legs s n))) legs) ≡ Ok tt
+      cases (Ok z) q x =
           let g = good-legs w h map list (length kept) (length legs) n q in
           let j = joined-on w h map list (length kept) (length legs) n g in
           let p = proposed-choice s n j.sees n 0 j.some (omega arith) in
           let z : length (proposed_from s n n 0) ≡ c = cc in
           rw z at (choice-accepted w h map list (length kept) (length legs) n q (proposed s n) p.0 p.1)
-      cases (BadShape r) q x = let z : ◌≡◌ {A = ℕ} 0 1 = cc in absurd (omega arith)
+      cases (Err r) q x = cc
 
-  pub refused-alike : (r : Refusal) (c : ℕ) → propose_answer w h map list kept legs n ≡ Refused r
-      → check_answer w h map list n kept c legs ≡ BadShape r
+  pub refused-alike : (r : Refusal) (c : ℕ) → propose_answer w h map list kept legs n ≡ Err r
+      → check_answer w h map list n kept c legs ≡ Err r
   unfolding propose_answer
   refused-alike r c e = cases (legs_shape w h map list (length kept) (length legs) n) refl e
     where
       cases : (t : Shape) → legs_shape w h map list (length kept) (length legs) n ≡ t
-          → shape_answer t (length (proposed (sight_on w h map list) n)) ≡ Refused r
-          → check_answer w h map list n kept c legs ≡ BadShape r
-      cases Good q x = let z : ◌≡◌ {A = ℕ} 0 1 = cc in absurd (omega arith)
-      cases (BadShape p) q x =
-          let z : p ≡ r = cc in sym (check-refused w h map list n kept c legs q) ∙ ap BadShape z
+          → shape_answer t (length (proposed (sight_on w h map list) n)) ≡ Err r
+          → check_answer w h map list n kept c legs ≡ Err r
+      cases (Ok z) q x = cc
+      cases (Err p) q x =
+          let same : p ≡ r = cc in sym (check-refused w h map list n kept c legs q) ∙ ap Err same

@@ -1,7 +1,5 @@
--- The refusals: what `legs_shape` comes to, and what an input has that is not refused.
+-- The refusals: what an input has that is not refused.
 --
---   shape-other, shape_same == `legs_shape` is the thinning's `list_shape`, of the first slice where its length is
---                              another than the list's, else of the second
 --   GoodLegs ..             == what an input has that is not refused
 --   joined-on               == what the code knows of such an input
 --   joined-few              == a joined list has at most 16,384 positions
@@ -10,18 +8,17 @@ use mathlib.Core.Path.{◌≡◌}
 use mathlib.Core.Bool.{true, ◌&&◌}
 use mathlib.Core.List.{List}
 use native.Mathlib.Omega.{arith}
-use borrow.Author.Tests.{leb-true, eq-eqb, eqb-true, ne_eqb}
+use borrow.Author.Tests.{leb-true, eqb-true}
 use lib.Dec.{leb, eqb}
 use lib.ListN.{length}
+use Rattle.std.proofs.Common.{Ok, Err}
 use Rattle.basics.specs.Bounded.{pick}
 use Rattle.basics.proofs.Bools.{and_both}
 use Rattle.floor.specs.Floor.{floor_of}
 use Rattle.floor.specs.Refusals.{floor_shape, and_then}
 use Rattle.floor.specs.declared.Refusal.TheVariants.{SliceLength, NotJoined}
-use Rattle.floor.specs.declared.Shape.TheVariants.{Good, Refused}
 use Rattle.floor.proofs.Shapes.{good-first, good-second, good-pick, GoodFloor, good-floor}
 use Rattle.thinning.specs.Thinning.{joined_list}
-use Rattle.thinning.specs.Answer.{list_shape}
 use Rattle.thinning.proofs.Shapes.{joined-list, joined-sees}
 use Rattle.legs.specs.Answer.{legs_shape}
 use Rattle.legs.specs.Known.{JoinedOn}
@@ -30,14 +27,6 @@ pub joined-few : {w h : ℕ} {map list : List ℕ} {n : ℕ} → JoinedOn w h ma
 joined-few j = omega (arith, j.listed.within, j.short)
 
 module _ (w h : ℕ) (map list : List ℕ) (k m n : ℕ) where
-  pub shape-other : (k ≡ length list → ⊥) → list_shape w h map list k n ≡ legs_shape w h map list k m n
-  unfolding list_shape legs_shape
-  shape-other ne = rw (ne_eqb k (length list) ne)
-
-  pub shape_same : k ≡ length list → list_shape w h map list m n ≡ legs_shape w h map list k m n
-  unfolding list_shape legs_shape
-  shape_same e = rw (eq-eqb k (length list) e)
-
   pub record GoodLegs : Type 0 where
     pub floor : GoodFloor w h map
     pub short : length list ≤ 16384
@@ -45,12 +34,12 @@ module _ (w h : ℕ) (map list : List ℕ) (k m n : ℕ) where
     pub legs-same : m ≡ length list
     pub joined : joined_list (floor_of w h map) list n ≡ true
 
-  pub good-legs : legs_shape w h map list k m n ≡ Good → GoodLegs
+  pub good-legs : legs_shape w h map list k m n ≡ Ok tt → GoodLegs
   unfolding legs_shape
   good-legs e =
       let sizes = leb (length list) 16384 && (eqb k (length list) && eqb m (length list)) in
-      let slices = pick sizes Good (Refused SliceLength) in
-      let points = pick (joined_list (floor_of w h map) list n) Good (Refused NotJoined) in
+      let slices = pick sizes (Ok tt) (Err SliceLength) in
+      let points = pick (joined_list (floor_of w h map) list n) (Ok tt) (Err NotJoined) in
       let x = good-first (floor_shape w h map) (and_then slices points) e in
       let y = good-second (floor_shape w h map) (and_then slices points) e in
       let all = good-pick SliceLength sizes (good-first slices points y) in

@@ -21,24 +21,22 @@
 --   legs_left ..          == the proposer's second slice afterwards: the fewest legs from each position, then 0;
 --                            untouched at a refusal
 --   Proposes ..           == the proposer's promise: `propose_answer`, `kept_left` and `legs_left`, for every input
-use Rattle.std.specs.Prelude.{ℕ, zero, suc, pred, ◌≡◌, Bool, ◌&&◌, ◌||◌, List, [], ◌∷◌, leb, ltb, eqb, length, get_or}
+use Rattle.std.specs.Prelude.{ℕ, zero, suc, pred, ◌≡◌, Bool, ◌&&◌, ◌||◌, List, [], ◌∷◌, leb, ltb, eqb, length, get_or, Result, Ok, Err}
 use Rattle.basics.specs.Bounded.{pick, every}
 use Rattle.basics.specs.Lists.{tabulate, padded}
 use Rattle.floor.specs.Floor.{floor_of}
-use Rattle.floor.specs.Refusals.{floor_shape, and_then, left_by}
+use Rattle.floor.specs.Refusals.{Shape, floor_shape, and_then, left_by}
+use Rattle.floor.specs.declared.Refusal.{Refusal}
 use Rattle.floor.specs.declared.Refusal.TheVariants.{SliceLength, NotJoined, FalseChoice}
-use Rattle.floor.specs.declared.Shape.{Shape}
-use Rattle.floor.specs.declared.Shape.TheVariants.{Good, Refused}
 use Rattle.thinning.specs.Thinning.{seen, joined_list}
 use Rattle.thinning.specs.Answer.{shape_answer}
-use Rattle.thinning.specs.declared.Thinned.{Thinned}
 use Rattle.legs.specs.Choices.{is_leg, fewest_legs}
 
 unfoldable pub legs_shape : ℕ → ℕ → List ℕ → List ℕ → ℕ → ℕ → ℕ → Shape
 legs_shape w h map list k m n =
     and_then (floor_shape w h map)
-    (and_then (pick (leb (length list) 16384 && (eqb k (length list) && eqb m (length list))) Good (Refused SliceLength))
-    (pick (joined_list (floor_of w h map) list n) Good (Refused NotJoined)))
+    (and_then (pick (leb (length list) 16384 && (eqb k (length list) && eqb m (length list))) (Ok tt) (Err SliceLength))
+    (pick (joined_list (floor_of w h map) list n) (Ok tt) (Err NotJoined)))
 
 -- ---- the checker
 
@@ -61,7 +59,7 @@ true_choice s n kept c legs =
 unfoldable pub check_answer : ℕ → ℕ → List ℕ → List ℕ → ℕ → List ℕ → ℕ → List ℕ → Shape
 check_answer w h map list n kept c legs =
     and_then (legs_shape w h map list (length kept) (length legs) n)
-    (pick (true_choice (seen (floor_of w h map) list) n kept c legs) Good (Refused FalseChoice))
+    (pick (true_choice (seen (floor_of w h map) list) n kept c legs) (Ok tt) (Err FalseChoice))
 
 -- ---- our own proposer
 
@@ -79,7 +77,7 @@ proposed_from s n (suc c) i = i ∷ pick (ltb (suc i) n) (proposed_from s n c (f
 unfoldable pub proposed : (ℕ → ℕ → Bool) → ℕ → List ℕ
 proposed s n = proposed_from s n n 0
 
-unfoldable pub propose_answer : ℕ → ℕ → List ℕ → List ℕ → List ℕ → List ℕ → ℕ → Thinned
+unfoldable pub propose_answer : ℕ → ℕ → List ℕ → List ℕ → List ℕ → List ℕ → ℕ → Result ℕ Refusal
 propose_answer w h map list kept legs n =
     shape_answer (legs_shape w h map list (length kept) (length legs) n)
     (length (proposed (seen (floor_of w h map) list) n))
@@ -94,7 +92,7 @@ legs_left w h map list kept legs n =
     left_by (legs_shape w h map list (length kept) (length legs) n)
     (padded (length legs) (tabulate n (fewest_legs (seen (floor_of w h map) list) n))) legs
 
-pub record Proposes (w h : ℕ) (map list kept legs : List ℕ) (n : ℕ) (r : Thinned) (kept' legs' : List ℕ) : Type 0 where
+pub record Proposes (w h : ℕ) (map list kept legs : List ℕ) (n : ℕ) (r : Result ℕ Refusal) (kept' legs' : List ℕ) : Type 0 where
   pub answer : r ≡ propose_answer w h map list kept legs n
   pub kept_after : kept' ≡ kept_left w h map list kept legs n
   pub legs_after : legs' ≡ legs_left w h map list kept legs n

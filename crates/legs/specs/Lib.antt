@@ -1,3 +1,4 @@
 pub mod Choices
 pub mod Answer
 pub mod Known
+pub mod Lists

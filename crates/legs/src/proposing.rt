@@ -1,94 +1,70 @@
 // Our own proposal.
 ghost use Rattle.std.specs.Prelude.{◌≡◌, suc, ◌≤◌, ◌<◌, ◌&&◌, eqb, length, get_or};
+ghost use Rattle.thinning.specs.Points.{seen_in};
 ghost use Rattle.legs.specs.Choices.{is_leg};
 ghost use Rattle.legs.specs.Answer.{farthest_next};
-ghost use Rattle.legs.specs.Known.{sight_on, JoinedOn, RightFrom, Filled, Recorded};
+ghost use Rattle.legs.specs.Known.{JoinedOn, Filled, Recorded};
+ghost use Rattle.legs.specs.Lists.{sight_in, RightIn};
 
-use crate::{ahead, numbers};
+use crate::leg_list::LegList;
+use thinning::PointList;
+
+// Fills the first slice with the proposed positions and the second with the fewest legs, both then 0, and returns how many
+// positions there are.
+pub fn fill(points: PointList<'_>, kept: &mut [u16], legs: &mut [u16]) -> usize
+    requires { JoinedOn points.floor.w points.floor.h points.floor.map.now points.list.now points.n
+        × (points.n ≤ length kept.old) × (points.n ≤ length legs.old) }
+    ensures positions { Recorded (seen_in points.entry) points.entry.n kept.old result
+        kept.new }
+    ensures numbers { Filled (seen_in points.entry) points.entry.n legs.old legs.new }
+{
+    fill_legs(points, legs);
+    LegList { points, legs }.record_kept(kept)
+}
 
 // Fills the slice with the fewest legs from each position, from the last on, then 0.
-pub fn fill_legs(w: usize, h: usize, map: &[u8], list: &[u16], legs: &mut [u16], n: usize)
-    requires { JoinedOn w h map.now list.now n × (n ≤ length legs.old) }
-    ensures { Filled (sight_on w h map.now list.now) n legs.old
-        legs.new }
+fn fill_legs(points: PointList<'_>, legs: &mut [u16])
+    requires { JoinedOn points.floor.w points.floor.h points.floor.map.now points.list.now points.n
+        × (points.n ≤ length legs.old) }
+    ensures { Filled (seen_in points.entry) points.entry.n legs.old legs.new }
 {
-    basics::clear_u16(legs);
-    let mut i = n - 1;
-    while 0 < i {
-        i -= 1;
-        let least = ahead::least_ahead(w, h, map, list, legs, n, i, n);
+    legs.fill(0);
+    for i in (0..points.n - 1).rev() {
+        let least = LegList { points, legs }.least_ahead(i, points.n);
         legs[i] = (least + 1) as u16;
     }
 }
 
-// Whether there is a leg from i to j that leaves one leg fewer. Sight is asked only where the numbers say so.
-fn goes_on(
-    w: usize,
-    h: usize,
-    map: &[u8],
-    list: &[u16],
-    legs: &[u16],
-    n: usize,
-    i: usize,
-    j: usize,
-) -> bool
-    requires { JoinedOn w h map.now list.now n × (n ≤ length legs.now) × (i < j) × (j < n) }
-    ensures { result ≡ (is_leg (sight_on w h map.now list.now) n i j
-        && eqb (get_or legs.now i 0) (suc (get_or legs.now j 0))) }
-{
-    if numbers::number_at(legs, i) != numbers::number_at(legs, j) + 1 {
-        return false;
+impl LegList<'_> {
+    // Whether there is a leg from i to j that leaves one leg fewer. Sight is asked only where the numbers say so.
+    fn goes_on(self, i: usize, j: usize) -> bool
+        requires { (i < j) × (j < self.points.n) }
+        ensures { result ≡ (is_leg (sight_in self.entry) self.entry.points.n i j
+            && eqb (get_or self.entry.legs.now i 0) (suc (get_or self.entry.legs.now j 0))) }
+    {
+        self.number(i) == self.number(j) + 1 && self.points.sees(i, j)
     }
-    thinning::seen_at(w, h, map, list, n, i, j)
-}
 
-// The farthest position to which i has a leg that leaves one leg fewer, sought from the last position down. There is
-// one.
-fn farthest_next(
-    w: usize,
-    h: usize,
-    map: &[u8],
-    list: &[u16],
-    legs: &[u16],
-    n: usize,
-    i: usize,
-) -> usize
-    requires { JoinedOn w h map.now list.now n × (n ≤ length legs.now) × (suc i < n)
-        × RightFrom (sight_on w h map.now list.now) n legs.now 0 }
-    ensures { result ≡ farthest_next (sight_on w h map.now list.now) n i }
-{
-    let mut j = n - 1;
-    loop {
-        if goes_on(w, h, map, list, legs, n, i, j) {
-            return j;
+    // The farthest position to which i has a leg that leaves one leg fewer, sought from the last position down. There
+    // is one.
+    fn farthest_next(self, i: usize) -> usize
+        requires { (suc i < self.points.n) × RightIn self }
+        ensures { result ≡ farthest_next (sight_in self.entry) self.entry.points.n i }
+    {
+        for j in (i + 1..self.points.n).rev() {
+            if self.goes_on(i, j) {
+                return j;
+            }
         }
-        j -= 1;
+        unreachable!()
     }
-}
 
-// Writes the proposed positions into the slice, then 0, and returns how many there are. Position 0, the first of them,
-// is written by the clearing.
-pub fn record_kept(
-    w: usize,
-    h: usize,
-    map: &[u8],
-    list: &[u16],
-    kept: &mut [u16],
-    legs: &[u16],
-    n: usize,
-) -> usize
-    requires { JoinedOn w h map.now list.now n × (n ≤ length kept.old) × (n ≤ length legs.now)
-        × RightFrom (sight_on w h map.now list.now) n legs.now 0 }
-    ensures { Recorded (sight_on w h map.now list.now) n kept.old result
-        kept.new }
-{
-    basics::clear_u16(kept);
-    let mut i: usize = 0;
-    let mut m: usize = 1;
-    while i + 1 < n {
-        i = farthest_next(w, h, map, list, legs, n, i);
-        kept[m] = i as u16;
-        m += 1;
+    // Writes the proposed positions into the slice, then 0, and returns how many there are.
+    pub fn record_kept(self, kept: &mut [u16]) -> usize
+        requires { (self.points.n ≤ length kept.old) × RightIn self }
+        ensures { Recorded (sight_in self.entry) self.entry.points.n kept.old result
+            kept.new }
+    {
+        thinning::record(self.points.n, kept, |i| self.farthest_next(i))
     }
-    m
 }

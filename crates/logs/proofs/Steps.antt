@@ -7,29 +7,26 @@
 --   stop-found      == where a step finds a stop, its four bytes lie in the log, the cursor has moved past them, and
 --                      the vertex number is below v
 --   stops-few       == a log has at most a quarter as many stops as bytes
---   is-end, is_cut, is-unmarked, is-off, is_stop == `stop_at` for each outcome of the code's tests
 use Prim.Native.Nat.{ℕ, zero, suc, ◌+◌, ◌-◌, ◌*◌, ◌≤◌, ◌<◌}
 use mathlib.Core.Path.{◌≡◌, refl, sym, ap, ◌∙◌}
-use mathlib.Core.Logic.{⊎_elim}
 use mathlib.Core.Bool.{Bool, true, false, ◌&&◌}
 use mathlib.Core.List.{List}
 use native.Mathlib.Omega.{arith}
-use borrow.Author.Tests.{leb-true, leb-false, ltb-true, le-leb, lt-leb, lt-ltb}
+use borrow.Author.Tests.{leb-true, leb-false, ltb-true}
 use lib.Dec.{leb, ltb}
 use lib.ListN.{length}
+use Rattle.std.specs.Prelude.{Ok, Err, Some, None}
 use Rattle.basics.specs.Bounded.{pick}
-use Rattle.basics.proofs.Bools.{and_both, true-or-false}
+use Rattle.basics.proofs.Bools.{and_both}
 use Rattle.records.specs.Format.{word_at, marked_at, whole_at}
-use Rattle.logs.specs.Log.{good_stop, stop_at, cursor_at, closed, with_stop, and_rest, steps, log_from, log_of}
+use Rattle.logs.specs.Log.{LogStep, bad_stop, good_stop, stop_at, cursor_at, closed, with_stop, and_rest, steps, log_from, log_of}
 use Rattle.logs.specs.declared.LogCursor.{LogCursor}
-use Rattle.logs.specs.declared.LogStep.{LogStep}
-use Rattle.logs.specs.declared.LogStep.TheVariants.{Stop, End, Bad}
 
 pub data Finding (s : List ℕ) (v : ℕ) (c : LogCursor) : LogStep → Type 0 where
-  at-end : length s ≤ c.at → Finding s v c End
+  at-end : length s ≤ c.at → Finding s v c (Ok None)
   a-stop : c.at + 4 ≤ length s → word_at s (c.at + 2) < v → marked_at s c.at 0x56 0x54 ≡ true
-      → Finding s v c (Stop (word_at s (c.at + 2)) (cursor_at (c.at + 4)))
-  no_stop : c.at < length s → good_stop s v c.at ≡ false → Finding s v c Bad
+      → Finding s v c (Ok (Some (word_at s (c.at + 2), cursor_at (c.at + 4))))
+  no_stop : c.at < length s → good_stop s v c.at ≡ false → Finding s v c (Err bad_stop)
 
 good-stop : (s : List ℕ) (v : ℕ) (c : LogCursor) → good_stop s v c.at ≡ true
     → (c.at + 4 ≤ length s) × (word_at s (c.at + 2) < v) × (marked_at s c.at 0x56 0x54 ≡ true)
@@ -44,7 +41,7 @@ unfolding stop_at
 finding s v c = cases (leb (length s) c.at) (good_stop s v c.at) refl refl
   where
     cases : (e g : Bool) → leb (length s) c.at ≡ e → good_stop s v c.at ≡ g
-        → Finding s v c (pick e End (pick g (Stop (word_at s (c.at + 2)) (cursor_at (c.at + 4))) Bad))
+        → Finding s v c (pick e (Ok None) (pick g (Ok (Some (word_at s (c.at + 2), cursor_at (c.at + 4)))) (Err bad_stop)))
     cases true g p q = at-end (leb-true (length s) c.at p)
     cases false true p q = let r = good-stop s v c q in a-stop r.0 r.1 r.2
     cases false false p q = no_stop (leb-false (length s) c.at p) q
@@ -54,15 +51,16 @@ pub record Stopped (s : List ℕ) (v : ℕ) (c : LogCursor) (x : ℕ) (d : LogCu
   pub whole : c.at + 4 ≤ length s
   pub inside : x < v
 
-pub stop-found : (s : List ℕ) (v : ℕ) (c : LogCursor) (x : ℕ) (d : LogCursor) → stop_at s v c ≡ Stop x d
+pub stop-found : (s : List ℕ) (v : ℕ) (c : LogCursor) (x : ℕ) (d : LogCursor) → stop_at s v c ≡ Ok (Some (x, d))
     → Stopped s v c x d
 stop-found s v c x d e = cases (stop_at s v c) (finding s v c) e
   where
-    cases : (r : LogStep) → Finding s v c r → r ≡ Stop x d → Stopped s v c x d
+    cases : (r : LogStep) → Finding s v c r → r ≡ Ok (Some (x, d)) → Stopped s v c x d
     cases _ (at-end h) q = let z : ◌≡◌ {A = ℕ} 0 1 = cc in absurd (omega arith)
-    cases _ (a-stop h w m) q =
-        let i : word_at s (c.at + 2) ≡ x = cc in
-        let j : cursor_at (c.at + 4) ≡ d = cc in
+    cases _ (a-stop h w m) e =
+        let q : (word_at s (c.at + 2), cursor_at (c.at + 4)) ≡ (x, d) = cc in
+        let i : word_at s (c.at + 2) ≡ x = ap (λ (r : ℕ × LogCursor). r.0) q in
+        let j : cursor_at (c.at + 4) ≡ d = ap (λ (r : ℕ × LogCursor). r.1) q in
         record { moved = sym (ap (λ k. k.at) j); whole = h; inside = omega arith }
     cases _ (no_stop h g) q = let z : ◌≡◌ {A = ℕ} 0 1 = cc in absurd (omega arith)
 
@@ -120,33 +118,3 @@ few (suc n) s v c l = cases (stop_at s v c) (finding s v c) (λ d h. few n s v d
 pub stops-few : (s : List ℕ) (v : ℕ) → 4 * length (log_of s v).stops ≤ length s
 unfolding log_from
 stops-few s v = omega (arith, few (suc (length s - 0)) s v (cursor_at 0) (omega arith))
-
--- ---- the step, as the code tests it
-
-module _ (s : List ℕ) (v : ℕ) (c : LogCursor) where
-  pub is-end : length s ≤ c.at → End ≡ stop_at s v c
-  unfolding stop_at
-  is-end l = rw (le-leb (length s) c.at l)
-
-  not_good : (good_stop s v c.at ≡ true → ⊥) → good_stop s v c.at ≡ false
-  not_good h = ⊎_elim (λ e. absurd (h e)) (λ e. e) (true-or-false (good_stop s v c.at))
-
-  bad-where : c.at < length s → (good_stop s v c.at ≡ true → ⊥) → Bad ≡ stop_at s v c
-  unfolding stop_at
-  bad-where l h = rw (lt-leb (length s) c.at l, not_good h)
-
-  pub is_cut : c.at < length s → length s < c.at + 4 → Bad ≡ stop_at s v c
-  is_cut l h = bad-where l (λ e. absurd (omega (arith, (good-stop s v c e).0)))
-
-  pub is-unmarked : c.at < length s → (marked_at s c.at 0x56 0x54 ≡ true → ⊥) → Bad ≡ stop_at s v c
-  is-unmarked l h = bad-where l (λ e. h (good-stop s v c e).2)
-
-  pub is-off : c.at < length s → v ≤ word_at s (c.at + 2) → Bad ≡ stop_at s v c
-  is-off l h = bad-where l (λ e. absurd (omega (arith, (good-stop s v c e).1)))
-
-  pub is_stop : c.at + 4 ≤ length s → marked_at s c.at 0x56 0x54 ≡ true → word_at s (c.at + 2) < v
-      → Stop (word_at s (c.at + 2)) (cursor_at (c.at + 4)) ≡ stop_at s v c
-  unfolding stop_at good_stop
-  is_stop w m l =
-      let inside = lt-leb (length s) c.at (omega arith) in
-      rw (inside, m, le-leb (c.at + 4) (length s) w, lt-ltb (word_at s (c.at + 2)) v l)

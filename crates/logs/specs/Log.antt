@@ -2,18 +2,24 @@
 -- number.
 --
 --   cursor_at p     == the cursor at place p
+--   bad_stop        == the bad record, of which nothing more is said
 --   good_stop s v p == a whole record with the mark 56 54 hex stands at place p of s and names one of v vertices
---   stop_at s v c   == what a step of the cursor c finds: a stop with the cursor moved past it, the end, or a bad
---                      record, which is cut short, has a wrong mark or names no vertex
+--   LogStep         == what a step finds: a stop with the cursor moved past it, nothing at the end, or a bad record
+--   stop_at s v c   == what a step of the cursor c finds; a bad record is cut short, has a wrong mark or names no vertex
 --   Log             == the stops read in turn, and whether a bad record ended the reading
 --   log_from s v c  == the log s read from the cursor c on
 --   log_of s v      == the log s read from its start
-use Rattle.std.specs.Prelude.{ℕ, zero, suc, ◌+◌, ◌-◌, Bool, true, false, ◌&&◌, List, [], ◌∷◌, leb, ltb, length}
+use Rattle.std.specs.Prelude.{ℕ, zero, suc, ◌+◌, ◌-◌, Bool, true, false, ◌&&◌, List, [], ◌∷◌, leb, ltb, length, Result, Ok, Err, Option, Some, None}
 use Rattle.basics.specs.Bounded.{pick}
 use Rattle.records.specs.Format.{word_at, marked_at, whole_at}
 use Rattle.logs.specs.declared.LogCursor.{LogCursor}
-use Rattle.logs.specs.declared.LogStep.{LogStep}
-use Rattle.logs.specs.declared.LogStep.TheVariants.{Stop, End, Bad}
+use Rattle.logs.specs.declared.BadStop.{BadStop}
+
+abbrev pub LogStep : Type 0
+LogStep = Result (Option (ℕ × LogCursor)) BadStop
+
+abbrev pub bad_stop : BadStop
+bad_stop = record {}
 
 abbrev pub cursor_at : ℕ → LogCursor
 cursor_at p = record { at = p }
@@ -23,8 +29,8 @@ good_stop s v p = marked_at s p 0x56 0x54 && whole_at s p 4 && ltb (word_at s (p
 
 unfoldable pub stop_at : List ℕ → ℕ → LogCursor → LogStep
 stop_at s v c =
-    pick (leb (length s) c.at) End
-    (pick (good_stop s v c.at) (Stop (word_at s (c.at + 2)) (cursor_at (c.at + 4))) Bad)
+    pick (leb (length s) c.at) (Ok None)
+    (pick (good_stop s v c.at) (Ok (Some (word_at s (c.at + 2), cursor_at (c.at + 4)))) (Err bad_stop))
 
 pub record Log : Type 0 where
   pub stops : List ℕ
@@ -38,9 +44,9 @@ with_stop v l = record { stops = v ∷ l.stops; broken = l.broken }
 
 -- What a step found, and after a stop the log that `rest` reads from the cursor handed back.
 abbrev pub and_rest : LogStep → (LogCursor → Log) → Log
-and_rest (Stop v c) rest = with_stop v (rest c)
-and_rest End rest = closed false
-and_rest Bad rest = closed true
+and_rest (Ok (Some (v, c))) rest = with_stop v (rest c)
+and_rest (Ok None) rest = closed false
+and_rest (Err e) rest = closed true
 
 -- The log read in at most n steps. `log_from` never uses them up, by the law `log-step` of proofs/Steps.antt.
 unfoldable pub steps : ℕ → List ℕ → ℕ → LogCursor → Log

@@ -12,13 +12,14 @@
 --   past_skip, past-hit       == `Cleared` one vertex past (x, y), where its mask marks no pinch, and where it marks
 --                                one
 --   cleared-all               == masks that are `Cleared` past the last vertex are those of the open moves
-use Prim.Native.Nat.{ℕ, suc, ◌≤◌, ◌<◌}
+use Prim.Native.Nat.{ℕ, suc, ◌+◌, ◌≤◌, ◌<◌}
 use mathlib.Core.Path.{◌≡◌, refl, sym, ap, ap₂, subst, ◌∙◌}
 use mathlib.Core.Logic.{⊎_elim}
 use mathlib.Core.Bool.{Bool, true, false, ◌&&◌, ◌||◌, not, and-true, and-false, true≢false}
 use mathlib.Core.List.{List}
 use mathlib.Core.Option.{Option, none, some}
 use native.Mathlib.Omega.{arith}
+use Rattle.std.proofs.lemmas.Bool.Decides.{nat_tests}
 use borrow.Author.Tests.{lt-ltb, le-ltb, eq-eqb, ne_eqb, eqb-true}
 use lib.Bits.{bit_xor}
 use lib.Dec.{ltb, eqb}
@@ -29,7 +30,7 @@ use Rattle.basics.specs.Bits.{bit}
 use Rattle.basics.proofs.Bools.{iff-eq, and_intro, and_left, and_right}
 use Rattle.basics.proofs.Bounded.{every-at, any-cases, any-one}
 use Rattle.basics.proofs.Options.{none-some}
-use Rattle.basics.proofs.Order.{le-or-lt, eq-or-ne}
+use Rattle.basics.proofs.Order.{eq-or-ne}
 use Rattle.floor.specs.Floor.{Floor, vertices, number, column, row}
 use Rattle.floor.proofs.Numbers.{number_lt, number_of, column-le, column-number, row_number}
 use Rattle.sight.specs.Sight.{Segment, segment, pinch, sees}
@@ -101,9 +102,7 @@ clears-more {w} {h} {x} {y} {n} {r} {l} {k} {t} A B = record {
 }
   where
     both : (a b c : Bool) → ((a && not b) && not c) ≡ (a && not (b || c))
-    both true true c = refl
-    both true false c = refl
-    both false b c = refl
+    both a b c = grind arith
 
 -- ---- back again
 
@@ -250,16 +249,8 @@ module _ (f : Floor) (r : Directions) (listed : Listed r) where
     past : (b : Bool) (w : ℕ) → (pinch f (X v) (Y v) ≡ true)
         → ((b && not (pinch f (X w) (Y w) && ltb w v)) && not (eqb w v))
         ≡ (b && not (pinch f (X w) (Y w) && ltb w (suc v)))
-    past b w p = ⊎_elim
-        (λ (e : w ≡ v). rw (e, p, eq-eqb v v refl, lt-ltb v (suc v) (omega arith), and-false b)
-        (and-false (b && not (true && ltb v v))))
-        (λ (n : w ≡ v → ⊥).
-        rw (ne_eqb w v n, next w n) (and-true (b && not (pinch f (X w) (Y w) && ltb w (suc v))))) (eq-or-ne w v)
-      where
-        next : (w : ℕ) → (w ≡ v → ⊥) → ltb w v ≡ ltb w (suc v)
-        next w n = ⊎_elim (λ (l : suc w ≤ v). lt-ltb w v l ∙ sym (lt-ltb w (suc v) (omega arith)))
-            (λ (l : v < suc w). le-ltb w v (omega arith) ∙ sym (le-ltb w (suc v) (omega (arith, n))))
-            (le-or-lt (suc w) v)
+    past b w p = ⊎_elim (λ (e : w ≡ v). rw (e, p) (grind (arith, nat_tests))) (λ (n : w ≡ v → ⊥). grind (arith, nat_tests))
+        (eq-or-ne w v)
 
     dir-past : (u k : ℕ) → pinch f (X v) (Y v) ≡ true → (o : Option ℕ) → end u k ≡ o
         → (dir_if (cleared_to v) f (X u) (Y u) k && not (leads_to o v)) ≡ dir_if (cleared_to (suc v)) f (X u) (Y u) k
@@ -299,10 +290,7 @@ module _ (f : Floor) (r : Directions) (listed : Listed r) where
         ∙ sym (dir-to (cleared_to (suc v)) u k w e ∙ cleared-to (suc v) u w)
       where
         same : (w : ℕ) → (pinch f (X w) (Y w) && ltb w v) ≡ (pinch f (X w) (Y w) && ltb w (suc v))
-        same w = ⊎_elim (λ (l : suc w ≤ v). rw (lt-ltb w v l, lt-ltb w (suc v) (omega arith)))
-            (λ (l : v < suc w). ⊎_elim (λ (s : w ≡ v). rw (s, p))
-            (λ (n : w ≡ v → ⊥). rw (le-ltb w v (omega arith), le-ltb w (suc v) (omega (arith, n)))) (eq-or-ne w v))
-            (le-or-lt (suc w) v)
+        same w = ⊎_elim (λ (s : w ≡ v). rw (s, p)) (λ (n : w ≡ v → ⊥). grind (arith, nat_tests)) (eq-or-ne w v)
 
     pub cleared-skip : {q : Directions} {l : List ℕ} → pinch f (X v) (Y v) ≡ false → Cleared f q v l
         → Cleared f q (suc v) l
@@ -324,14 +312,14 @@ module _ (f : Floor) (r : Directions) (listed : Listed r) where
     is-pinch : bit (get_or l v 0) pinch_bit ≡ pinch f (X v) (Y v)
     is-pinch = C.mark v inside
 
-    next : suc v ≡ number W (suc x) y
+    next : suc v ≡ number W (x + 1) y
     next = omega arith
 
-    pub past_skip : bit (get_or l v 0) pinch_bit ≡ false → Cleared f q (number W (suc x) y) l
+    pub past_skip : bit (get_or l v 0) pinch_bit ≡ false → Cleared f q (number W (x + 1) y) l
     past_skip e = rw next at (cleared-skip v (sym is-pinch ∙ e) C)
 
     pub past-hit : {l' : List ℕ} → bit (get_or l v 0) pinch_bit ≡ true → ClearsTo W H r x y r.count l l'
-        → Cleared f q (number W (suc x) y) l'
+        → Cleared f q (number W (x + 1) y) l'
     past-hit {l'} e R =
         rw next
         at (cleared-hit v {l' = l'} I inside (sym is-pinch ∙ e) C (rw (column-number W x y on, row_number W x y on) R))

@@ -1,3 +1,4 @@
 pub mod Masks
 pub mod Windows
 pub mod Clearing
+pub mod Tables

@@ -7,6 +7,7 @@
 --   open-window         == whether a move is open in a floor of 2 by 2 cells, by the bits of the number of its window
 --   pinch-window        == whether the middle of a floor of 2 by 2 cells is a pinch, by the bits of the number of its
 --                          window
+--   dir-shifted, dir-where == the code's bit of a direction is 2^k
 --   Gathered r T n mask == the mask has the directions of those of the first n moves of r that pass the test T, and no
 --                          other bit
 --   gathered_none, -more, -all == `Gathered` of no move, and of one move more; of all moves it is the mask of a window
@@ -29,22 +30,20 @@
 --                          vertex
 use Prim.Native.Nat.{ℕ, zero, suc, ◌+◌, ◌-◌, ◌*◌, ◌%◌, ◌^◌, ◌≤◌, ◌<◌}
 use mathlib.Core.Path.{◌≡◌, refl, sym, ap, ap₂, ◌∙◌, subst}
-use mathlib.Core.Logic.{⊎_elim}
-use mathlib.Core.Bool.{Bool, true, false, ◌&&◌, ◌||◌, not, and-true, and-false, or-false}
+use mathlib.Core.Bool.{Bool, true, false, ◌&&◌, ◌||◌, not, and-true, and-false}
 use mathlib.Core.List.{List}
 use native.Mathlib.Omega.{arith}
 use borrow.Author.Tests.{eq-eqb, eqb-true, leb-true, not-true}
 use lib.Bits.{bit_or, bit_and}
+use mir.Val.{bool_byte}
 use lib.Dec.{leb, eqb}
 use lib.IntN.{ℤ, pos, negsuc, nat_abs}
 use lib.ListN.{length, set, length-set, get_or}
-use lib.Seq.{get_or-set_same, get_or-set_other}
 use Rattle.basics.specs.Bounded.{pick, every, any, bounded-opened}
 use Rattle.basics.specs.Bits.{bit}
 use Rattle.basics.proofs.Bits.{bit-zero, bit-or, bit-and, pick-bit}
 use Rattle.basics.proofs.Bools.{iff-eq, and_intro, and_left, and_right, not-both}
 use Rattle.basics.proofs.Bounded.{every-at, any-cases, any-one}
-use Rattle.basics.proofs.Order.{le-or-lt}
 use Rattle.floor.specs.Floor.{Floor, cell_number, floor_of, blocked}
 use Rattle.floor.specs.Window.{WindowMap}
 use Rattle.floor.proofs.Cells.{blocked-inside, blocked-right}
@@ -63,7 +62,7 @@ use Rattle.masks.specs.Masks.{dir_if, pinch_bit, pinch_mask, Leaving, LeavingRow
 use Rattle.masks.specs.Windows.{window_at, pinch_of, open_in, start_of, Window, WindowsTo, WindowRow, WindowLines}
 use Rattle.masks.specs.Windows.{unit_dirs, all_bits, unit_mask, left_mask, right_mask, upper_mask, lower_mask}
 use Rattle.masks.specs.Windows.{joined_mask}
-use Rattle.masks.proofs.Masks.{leaves-dir}
+use Rattle.masks.proofs.Masks.{leaves-dir, set-more}
 
 -- ---- the four cells
 
@@ -75,32 +74,14 @@ pub record Bits (a b c d : Bool) (n : ℕ) : Type 0 where
   pub fourth : bit n 3 ≡ d
 
 window-bits : (a b c d : Bool) → Bits a b c d ((pick a 1 0 + pick c 4 0) + 2 * (pick b 1 0 + pick d 4 0))
-window-bits true true true true = record { first = refl; second = refl; third = refl; fourth = refl }
-window-bits true true true false = record { first = refl; second = refl; third = refl; fourth = refl }
-window-bits true true false true = record { first = refl; second = refl; third = refl; fourth = refl }
-window-bits true true false false = record { first = refl; second = refl; third = refl; fourth = refl }
-window-bits true false true true = record { first = refl; second = refl; third = refl; fourth = refl }
-window-bits true false true false = record { first = refl; second = refl; third = refl; fourth = refl }
-window-bits true false false true = record { first = refl; second = refl; third = refl; fourth = refl }
-window-bits true false false false = record { first = refl; second = refl; third = refl; fourth = refl }
-window-bits false true true true = record { first = refl; second = refl; third = refl; fourth = refl }
-window-bits false true true false = record { first = refl; second = refl; third = refl; fourth = refl }
-window-bits false true false true = record { first = refl; second = refl; third = refl; fourth = refl }
-window-bits false true false false = record { first = refl; second = refl; third = refl; fourth = refl }
-window-bits false false true true = record { first = refl; second = refl; third = refl; fourth = refl }
-window-bits false false true false = record { first = refl; second = refl; third = refl; fourth = refl }
-window-bits false false false true = record { first = refl; second = refl; third = refl; fourth = refl }
-window-bits false false false false = record { first = refl; second = refl; third = refl; fourth = refl }
+window-bits a b c d = record { first = grind arith; second = grind arith; third = grind arith; fourth = grind arith }
 
 window-cells : (f : Floor) (x y : ℕ)
     → Bits (blocked f x y) (blocked f (suc x) y) (blocked f x (suc y)) (blocked f (suc x) (suc y)) (window_at f x y)
 window-cells f x y = window-bits (blocked f x y) (blocked f (suc x) y) (blocked f x (suc y)) (blocked f (suc x) (suc y))
 
 pub pair_small : (a b : Bool) → pick a 1 0 + pick b 4 0 ≤ 5
-pair_small true true = omega arith
-pair_small true false = omega arith
-pair_small false true = omega arith
-pair_small false false = omega arith
+pair_small a b = grind arith
 
 pub window-small : (f : Floor) (x y : ℕ) → window_at f x y < 16
 window-small f x y =
@@ -163,6 +144,11 @@ start-centre (negsuc (suc (suc n))) h = absurd (omega arith)
 pub dir-shifted : (k : ℕ) → k < dir_count → 1 * 2 ^ k % 4294967296 ≡ 2 ^ k
 unfolding bounded-opened
 dir-shifted k l = eqb-true _ _ (every-at dir_count (λ k. eqb (1 * 2 ^ k % 4294967296) (2 ^ k)) refl k l)
+
+-- The bit of direction k where a test holds, as the code makes it.
+pub dir-where : (b : Bool) (k : ℕ) → k < dir_count → bool_byte b * 2 ^ k % 4294967296 ≡ pick b (2 ^ k) 0
+dir-where true k l = dir-shifted k l
+dir-where false k l = omega arith
 
 -- A mask has direction k where it is the direction of one of the first n moves of r, and that move passes the test.
 pub record Gathered (r : Directions) (T : ℕ → Bool) (n mask : ℕ) : Type 0 where
@@ -278,10 +264,7 @@ pub windows-more : {r : Directions} {k n : ℕ} {l : List ℕ} → WindowsTo r k
     → WindowsTo r (suc k) (set l k n)
 windows-more {r} {k} {n} {l} W i M = record {
   len = length-set l k n ∙ W.len;
-  at = λ b h. ⊎_elim (λ (lt : suc b ≤ k). rw (get_or-set_other l k b n 0 (λ e. omega arith)) (W.at b lt))
-      (λ (ge : k < suc b).
-      let e : b ≡ k = omega arith in
-      rw (e, get_or-set_same l k n 0 (omega (arith, W.len))) M) (le-or-lt (suc b) k);
+  at = set-more l (Window r) W.at (omega (arith, W.len)) M;
 }
 
 -- n is the mask of the window at (x, y).
@@ -310,10 +293,7 @@ pub read_more : {f : Floor} {y n b : ℕ} {t l : List ℕ} → WindowRow f y t n
     → WindowRow f y t (suc n) (set l n (get_or t b 0))
 read_more {f} {y} {n} {b} {t} {l} R i e = record {
   len = length-set l n (get_or t b 0) ∙ R.len;
-  at = λ x h. ⊎_elim (λ (lt : suc x ≤ n). get_or-set_other l n x (get_or t b 0) 0 (λ e. omega arith) ∙ R.at x lt)
-      (λ (ge : n < suc x).
-      let s : x ≡ n = omega arith in
-      rw (s, get_or-set_same l n (get_or t b 0) 0 (omega (arith, R.len))) (ap (λ k. get_or t k 0) e)) (le-or-lt (suc x) n);
+  at = set-more l (λ x m. m ≡ get_or t (window_at f x y) 0) R.at (omega (arith, R.len)) (ap (λ k. get_or t k 0) e);
 }
 
 pub listed-sixteen : {r : Directions} → Listed r → r.count ≡ 16 → r ≡ sixteen_dirs
@@ -378,38 +358,16 @@ unit-rows {r} {f} {y} {t} {l} listed u in-y W R = record {
 
 -- Of a pinch's four cells, one of each two that lie side by side is blocked.
 upper-shut : (ul ur ll lr : Bool) → (not (ul || ur) && not (pinch_of ul ur ll lr)) ≡ not (ul || ur)
-upper-shut true ur ll lr = refl
-upper-shut false true ll lr = refl
-upper-shut false false ll true = refl
-upper-shut false false ll false = refl
+upper-shut ul ur ll lr = grind arith
 
 lower-shut : (ul ur ll lr : Bool) → (not (ll || lr) && not (pinch_of ul ur ll lr)) ≡ not (ll || lr)
-lower-shut ul ur true lr = refl
-lower-shut ul ur false true = refl
-lower-shut true true false false = refl
-lower-shut true false false false = refl
-lower-shut false true false false = refl
-lower-shut false false false false = refl
+lower-shut ul ur ll lr = grind arith
 
 left-shut : (ul ur ll lr : Bool) → (not (ul || ll) && not (pinch_of ul ur ll lr)) ≡ not (ul || ll)
-left-shut true ur ll lr = refl
-left-shut false ur true lr = refl
-left-shut false true false true = refl
-left-shut false true false false = refl
-left-shut false false false true = refl
-left-shut false false false false = refl
+left-shut ul ur ll lr = grind arith
 
 right-shut : (ul ur ll lr : Bool) → (not (ur || lr) && not (pinch_of ul ur ll lr)) ≡ not (ur || lr)
-right-shut ul true ll lr = refl
-right-shut ul false ll true = refl
-right-shut true false ll false = refl
-right-shut false false true false = refl
-right-shut false false false false = refl
-
-or-none : (t b : Bool) → (t || (b && false)) ≡ t
-or-none true b = refl
-or-none false true = refl
-or-none false false = refl
+right-shut ul ur ll lr = grind arith
 
 module _ (here left right upper lower : ℕ) where
   abbrev far-mask : ℕ
@@ -427,83 +385,30 @@ module _ (here left right upper lower : ℕ) where
   abbrev five : ℕ → Bool → Bool → Bool → Bool → Bool → Bool → Bool
   five k a b c d e s = (bit here k && a) || (four k b c d e && s)
 
-  four-bit : (k : ℕ) → bit far-mask k ≡ four k (bit left_mask k) (bit right_mask k) (bit upper_mask k) (bit lower_mask k)
-  four-bit k =
-      bit-or (bit_or (bit_or (bit_and left left_mask) (bit_and right right_mask)) (bit_and upper upper_mask))
-      (bit_and lower lower_mask) k
-      ∙ ap₂ ◌||◌
-      (bit-or (bit_or (bit_and left left_mask) (bit_and right right_mask)) (bit_and upper upper_mask) k
-      ∙ ap₂ ◌||◌
-      (bit-or (bit_and left left_mask) (bit_and right right_mask) k
-      ∙ ap₂ ◌||◌ (bit-and left left_mask k) (bit-and right right_mask k)) (bit-and upper upper_mask k))
-      (bit-and lower lower_mask k)
-
   joined-bit : (s k : ℕ) → bit (joined-with s) k
       ≡ five k (bit unit_mask k) (bit left_mask k) (bit right_mask k) (bit upper_mask k) (bit lower_mask k) (bit s k)
-  joined-bit s k =
-      bit-or (bit_and here unit_mask) (bit_and far-mask s) k
-      ∙ ap₂ ◌||◌ (bit-and here unit_mask k) (bit-and far-mask s k ∙ ap (λ t. t && bit s k) (four-bit k))
+  joined-bit s k = simp (bit-or, bit-and)
 
   module _ (k : ℕ) where
-    abbrev A : Bool
-    A = bit here k
+    -- A bit that one of the constants alone has is that of the window of that constant.
+    of-here : five k true false false false false true ≡ bit here k
+    of-here = grind arith
 
-    abbrev B : Bool
-    B = bit left k
+    of_left : five k false true false false false true ≡ bit left k
+    of_left = grind arith
 
-    abbrev C : Bool
-    C = bit right k
+    of_right : five k false false true false false true ≡ bit right k
+    of_right = grind arith
 
-    abbrev D : Bool
-    D = bit upper k
+    of-upper : five k false false false true false true ≡ bit upper k
+    of-upper = grind arith
 
-    abbrev E : Bool
-    E = bit lower k
-
-    none_2 : ((B && false) || (C && false)) ≡ false
-    none_2 = or-none (B && false) C ∙ and-false B
-
-    none-3 : (((B && false) || (C && false)) || (D && false)) ≡ false
-    none-3 = or-none ((B && false) || (C && false)) D ∙ none_2
-
-    none-4 : four k false false false false ≡ false
-    none-4 = or-none (((B && false) || (C && false)) || (D && false)) E ∙ none-3
-
-    of-here : five k true false false false false true ≡ A
-    of-here = ap₂ (λ s t. s || (t && true)) (and-true A) none-4 ∙ or-false A
-
-    -- A bit that `unit_mask` does not have is that of the far window whose constant has it.
-    of-far : (b c d e t : Bool) → four k b c d e ≡ t → five k false b c d e true ≡ t
-    of-far b c d e t is = ap₂ (λ s t. s || (t && true)) (and-false A) is ∙ and-true t
-
-    of_left : five k false true false false false true ≡ B
-    of_left =
-        of-far true false false false B
-        (or-none (((B && true) || (C && false)) || (D && false)) E ∙ or-none ((B && true) || (C && false)) D
-        ∙ or-none (B && true) C ∙ and-true B)
-
-    of_right : five k false false true false false true ≡ C
-    of_right =
-        of-far false true false false C
-        (or-none (((B && false) || (C && true)) || (D && false)) E ∙ or-none ((B && false) || (C && true)) D
-        ∙ ap (λ t. t || (C && true)) (and-false B) ∙ and-true C)
-
-    of-upper : five k false false false true false true ≡ D
-    of-upper =
-        of-far false false true false D
-        (or-none (((B && false) || (C && false)) || (D && true)) E
-        ∙ ap (λ t. t || (D && true)) none_2 ∙ and-true D)
-
-    of-lower : five k false false false false true true ≡ E
-    of-lower = of-far false false false true E (ap (λ t. t || (E && true)) none-3 ∙ and-true E)
+    of-lower : five k false false false false true true ≡ bit lower k
+    of-lower = grind arith
 
     -- Where the four far masks are left out, a bit is that of the window at the vertex.
-    none-far : bit (joined-with 0) k ≡ (A && bit unit_mask k)
-    none-far =
-        bit-or (bit_and here unit_mask) (bit_and far-mask 0) k
-        ∙ ap₂ ◌||◌ (bit-and here unit_mask k)
-        (bit-and far-mask 0 k ∙ ap (λ t. bit far-mask k && t) (bit-zero k) ∙ and-false (bit far-mask k))
-        ∙ or-false (A && bit unit_mask k)
+    none-far : bit (joined-with 0) k ≡ (bit here k && bit unit_mask k)
+    none-far = simp (bit-or, bit-and, bit-zero) (grind arith)
 
 module _ (listed : Listed sixteen_dirs) (f : Floor) (x y : ℕ) (on : x ≤ f.wide) (in-y : y ≤ f.high)
     {here left right upper lower : ℕ} (H : Cells sixteen_dirs f x y here) (L : Cells sixteen_dirs f (x - 1) y left)

@@ -1,8 +1,8 @@
 -- The tests of the shape of the input, and what each step of the code says of the answer.
 --
---   mend-refused, -old, -second, -work, -fit == `mend_shape` by the tests of the code, in their order
 --   job-is-fit, job-mendable == where `mend_shape` is fit, so is the job; and it is `Mendable`
---   mends-refused, mends-fit == the operation's answer by the shape
+--   mends-sheet              == the operation's answer where the shape is good
+--   plan-costing             == the costs of a `Plannable` job can be filled
 --   plan-finishable          == a `Plannable` job can be finished, once the costs from its start are filled
 --   planned-of               == `PlannedSheet` of the filled costs and the finished job
 --   alike-shaped             == `AlikeSheets` of two sheets of v places each
@@ -12,42 +12,36 @@
 use Prim.Native.Nat.{ℕ, ◌*◌}
 use mathlib.Core.Path.{◌≡◌, refl, sym, ◌∙◌}
 use mathlib.Core.Logic.{⊎_elim}
-use mathlib.Core.Bool.{Bool, true, false, ◌&&◌, not}
+use mathlib.Core.Bool.{Bool, true, false, ◌&&◌}
 use mathlib.Core.List.{List}
-use borrow.Author.Tests.{eqb-true, eq-eqb, ne_eqb, not-true, not-false}
+use borrow.Author.Tests.{eqb-true}
 use lib.Dec.{eqb}
 use lib.ListN.{length}
+use Rattle.std.specs.Prelude.{Result, Ok, Err}
 use Rattle.basics.proofs.Bools.{true-or-false, and_left, and_right}
 use Rattle.floor.specs.Floor.{floor_of, vertices}
 use Rattle.floor.specs.declared.Refusal.{Refusal}
-use Rattle.floor.specs.declared.Refusal.TheVariants.{SliceLength}
 use Rattle.moves.specs.declared.Directions.{Directions}
 use Rattle.paths.specs.Graph.{Graph}
 use Rattle.paths.specs.Sheet.{Sheet, sheet_of, joined, fits, route_sheet, no_route_sheet}
 use Rattle.paths.specs.Local.{Shaped}
 use Rattle.paths.proofs.Sheets.{lengths-shaped}
 use Rattle.grid.specs.Grid.{floor_graph, job_shape}
-use Rattle.grid.specs.declared.JobShape.{JobShape}
-use Rattle.grid.specs.declared.JobShape.TheVariants.{Fit, Refused as BadJob}
-use Rattle.grid.proofs.Jobs.{good-job, refused-fit}
-use Rattle.distances.specs.Costs.{FilledCosts}
-use Rattle.planner.specs.declared.Planned.{Planned}
-use Rattle.planner.specs.Plan.{Slices, route_answer, route_left, plan_number, plan_points}
+use Rattle.grid.proofs.Jobs.{good-job, start-alone, refused-fit}
+use Rattle.distances.specs.Costs.{Costing, FilledCosts}
+use Rattle.checker.specs.Answer.{sheet_sized}
+use Rattle.planner.specs.Plan.{Planned, Slices, slices_of, route_answer, route_left}
 use Rattle.planner.specs.Parts.{Finishable, Finished}
 use Rattle.mending.specs.declared.Differences.{Differences}
-use Rattle.mending.specs.declared.Lengths.{Lengths}
-use Rattle.mending.specs.declared.Mended.{Mended}
-use Rattle.mending.specs.declared.Mended.TheVariants.{Refused}
 use Rattle.mending.specs.Mending.{
   MendSlices,
+  MendAnswer,
   mend_slices_of,
   sheet_in,
   sheet_differences,
   sheet_answer,
   with_costs,
   sheet_left,
-  sheet_lengths,
-  sheet_sized,
   if_sized,
   mend_shape,
   shape_for,
@@ -59,60 +53,20 @@ use Rattle.mending.specs.Known.{answer_by, AlikeSheets, Plannable, PlannedSheet,
 
 -- ---- the shape
 
-module _ (w h : ℕ) (map : List ℕ) (nb a b : ℕ) (old second : Lengths) (work : ℕ) (j : JobShape)
-    (told : j ≡ job_shape w h map nb a b) where
-  pub mend-refused : (z : Refusal) → j ≡ BadJob z → j ≡ mend_shape w h map nb a b old second work
-  unfolding mend_shape
-  mend-refused z t = let e = sym told ∙ t in rw (e, t)
-
-  module _ (dirs : Directions) (t : j ≡ Fit dirs) where
-    fit : job_shape w h map nb a b ≡ Fit dirs
-    fit = sym told ∙ t
-
-    module _ (v : ℕ) (count : v ≡ vertices w h) (p : Bool) (first : p ≡ sheet_sized v old) where
-      first-is : p ≡ sheet_sized (vertices w h) old
-      first-is = rw count at first
-
-      pub mend-old : not p ≡ true → BadJob SliceLength ≡ mend_shape w h map nb a b old second work
-      unfolding mend_shape
-      mend-old n = rw (fit, sym first-is ∙ not-true p n)
-
-      module _ (passed : not p ≡ false) (q : Bool) (last : q ≡ sheet_sized v second) where
-        first_good : sheet_sized (vertices w h) old ≡ true
-        first_good = sym first-is ∙ not-false p passed
-
-        last-is : q ≡ sheet_sized (vertices w h) second
-        last-is = rw count at last
-
-        pub mend-second : not q ≡ true → BadJob SliceLength ≡ mend_shape w h map nb a b old second work
-        unfolding mend_shape
-        mend-second n = rw (fit, first_good, sym last-is ∙ not-true q n)
-
-        module _ (passed' : not q ≡ false) where
-          last-good : sheet_sized (vertices w h) second ≡ true
-          last-good = sym last-is ∙ not-false q passed'
-
-          pub mend-work : (work ≡ 4 * v → ⊥) → BadJob SliceLength ≡ mend_shape w h map nb a b old second work
-          unfolding mend_shape
-          mend-work n = rw (fit, first_good, last-good, ne_eqb work (4 * vertices w h) (rw count at n))
-
-          pub mend-fit : work ≡ 4 * v → Fit dirs ≡ mend_shape w h map nb a b old second work
-          unfolding mend_shape
-          mend-fit n = rw (fit, first_good, last-good, eq-eqb work (4 * vertices w h) (rw count at n))
-
 -- Where `if_sized z j` is fit, z is true and j is fit.
-sized-fit : (z : Bool) (j : JobShape) {dirs : Directions} → if_sized z j ≡ Fit dirs → (z ≡ true) × (j ≡ Fit dirs)
-sized-fit true (Fit r) e = (refl, e)
-sized-fit false (Fit r) e = refused-fit e
-sized-fit z (BadJob r) e = refused-fit e
+sized-fit : (z : Bool) (j : Result Directions Refusal) {dirs : Directions} → if_sized z j ≡ Ok dirs
+    → (z ≡ true) × (j ≡ Ok dirs)
+sized-fit true (Ok r) e = (refl, e)
+sized-fit false (Ok r) e = refused-fit e
+sized-fit z (Err r) e = refused-fit e
 
-sized-shaped : (v : ℕ) (s : Sheet) → sheet_sized v (sheet_lengths s) ≡ true → Shaped v s
+sized-shaped : (v : ℕ) (s : Sheet) → sheet_sized v s ≡ true → Shaped v s
 unfolding sheet_sized
 sized-shaped v s t = lengths-shaped v s t
 
 module _ (w h : ℕ) (map : List ℕ) (nb a b : ℕ) (old : Sheet) (s : MendSlices) (dirs : Directions)
-    (fit : shape_for w h map nb a b old s ≡ Fit dirs) where
-  pub job-is-fit : job_shape w h map nb a b ≡ Fit dirs
+    (fit : shape_for w h map nb a b old s ≡ Ok dirs) where
+  pub job-is-fit : job_shape w h map nb a b ≡ Ok dirs
   unfolding mend_shape
   job-is-fit = (sized-fit _ (job_shape w h map nb a b) fit).1
 
@@ -120,8 +74,8 @@ module _ (w h : ℕ) (map : List ℕ) (nb a b : ℕ) (old : Sheet) (s : MendSlic
   unfolding mend_shape
   job-mendable =
       let v = vertices w h in
-      let O = sheet_sized v (sheet_lengths old) in
-      let S = sheet_sized v (sheet_lengths (sheet_in s 0)) in
+      let O = sheet_sized v old in
+      let S = sheet_sized v (sheet_in s 0) in
       let W = eqb (length s.work) (4 * v) in
       let t = sized-fit (O && S && W) (job_shape w h map nb a b) fit in
       let both = and_left (O && S) W t.0 in
@@ -136,25 +90,22 @@ module _ (w h : ℕ) (map : List ℕ) (nb a b : ℕ) (old : Sheet) (s : MendSlic
         damaged = sized-shaped v old (and_left O S both);
       }
 
-module _ {w h : ℕ} {map : List ℕ} {nb a b : ℕ} {old : Sheet} {s : MendSlices} {j : JobShape}
-    (told : j ≡ shape_for w h map nb a b old s) where
-  pub mends-refused : {z : Refusal} {s' : MendSlices} → j ≡ BadJob z → s' ≡ s
-      → Mends w h map nb a b old s (Refused z) s'
-  unfolding mend_answer mend_left
-  mends-refused t q = let e = sym told ∙ t in record { answer = rw e; left = rw e q }
-
-  pub mends-fit : {dirs : Directions} {r : Mended} {s' : MendSlices} → j ≡ Fit dirs
-      → MendsSheet (floor_graph (floor_of w h map) dirs) a b old r s'
-      → Mends w h map nb a b old s r s'
-  unfolding mend_answer mend_left
-  mends-fit t P = let e = sym told ∙ t in record { answer = rw e P.answer; left = rw e P.left }
+pub mends-sheet : {w h : ℕ} {map : List ℕ} {nb a b : ℕ} {old : Sheet} {s s' : MendSlices} {dirs : Directions} {r : MendAnswer}
+    → shape_for w h map nb a b old s ≡ Ok dirs → MendsSheet (floor_graph (floor_of w h map) dirs) a b old r s'
+    → Mends w h map nb a b old s r s'
+unfolding mend_answer mend_left
+mends-sheet e P = record { answer = rw e P.answer; left = rw e P.left }
 
 -- ---- the true sheet
+
+pub plan-costing : {w h : ℕ} {map : List ℕ} {dirs : Directions} {a b : ℕ} {s : MendSlices} → Plannable w h map dirs a b s
+    → Costing w h map dirs a s.d s.work
+plan-costing P = record { job = start-alone P.job; d_len = P.lent.sheet.d; work_len = P.lent.work_len }
 
 module _ {w h : ℕ} {map : List ℕ} {dirs : Directions} {a b : ℕ} {d e f back route next work d' work' : List ℕ} where
   pub plan-finishable : Plannable w h map dirs a b (mend_slices_of d e f back route next work)
       → FilledCosts (floor_graph (floor_of w h map) dirs) a d' work' → length d' ≡ length d → length work' ≡ length work
-      → Finishable w h map dirs a b d' e f back route next work'
+      → Finishable w h map dirs a b d' (slices_of e f back route next work')
   plan-finishable P F d-same work-same = record {
     job = P.job;
     lent = record {
@@ -206,17 +157,15 @@ alike-left d e f back route next M qd qe qf qb qr qx =
 
 -- The planner's answer to a job, with the differences to what it leaves, is the answer of the operation.
 by-planner : (g : Graph) (a b : ℕ) (old : Sheet)
-    → answer_by (plan_number (route_answer g a b)) (plan_points (route_answer g a b))
-    (sheet_differences old (sheet_in (sheet_left g a b) 0))
-    ≡ sheet_answer g a b old
-unfolding answer_by route_answer route_left sheet_answer sheet_left route_sheet no_route_sheet
+    → answer_by (route_answer g a b) (sheet_differences old (sheet_in (sheet_left g a b) 0)) ≡ sheet_answer g a b old
+unfolding route_answer route_left sheet_answer sheet_left route_sheet no_route_sheet
 by-planner g a b old = ⊎_elim
     (λ (j : joined g a b ≡ true).
     ⊎_elim (λ (f : fits g a b ≡ true). rw (j, f)) (λ (f : fits g a b ≡ false). rw (j, f)) (true-or-false (fits g a b)))
     (λ (j : joined g a b ≡ false). rw j) (true-or-false (joined g a b))
 
-pub mended-of : {g : Graph} {a b : ℕ} {old : Sheet} {p : Planned} {s : MendSlices} {c : Differences} {r : Mended}
-    → PlannedSheet g a b p s → c ≡ sheet_differences old (sheet_in s 0) → r ≡ answer_by (plan_number p) (plan_points p) c
+pub mended-of : {g : Graph} {a b : ℕ} {old : Sheet} {p : Planned} {s : MendSlices} {c : Differences} {r : MendAnswer}
+    → PlannedSheet g a b p s → c ≡ sheet_differences old (sheet_in s 0) → r ≡ answer_by p c
     → MendsSheet g a b old r s
 mended-of {g} {a} {b} {old} P e q =
     record { answer = q ∙ rw (e, P.answer, P.left) (by-planner g a b old); left = P.left }

@@ -17,6 +17,7 @@ use mathlib.Core.Bool.{true, false}
 use mathlib.Core.List.{List}
 use native.Mathlib.Omega.{arith}
 use lib.ListN.{length}
+use Rattle.std.specs.Prelude.{Result, Ok, Err}
 use Rattle.basics.specs.Lists.{differences}
 use Rattle.basics.proofs.Bools.{true-or-false, not-both}
 use Rattle.basics.proofs.Counting.{differences-same, differences-none}
@@ -32,23 +33,21 @@ use Rattle.paths.specs.Local.{Shaped}
 use Rattle.paths.proofs.Sheets.{shaped-lengths, same_sheet-exact, sheet-eq, route-entries, no_route-entries}
 use Rattle.planner.specs.Plan.{route_left}
 use Rattle.grid.specs.Grid.{floor_graph, job_shape}
-use Rattle.grid.specs.declared.JobShape.{JobShape}
-use Rattle.grid.specs.declared.JobShape.TheVariants.{Fit, Refused as BadJob}
 use Rattle.grid.proofs.Jobs.{good-job}
 use Rattle.grid.proofs.Lawful.{floor-lawful}
-use Rattle.checker.specs.Answer.{verdict, sheet_sized as checkedSized, check_answer}
-use Rattle.checker.specs.declared.Checked.TheVariants.{Route as AcceptedRoute, NoRoute as AcceptedNoRoute}
+use Rattle.checker.specs.Answer.{verdict, sheet_sized, check_answer}
+use Rattle.checker.specs.declared.SheetKind.TheVariants.{Route, NoRoute}
 use Rattle.mending.specs.declared.Differences.{Differences}
-use Rattle.mending.specs.declared.Mended.{Mended}
-use Rattle.mending.specs.declared.Mended.TheVariants.{Route, NoRoute, Refused}
 use Rattle.mending.specs.Mending.{
   MendSlices,
+  MendAnswer,
   sheet_in,
   sheet_differences,
   no_differences,
+  by_route,
+  by_none,
   sheet_answer,
   sheet_left,
-  sheet_lengths,
   shape_for,
   job_answer,
   job_left,
@@ -65,11 +64,11 @@ use Rattle.mending.proofs.Refused.{other, mend-other}
 
 -- ---- the true sheets of a job
 
-shaped-sized : (v : ℕ) (s : Sheet) → Shaped v s → checkedSized v s ≡ true
-unfolding checkedSized
+shaped-sized : (v : ℕ) (s : Sheet) → Shaped v s → sheet_sized v s ≡ true
+unfolding sheet_sized
 shaped-sized v s S = shaped-lengths v s S
 
-module _ (w h : ℕ) (map : List ℕ) (nb a b : ℕ) (dirs : Directions) (fit : job_shape w h map nb a b ≡ Fit dirs)
+module _ (w h : ℕ) (map : List ℕ) (nb a b : ℕ) (dirs : Directions) (fit : job_shape w h map nb a b ≡ Ok dirs)
     (s : Sheet) where
   abbrev g : Graph
   g = floor_graph (floor_of w h map) dirs
@@ -83,7 +82,7 @@ module _ (w h : ℕ) (map : List ℕ) (nb a b : ℕ) (dirs : Directions) (fit : 
   none-shaped : TrueNoRoute g a b s → Shaped g.size s
   none-shaped T = (no_route-entries g a b s T).shape
 
-  pub takes-route : TrueRoute g a b s → check_answer w h map nb a b s ≡ AcceptedRoute
+  pub takes-route : TrueRoute g a b s → check_answer w h map nb a b s ≡ Ok Route
   unfolding check_answer verdict
   takes-route T =
       rw (
@@ -94,7 +93,7 @@ module _ (w h : ℕ) (map : List ℕ) (nb a b : ℕ) (dirs : Directions) (fit : 
         (same_sheet-exact s (route_sheet g a b)).1 T.is,
       )
 
-  pub takes_none : TrueNoRoute g a b s → check_answer w h map nb a b s ≡ AcceptedNoRoute
+  pub takes_none : TrueNoRoute g a b s → check_answer w h map nb a b s ≡ Ok NoRoute
   unfolding check_answer verdict
   takes_none T =
       rw (
@@ -106,17 +105,17 @@ module _ (w h : ℕ) (map : List ℕ) (nb a b : ℕ) (dirs : Directions) (fit : 
 
 -- ---- the ways in which a call ends
 
-pub data Ending (w h : ℕ) (map : List ℕ) (nb a b : ℕ) (old : Sheet) (s' : MendSlices) : Mended → Type 0 where
-  with-route : (dirs : Directions) (n : ℕ) → job_shape w h map nb a b ≡ Fit dirs
+pub data Ending (w h : ℕ) (map : List ℕ) (nb a b : ℕ) (old : Sheet) (s' : MendSlices) : MendAnswer → Type 0 where
+  with-route : (dirs : Directions) (n : ℕ) → job_shape w h map nb a b ≡ Ok dirs
       → TrueRoute (floor_graph (floor_of w h map) dirs) a b (sheet_in s' n) → AlikeSheets old (sheet_in s' n)
-      → Ending w h map nb a b old s' (Route n (sheet_differences old (sheet_in s' n)))
-  without-route : (dirs : Directions) → job_shape w h map nb a b ≡ Fit dirs
+      → Ending w h map nb a b old s' (by_route n (sheet_differences old (sheet_in s' n)))
+  without-route : (dirs : Directions) → job_shape w h map nb a b ≡ Ok dirs
       → TrueNoRoute (floor_graph (floor_of w h map) dirs) a b (sheet_in s' 0) → AlikeSheets old (sheet_in s' 0)
-      → Ending w h map nb a b old s' (NoRoute (sheet_differences old (sheet_in s' 0)))
-  with-refusal : (z : Refusal) → other (refusal_number z) ≡ true → Ending w h map nb a b old s' (Refused z)
+      → Ending w h map nb a b old s' (by_none (sheet_differences old (sheet_in s' 0)))
+  with-refusal : (z : Refusal) → other (refusal_number z) ≡ true → Ending w h map nb a b old s' (Err z)
 
 module _ (w h : ℕ) (map : List ℕ) (nb a b : ℕ) (old : Sheet) where
-  sheet-ending : (dirs : Directions) → job_shape w h map nb a b ≡ Fit dirs → Shaped (vertices w h) old
+  sheet-ending : (dirs : Directions) → job_shape w h map nb a b ≡ Ok dirs → Shaped (vertices w h) old
       → let g = floor_graph (floor_of w h map) dirs in
       Ending w h map nb a b old (sheet_left g a b) (sheet_answer g a b old)
   unfolding sheet_answer sheet_left route_left route_sheet no_route_sheet
@@ -143,39 +142,39 @@ module _ (w h : ℕ) (map : List ℕ) (nb a b : ℕ) (old : Sheet) where
   unfolding mend_left mend_answer
   outcome-ending s = cases (shape_for w h map nb a b old s) refl
     where
-      cases : (j : JobShape) → shape_for w h map nb a b old s ≡ j
+      cases : (j : Result Directions Refusal) → shape_for w h map nb a b old s ≡ j
           → Ending w h map nb a b old (job_left w h map a b s j) (job_answer w h map a b old j)
-      cases (BadJob z) q =
+      cases (Err z) q =
           with-refusal z
-          (mend-other w h map nb a b (sheet_lengths old) (sheet_lengths (sheet_in s 0)) (length s.work) q)
-      cases (Fit dirs) q =
+          (mend-other w h map nb a b old (sheet_in s 0) s.work q)
+      cases (Ok dirs) q =
           sheet-ending dirs (job-is-fit w h map nb a b old s dirs q)
           (job-mendable w h map nb a b old s dirs q).damaged
 
-pub ending : {w h : ℕ} {map : List ℕ} {nb a b : ℕ} {old : Sheet} {s s' : MendSlices} {r : Mended}
+pub ending : {w h : ℕ} {map : List ℕ} {nb a b : ℕ} {old : Sheet} {s s' : MendSlices} {r : MendAnswer}
     → Mends w h map nb a b old s r s' → Ending w h map nb a b old s' r
 ending {w} {h} {map} {nb} {a} {b} {old} {s} M = rw (M.answer, M.left) (outcome-ending w h map nb a b old s)
 
 -- ---- the checker
 
-module _ {w h : ℕ} {map : List ℕ} {nb a b : ℕ} {old : Sheet} {s s' : MendSlices} {r : Mended}
+module _ {w h : ℕ} {map : List ℕ} {nb a b : ℕ} {old : Sheet} {s s' : MendSlices} {r : MendAnswer}
     (M : Mends w h map nb a b old s r s') where
   pub mended-route : mend_number r ≡ 0
-      → check_answer w h map nb a b (sheet_in s' (mend_points r)) ≡ AcceptedRoute
+      → check_answer w h map nb a b (sheet_in s' (mend_points r)) ≡ Ok Route
   mended-route = cases r (ending M)
     where
-      cases : (x : Mended) → Ending w h map nb a b old s' x → mend_number x ≡ 0
-          → check_answer w h map nb a b (sheet_in s' (mend_points x)) ≡ AcceptedRoute
+      cases : (x : MendAnswer) → Ending w h map nb a b old s' x → mend_number x ≡ 0
+          → check_answer w h map nb a b (sheet_in s' (mend_points x)) ≡ Ok Route
       cases _ (with-route dirs n fit T l) e = takes-route w h map nb a b dirs fit (sheet_in s' n) T
       cases _ (without-route dirs fit T l) e = absurd (omega arith)
       cases _ (with-refusal z o) e = not-both _ o (ap other e)
 
   pub mended-none : mend_number r ≡ 7
-      → check_answer w h map nb a b (sheet_in s' (mend_points r)) ≡ AcceptedNoRoute
+      → check_answer w h map nb a b (sheet_in s' (mend_points r)) ≡ Ok NoRoute
   mended-none = cases r (ending M)
     where
-      cases : (x : Mended) → Ending w h map nb a b old s' x → mend_number x ≡ 7
-          → check_answer w h map nb a b (sheet_in s' (mend_points x)) ≡ AcceptedNoRoute
+      cases : (x : MendAnswer) → Ending w h map nb a b old s' x → mend_number x ≡ 7
+          → check_answer w h map nb a b (sheet_in s' (mend_points x)) ≡ Ok NoRoute
       cases _ (with-route dirs n fit T l) e = absurd (omega arith)
       cases _ (without-route dirs fit T l) e = takes_none w h map nb a b dirs fit (sheet_in s' 0) T
       cases _ (with-refusal z o) e = not-both _ o (ap other e)
@@ -219,12 +218,12 @@ exact-whole c s t E n = (
         → c ≡ no_differences
     all_none c d e f b r x = rw (d, e, f, b, r, x)
 
-module _ {w h : ℕ} {map : List ℕ} {nb a b : ℕ} {old : Sheet} {s s' : MendSlices} {r : Mended}
+module _ {w h : ℕ} {map : List ℕ} {nb a b : ℕ} {old : Sheet} {s s' : MendSlices} {r : MendAnswer}
     (M : Mends w h map nb a b old s r s') (mended : (mend_number r ≡ 0) ⊎ (mend_number r ≡ 7)) where
   pub counts-exact : Exact (mend_differences r) old (sheet_in s' old.n)
   counts-exact = cases r (ending M) mended
     where
-      cases : (x : Mended) → Ending w h map nb a b old s' x → (mend_number x ≡ 0) ⊎ (mend_number x ≡ 7)
+      cases : (x : MendAnswer) → Ending w h map nb a b old s' x → (mend_number x ≡ 0) ⊎ (mend_number x ≡ 7)
           → Exact (mend_differences x) old (sheet_in s' old.n)
       cases _ (with-route dirs n fit T l) e = differences-exact old (sheet_in s' old.n) (alike-still s' l)
       cases _ (without-route dirs fit T l) e = differences-exact old (sheet_in s' old.n) (alike-still s' l)

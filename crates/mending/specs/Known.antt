@@ -1,33 +1,30 @@
 -- Used by contracts between functions; nobody has to believe it: laws tie it to the definitions.
 -- What the functions of the operation require and leave.
 --
---   answer_by k n c        == the answer of the operation, where the planner's has the number k and n points, and the
---                             differences are c
+--   answer_by p c          == the answer of the operation, where the planner's is p and the differences are c
 --   AlikeSheets s t        == each slice of the sheet s is as long as that of the sheet t
 --   Plannable ..           == a good job, and slices of the lengths that the planner needs
 --   PlannedSheet g a b r s == the planner's answer r and the slices s are those of the job from a to b on graph g
 --   Mendable ..            == `Plannable`, and a damaged sheet whose slices have a place for each vertex
 --   MendsSheet ..          == the answer r and the slices s are those of the operation, where none of refusals 1 to 5,
 --                             11 and 6 applies
-use Rattle.std.specs.Prelude.{ℕ, ◌≡◌, List, eqb, length}
+use Rattle.std.specs.Prelude.{ℕ, ◌≡◌, List, eqb, length, Ok, Err}
 use Rattle.basics.specs.Bounded.{pick}
 use Rattle.floor.specs.Floor.{vertices}
-use Rattle.floor.specs.declared.Refusal.TheVariants.{TooMany}
+use Rattle.floor.specs.Refusals.{refusal_number}
 use Rattle.moves.specs.declared.Directions.{Directions}
 use Rattle.paths.specs.Graph.{Graph}
 use Rattle.paths.specs.Sheet.{Sheet}
 use Rattle.paths.specs.Local.{Shaped}
 use Rattle.grid.specs.Known.{GoodJob}
-use Rattle.planner.specs.declared.Planned.{Planned}
-use Rattle.planner.specs.Plan.{route_answer}
+use Rattle.planner.specs.Plan.{Planned, route_answer}
 use Rattle.planner.specs.Parts.{FullSlices}
 use Rattle.mending.specs.declared.Differences.{Differences}
-use Rattle.mending.specs.declared.Mended.{Mended}
-use Rattle.mending.specs.declared.Mended.TheVariants.{Route, NoRoute, Refused}
-use Rattle.mending.specs.Mending.{MendSlices, sheet_answer, sheet_left}
+use Rattle.mending.specs.Mending.{MendSlices, MendAnswer, by_route, by_none, sheet_answer, sheet_left}
 
-unfoldable pub answer_by : ℕ → ℕ → Differences → Mended
-answer_by k n c = pick (eqb k 0) (Route n c) (pick (eqb k 7) (NoRoute c) (Refused TooMany))
+abbrev pub answer_by : Planned → Differences → MendAnswer
+answer_by (Ok p) c = by_route p.points c
+answer_by (Err r) c = pick (eqb (refusal_number r) 7) (by_none c) (Err r)
 
 pub record AlikeSheets (s t : Sheet) : Type 0 where
   pub d : length s.d ≡ length t.d
@@ -49,6 +46,6 @@ pub record Mendable (w h : ℕ) (map : List ℕ) (dirs : Directions) (a b : ℕ)
   pub plannable : Plannable w h map dirs a b s
   pub damaged : Shaped (vertices w h) old
 
-pub record MendsSheet (g : Graph) (a b : ℕ) (old : Sheet) (r : Mended) (s : MendSlices) : Type 0 where
+pub record MendsSheet (g : Graph) (a b : ℕ) (old : Sheet) (r : MendAnswer) (s : MendSlices) : Type 0 where
   pub answer : r ≡ sheet_answer g a b old
   pub left : s ≡ sheet_left g a b

@@ -22,23 +22,22 @@
 --   mend_number, mend_points, mend_differences == the number (rule 6.1) and the values (rule 6.4) of an answer
 --
 -- A damaged sheet is a `Sheet`; its point count is not read.
-use Rattle.std.specs.Prelude.{ℕ, ◌*◌, ◌≡◌, Bool, ◌&&◌, List, eqb, length}
+use Rattle.std.specs.Prelude.{ℕ, ◌*◌, ◌≡◌, Bool, ◌&&◌, List, eqb, length, Result, Ok, Err, Option, Some, None}
 use Rattle.basics.specs.Bounded.{pick}
 use Rattle.basics.specs.Lists.{tabulate, differences}
 use Rattle.floor.specs.Floor.{floor_of, vertices}
 use Rattle.floor.specs.Refusals.{refusal_number}
-use Rattle.floor.specs.declared.Refusal.TheVariants.{SliceLength, NoRoute as NoRouteRefusal, TooMany}
+use Rattle.floor.specs.declared.Refusal.{Refusal}
+use Rattle.floor.specs.declared.Refusal.TheVariants.{SliceLength, NoRoute, TooMany}
+use Rattle.moves.specs.declared.Directions.{Directions}
 use Rattle.paths.specs.Graph.{Graph}
 use Rattle.paths.specs.Distance.{distance}
 use Rattle.paths.specs.Sheet.{Sheet, sheet_of, joined, fits, route_sheet, no_route_sheet}
 use Rattle.grid.specs.Grid.{floor_graph, job_shape}
-use Rattle.grid.specs.declared.JobShape.{JobShape}
-use Rattle.grid.specs.declared.JobShape.TheVariants.{Fit, Refused as BadJob}
+use Rattle.checker.specs.Answer.{sheet_sized}
 use Rattle.planner.specs.Plan.{Slices, route_left}
 use Rattle.mending.specs.declared.Differences.{Differences}
-use Rattle.mending.specs.declared.Lengths.{Lengths}
 use Rattle.mending.specs.declared.Mended.{Mended}
-use Rattle.mending.specs.declared.Mended.TheVariants.{Route, NoRoute, Refused}
 
 pub record MendSlices : Type 0 where
   pub d : List ℕ
@@ -71,11 +70,21 @@ sheet_differences s t = record {
 abbrev pub no_differences : Differences
 no_differences = record { d = 0; e = 0; f = 0; back = 0; route = 0; next = 0 }
 
-unfoldable pub sheet_answer : Graph → ℕ → ℕ → Sheet → Mended
+abbrev pub MendAnswer : Type 0
+MendAnswer = Result Mended Refusal
+
+-- What is answered where a walk joins the ends by a route of n points, and where none does.
+abbrev pub by_route : ℕ → Differences → MendAnswer
+by_route n c = Ok (record { points = Some n; differences = c })
+
+abbrev pub by_none : Differences → MendAnswer
+by_none c = Ok (record { points = None; differences = c })
+
+unfoldable pub sheet_answer : Graph → ℕ → ℕ → Sheet → MendAnswer
 sheet_answer g a b s =
     pick (joined g a b)
-    (pick (fits g a b) (Route (route_sheet g a b).n (sheet_differences s (route_sheet g a b))) (Refused TooMany))
-    (NoRoute (sheet_differences s (no_route_sheet g a)))
+    (pick (fits g a b) (by_route (route_sheet g a b).n (sheet_differences s (route_sheet g a b))) (Err TooMany))
+    (by_none (sheet_differences s (no_route_sheet g a)))
 
 -- d beside the slices that the planner finishes.
 abbrev pub with_costs : List ℕ → Slices → MendSlices
@@ -86,67 +95,57 @@ sheet_left g a b = with_costs (tabulate g.size (distance g a)) (route_left g a b
 
 -- ---- for every input
 
-abbrev pub sheet_lengths : Sheet → Lengths
-sheet_lengths s = record {
-  d = length s.d;
-  e = length s.e;
-  f = length s.f;
-  back = length s.b;
-  route = length s.route;
-  next = length s.next;
-}
-
-unfoldable pub sheet_sized : ℕ → Lengths → Bool
-sheet_sized v l =
-    eqb l.d v && eqb l.e v && eqb l.f v && eqb l.back v && eqb l.route v && eqb l.next v
-
 -- The shape of the job, but refusal 6 where it is fit and z says that the slices have wrong lengths.
-abbrev pub if_sized : Bool → JobShape → JobShape
-if_sized z (Fit dirs) = pick z (Fit dirs) (BadJob SliceLength)
-if_sized z (BadJob r) = BadJob r
+abbrev pub if_sized : Bool → Result Directions Refusal → Result Directions Refusal
+if_sized z (Ok dirs) = pick z (Ok dirs) (Err SliceLength)
+if_sized z (Err r) = Err r
 
-unfoldable pub mend_shape : ℕ → ℕ → List ℕ → ℕ → ℕ → ℕ → Lengths → Lengths → ℕ → JobShape
+unfoldable pub mend_shape : ℕ → ℕ → List ℕ → ℕ → ℕ → ℕ → Sheet → Sheet → List ℕ → Result Directions Refusal
 mend_shape w h map nb a b old second work =
     let v = vertices w h in
-    if_sized (sheet_sized v old && sheet_sized v second && eqb work (4 * v)) (job_shape w h map nb a b)
+    if_sized (sheet_sized v old && sheet_sized v second && eqb (length work) (4 * v)) (job_shape w h map nb a b)
 
-abbrev pub shape_for : ℕ → ℕ → List ℕ → ℕ → ℕ → ℕ → Sheet → MendSlices → JobShape
-shape_for w h map nb a b old s =
-    mend_shape w h map nb a b (sheet_lengths old) (sheet_lengths (sheet_in s 0)) (length s.work)
+abbrev pub shape_for : ℕ → ℕ → List ℕ → ℕ → ℕ → ℕ → Sheet → MendSlices → Result Directions Refusal
+shape_for w h map nb a b old s = mend_shape w h map nb a b old (sheet_in s 0) s.work
 
-abbrev pub job_answer : ℕ → ℕ → List ℕ → ℕ → ℕ → Sheet → JobShape → Mended
-job_answer w h map a b old (Fit dirs) = sheet_answer (floor_graph (floor_of w h map) dirs) a b old
-job_answer w h map a b old (BadJob r) = Refused r
+abbrev pub job_answer : ℕ → ℕ → List ℕ → ℕ → ℕ → Sheet → Result Directions Refusal → MendAnswer
+job_answer w h map a b old (Ok dirs) = sheet_answer (floor_graph (floor_of w h map) dirs) a b old
+job_answer w h map a b old (Err r) = Err r
 
-abbrev pub job_left : ℕ → ℕ → List ℕ → ℕ → ℕ → MendSlices → JobShape → MendSlices
-job_left w h map a b s (Fit dirs) = sheet_left (floor_graph (floor_of w h map) dirs) a b
-job_left w h map a b s (BadJob r) = s
+abbrev pub job_left : ℕ → ℕ → List ℕ → ℕ → ℕ → MendSlices → Result Directions Refusal → MendSlices
+job_left w h map a b s (Ok dirs) = sheet_left (floor_graph (floor_of w h map) dirs) a b
+job_left w h map a b s (Err r) = s
 
-unfoldable pub mend_answer : ℕ → ℕ → List ℕ → ℕ → ℕ → ℕ → Sheet → MendSlices → Mended
+unfoldable pub mend_answer : ℕ → ℕ → List ℕ → ℕ → ℕ → ℕ → Sheet → MendSlices → MendAnswer
 mend_answer w h map nb a b old s = job_answer w h map a b old (shape_for w h map nb a b old s)
 
 unfoldable pub mend_left : ℕ → ℕ → List ℕ → ℕ → ℕ → ℕ → Sheet → MendSlices → MendSlices
 mend_left w h map nb a b old s = job_left w h map a b s (shape_for w h map nb a b old s)
 
 -- The operation's promise: the damaged sheet, s before, s' after, and the answer r.
-pub record Mends (w h : ℕ) (map : List ℕ) (nb a b : ℕ) (old : Sheet) (s : MendSlices) (r : Mended) (s' : MendSlices)
+pub record Mends (w h : ℕ) (map : List ℕ) (nb a b : ℕ) (old : Sheet) (s : MendSlices) (r : MendAnswer) (s' : MendSlices)
     : Type 0 where
   pub answer : r ≡ mend_answer w h map nb a b old s
   pub left : s' ≡ mend_left w h map nb a b old s
 
 -- ---- number and values of an answer
 
-abbrev pub mend_number : Mended → ℕ
-mend_number (Route n c) = 0
-mend_number (NoRoute c) = refusal_number NoRouteRefusal
-mend_number (Refused r) = refusal_number r
+abbrev pub number_by : Option ℕ → ℕ
+number_by (Some n) = 0
+number_by None = refusal_number NoRoute
 
-abbrev pub mend_points : Mended → ℕ
-mend_points (Route n c) = n
-mend_points (NoRoute c) = 0
-mend_points (Refused r) = 0
+abbrev pub points_by : Option ℕ → ℕ
+points_by (Some n) = n
+points_by None = 0
 
-abbrev pub mend_differences : Mended → Differences
-mend_differences (Route n c) = c
-mend_differences (NoRoute c) = c
-mend_differences (Refused r) = no_differences
+abbrev pub mend_number : MendAnswer → ℕ
+mend_number (Ok m) = number_by m.points
+mend_number (Err r) = refusal_number r
+
+abbrev pub mend_points : MendAnswer → ℕ
+mend_points (Ok m) = points_by m.points
+mend_points (Err r) = 0
+
+abbrev pub mend_differences : MendAnswer → Differences
+mend_differences (Ok m) = m.differences
+mend_differences (Err r) = no_differences

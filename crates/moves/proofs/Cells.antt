@@ -28,8 +28,8 @@ use Rattle.moves.proofs.Steps.{
   shifted_at,
   shifted-is,
   shifted-span,
-  spot-past-column,
-  spot-past-row,
+  off-column,
+  off_row,
   end-past,
   end-there,
 }
@@ -146,8 +146,8 @@ module _ (f : Floor) (m : Move) (x y : ℕ) (lx : x ≤ f.wide) (ly : y ≤ f.hi
   tell : narrow m ≡ true → (a b : Option ℕ) → shifted f.wide x m.dx ≡ a → shifted f.high y m.dy ≡ b
       → is_some (end_if unblocked f m x y) ≡ not window
   unfolding is_some
-  tell t none b p q = rw (end-past unblocked f m x y (sym (spot-past-column _ _ p)), past-column p)
-  tell t (some i) none p q = rw (end-past unblocked f m x y (sym (spot-past-row _ _ q)), past_row q)
+  tell t none b p q = rw (end-past unblocked f m x y (off-column f.wide f.high x y m p), past-column p)
+  tell t (some i) none p q = rw (end-past unblocked f m x y (off_row f.wide f.high x y m q), past_row q)
   tell t (some i) (some j) p q =
       let c : nat_abs m.dx ≡ span x i = shifted-span f.wide x i m.dx p in
       let r : nat_abs m.dy ≡ span y j = shifted-span f.high y j m.dy q in

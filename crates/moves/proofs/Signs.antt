@@ -1,23 +1,21 @@
 -- A signed byte from -2 to 2: the machine reads it back unchanged, and its parts up and down.
 --
---   back, back-neg        == d, and -d, as the machine reads them back, are d and -d
---   parts-abs             == up d + down d ≡ nat_abs d
+--   back                  == d as the machine reads it back is d
 --   parts-back            == the two parts of an offset that the machine reads back
 --   handed m, handed-back == a short move by its two offsets as the machine reads them back
---   neg-up                == up (-d) = down d
---   below, Above d        == where d is below 0, up d = 0; where it is not, up d = nat_abs d
+--   neg_up                == up (-d) = down d
+--   up_le, down_le        == up d <= nat_abs d, and down d <= nat_abs d
 --   narrow_one            == a narrow move goes one column or one row
-use Prim.Native.Nat.{ℕ, zero, suc, ◌+◌, ◌≤◌}
+use Prim.Native.Nat.{zero, suc, ◌≤◌}
 use mathlib.Core.Path.{◌≡◌, refl, ap, ap₂}
 use mathlib.Core.Logic.{◌⊎◌, inl, inr, ⊎_elim}
-use mathlib.Core.Bool.{true, false}
+use mathlib.Core.Bool.{true}
 use native.Mathlib.Omega.{arith}
-use borrow.Author.Tests.{ltb-true, eqb-true}
-use lib.Dec.{T, eqb}
+use borrow.Author.Tests.{eqb-true}
+use lib.Dec.{eqb}
 use lib.IntN.{ℤ, pos, negsuc, nat_abs, ◌-ℤ◌}
-use lib.Signed.{lt_z, non_neg}
-use mir.Syntax.{w8, w64}
-use mir.Val.{SFits, Fits, to_z, of_z}
+use mir.Syntax.{w8}
+use mir.Val.{SFits, to_z, of_z}
 use mir.ValLaws.{to_z-of_z}
 use Rattle.basics.proofs.Bools.{or_cases}
 use Rattle.moves.specs.declared.Move.{Move}
@@ -44,46 +42,13 @@ handed m = move_of (to_z w8 (of_z w8 m.dx)) (to_z w8 (of_z w8 m.dy)) 0
 pub handed-back : {m : Move} → Short m → handed m ≡ move_of m.dx m.dy 0
 handed-back {m} s = ap₂ (λ x y. move_of x y 0) (back m.dx s.columns) (back m.dy s.rows)
 
-pub neg-abs : (d : ℤ) → nat_abs d ≤ 2 → nat_abs (pos 0 -ℤ d) ≡ nat_abs d
-neg-abs (pos zero) h = refl
-neg-abs (pos (suc zero)) h = refl
-neg-abs (pos (suc (suc zero))) h = refl
-neg-abs (pos (suc (suc (suc n)))) h = absurd (omega arith)
-neg-abs (negsuc n) h = omega arith
-
-pub neg-fits : (d : ℤ) → nat_abs d ≤ 2 → SFits w8 (pos 0 -ℤ d)
-neg-fits d h = small (pos 0 -ℤ d) (omega (arith, neg-abs d h))
-
-pub back-neg : (d : ℤ) → nat_abs d ≤ 2 → to_z w8 (of_z w8 (pos 0 -ℤ to_z w8 (of_z w8 d))) ≡ pos 0 -ℤ d
-back-neg d h = rw (back d h) (to_z-of_z w8 (pos 0 -ℤ d) (neg-fits d h))
-
-pub neg-up : (d : ℤ) → nat_abs d ≤ 2 → up (pos 0 -ℤ d) ≡ down d
+pub neg_up : (d : ℤ) → nat_abs d ≤ 2 → up (pos 0 -ℤ d) ≡ down d
 unfolding up down
-neg-up (pos zero) h = refl
-neg-up (pos (suc zero)) h = refl
-neg-up (pos (suc (suc zero))) h = refl
-neg-up (pos (suc (suc (suc n)))) h = absurd (omega arith)
-neg-up (negsuc n) h = omega arith
-
-pub below : (d : ℤ) → lt_z d (pos 0) ≡ true → up d ≡ 0
-unfolding up
-below (pos n) e = absurd (omega (arith, ltb-true n 0 e))
-below (negsuc n) e = refl
-
-pub record Above (d : ℤ) : Type 0 where
-  pub sign : T (non_neg d)
-  pub up_is : nat_abs d ≡ up d
-  pub fits : Fits w64 (nat_abs d)
-
-pub above : (d : ℤ) → nat_abs d ≤ 2 → lt_z d (pos 0) ≡ false → Above d
-unfolding up
-above (pos n) h e = record { sign = tt; up_is = refl; fits = record { fits = omega arith } }
-above (negsuc n) h e = let g : true ≡ false = e in let z : ◌≡◌ {A = ℕ} 0 1 = cc in absurd (omega arith)
-
-pub parts-abs : (d : ℤ) → up d + down d ≡ nat_abs d
-unfolding up down
-parts-abs (pos n) = omega arith
-parts-abs (negsuc n) = omega arith
+neg_up (pos zero) h = refl
+neg_up (pos (suc zero)) h = refl
+neg_up (pos (suc (suc zero))) h = refl
+neg_up (pos (suc (suc (suc n)))) h = absurd (omega arith)
+neg_up (negsuc n) h = omega arith
 
 pub up_le : (d : ℤ) → up d ≤ nat_abs d
 unfolding up

@@ -1,9 +1,9 @@
 -- The far end of a move: one coordinate, both, the vertex, and the far end of a move that passes a test.
 --
---   shifted_at, shifted-is, -low, -high == `shifted n a d` is some b exactly where b = a + d is from 0 to n; below 0
---                                          and above n it is none
+--   shifted_at, shifted-is              == `shifted n a d` is some b exactly where b = a + d is from 0 to n
 --   shifted-span                        == where `shifted n a d` is some b, the span from a to b is nat_abs d
---   spot-reaches, reaches-on            == `Reaches` of the spot that the code finds; that spot is on the floor
+--   off-column, off_row                 == a move leads off the floor where either coordinate does
+--   reaches-on                          == the spot that a move reaches is on the floor
 --   offsets-end                         == where a move leads is told by its offsets alone
 --   step-none, step-some                == a step off the floor, and one to a vertex, by the far end
 --   Goes S f m x y w                    == move m leads from (x, y) to vertex w of the floor, and S holds of the
@@ -11,16 +11,17 @@
 --   end_goes, goes_end                  == `end_if S f m x y` is some w exactly where `Goes S f m x y w`
 --   end-if, end-past                    == `end_if` is the far end where S holds of the segment; it is none where the
 --                                          move leaves the floor
---   end-off, end-there                  == whether `end_if` is there, by the step that the code finds: off the floor, or
---                                          to a vertex
-use Prim.Native.Nat.{ℕ, ◌+◌, ◌-◌, ◌≤◌, ◌<◌}
+--   end-off, end-there                  == whether `end_if` is there, for a move that leads off the floor, and for one
+--                                          that leads to a vertex of it
+use Prim.Native.Nat.{ℕ, ◌+◌, ◌-◌, ◌≤◌}
 use mathlib.Core.Path.{◌≡◌, refl, sym, ap, ◌∙◌}
-use mathlib.Core.Bool.{Bool, true, false, ◌&&◌, and-false}
+use mathlib.Core.Bool.{Bool, true, false, ◌&&◌}
 use mathlib.Core.Option.{Option, none, some}
 use native.Mathlib.Omega.{arith}
-use borrow.Author.Tests.{le-leb, lt-leb, leb-true}
+use borrow.Author.Tests.{le-leb, leb-true}
 use lib.Dec.{leb}
 use lib.IntN.{ℤ, pos, negsuc, nat_abs}
+use Rattle.std.proofs.Common.{Some, None}
 use Rattle.basics.proofs.Options.{none-some, some_same}
 use Rattle.floor.specs.declared.Vertex.{Vertex}
 use Rattle.floor.specs.Floor.{Floor, number}
@@ -29,12 +30,9 @@ use Rattle.sight.specs.Sight.{Segment, segment, segment_of}
 use Rattle.sight.specs.Obstacle.{span}
 use Rattle.sight.proofs.Travel.{span-up, span-down}
 use Rattle.moves.specs.declared.Move.{Move}
-use Rattle.moves.specs.declared.Place.TheVariants.{Is, Past}
-use Rattle.moves.specs.declared.Spot.TheVariants.{At, Outside}
-use Rattle.moves.specs.declared.Step.TheVariants.{To, Off}
 use Rattle.moves.specs.Moves.{move_of}
 use Rattle.moves.specs.Steps.{up, down, shifted, then_at, far_end_at, end_if, step_of}
-use Rattle.moves.specs.Table.{is_some, OnFloor, Reaches, place_of, spot_of}
+use Rattle.moves.specs.Table.{is_some, OnFloor, Reaches, place_of}
 
 -- ---- one coordinate
 
@@ -43,14 +41,6 @@ unfolding shifted
 shifted_at n a b d e h =
     let q : a + up d - down d ≡ b = omega arith in
     rw (le-leb (down d) (a + up d) (omega arith), le-leb (a + up d) (n + down d) (omega arith), q, shifted)
-
-pub shifted-low : (n a : ℕ) (d : ℤ) → a + up d < down d → shifted n a d ≡ none
-unfolding shifted
-shifted-low n a d h = rw (lt-leb (down d) (a + up d) h, shifted)
-
-pub shifted-high : (n a : ℕ) (d : ℤ) → n + down d < a + up d → shifted n a d ≡ none
-unfolding shifted
-shifted-high n a d h = rw (lt-leb (a + up d) (n + down d) h, and-false (leb (down d) (a + up d)), shifted)
 
 pub record Shifted (n a b : ℕ) (d : ℤ) : Type 0 where
   pub moved : b + down d ≡ a + up d
@@ -81,72 +71,29 @@ shifted-span n a b (negsuc k) e =
     let s = shifted-is n a b (negsuc k) e in
     omega (arith, span-down a b (omega arith))
 
--- What the code answers for one coordinate, and for both.
-module _ (n a : ℕ) (d : ℤ) where
-  pub place-low : a + up d < down d → Past ≡ place_of (shifted n a d)
-  unfolding place_of
-  place-low h = rw (shifted-low n a d h)
-
-  pub place-high : n + down d < a + up d → Past ≡ place_of (shifted n a d)
-  unfolding place_of
-  place-high h = rw (shifted-high n a d h)
-
-  pub place_is : down d ≤ a + up d → a + up d ≤ n + down d → Is (a + up d - down d) ≡ place_of (shifted n a d)
-  unfolding place_of
-  place_is l h = rw (shifted_at n a (a + up d - down d) d (omega arith) (omega arith))
-
-  pub place-stays : up d ≡ down d → a ≤ n → Is a ≡ place_of (shifted n a d)
-  unfolding place_of
-  place-stays e h = rw (shifted_at n a a d (omega arith) h)
-
-pub place-past : (o : Option ℕ) → place_of o ≡ Past → o ≡ none
+-- One coordinate as the code answers it.
+pub place-there : (o : Option ℕ) (i : ℕ) → place_of o ≡ Some i → o ≡ some i
 unfolding place_of
-place-past none e = refl
-place-past (some i) e = let z : ◌≡◌ {A = ℕ} 0 1 = cc in absurd (omega arith)
-
-pub place-there : (o : Option ℕ) (i : ℕ) → place_of o ≡ Is i → o ≡ some i
-unfolding place_of
-place-there none i e = let z : ◌≡◌ {A = ℕ} 0 1 = cc in absurd (omega arith)
+place-there none i e = cc
 place-there (some k) i e = let z : k ≡ i = cc in ap some z
 
-pub spot-past-column : (a b : Option ℕ) → a ≡ none → Outside ≡ spot_of a b
-unfolding spot_of
-spot-past-column a b e = rw e
-
-pub spot-past-row : (a b : Option ℕ) → b ≡ none → Outside ≡ spot_of a b
-unfolding spot_of
-spot-past-row none b e = refl
-spot-past-row (some i) b e = rw e
-
-pub spot-at : (a b : Option ℕ) (i j : ℕ) → a ≡ some i → b ≡ some j → At i j ≡ spot_of a b
-unfolding spot_of
-spot-at a b i j p q = rw (p, q)
+pub place_inside : (n a b : ℕ) (d : ℤ) → Some b ≡ place_of (shifted n a d) → b ≤ n
+place_inside n a b d e = (shifted-is n a b d (place-there (shifted n a d) b (sym e))).inside
 
 -- ---- the vertex
 
-far-past : (w h x y : ℕ) (m : Move) → spot_of (shifted w x m.dx) (shifted h y m.dy) ≡ Outside
-    → far_end_at w h m x y ≡ none
-unfolding far_end_at spot_of then_at
-far-past w h x y m e = cases (shifted w x m.dx) (shifted h y m.dy) e
-  where
-    cases : (a b : Option ℕ) → spot_of a b ≡ Outside → then_at a (λ i. then_at b (λ j. some (number w i j))) ≡ none
-    cases none b e = refl
-    cases (some i) none e = refl
-    cases (some i) (some j) e = let z : ◌≡◌ {A = ℕ} 0 1 = cc in absurd (omega arith)
+module _ (w h x y : ℕ) (m : Move) where
+  pub off-column : shifted w x m.dx ≡ none → far_end_at w h m x y ≡ none
+  unfolding far_end_at then_at
+  off-column e = rw e
 
-pub spot-reaches : (w h x y i j : ℕ) (m : Move) → spot_of (shifted w x m.dx) (shifted h y m.dy) ≡ At i j
-    → Reaches w h m x y i j
-unfolding spot_of
-spot-reaches w h x y i j m e = cases (shifted w x m.dx) (shifted h y m.dy) refl refl e
-  where
-    cases : (a b : Option ℕ) → shifted w x m.dx ≡ a → shifted h y m.dy ≡ b → spot_of a b ≡ At i j
-        → Reaches w h m x y i j
-    cases none b p q e = let z : ◌≡◌ {A = ℕ} 0 1 = cc in absurd (omega arith)
-    cases (some k) none p q e = let z : ◌≡◌ {A = ℕ} 0 1 = cc in absurd (omega arith)
-    cases (some k) (some l) p q e =
-        let s : k ≡ i = cc in
-        let t : l ≡ j = cc in
-        record { columns = p ∙ ap some s; rows = q ∙ ap some t }
+  pub off_row : shifted h y m.dy ≡ none → far_end_at w h m x y ≡ none
+  unfolding far_end_at then_at
+  off_row e = cases (shifted w x m.dx)
+    where
+      cases : (a : Option ℕ) → then_at a (λ i. then_at (shifted h y m.dy) (λ j. some (number w i j))) ≡ none
+      cases none = refl
+      cases (some i) = rw e
 
 pub reaches-on : {w h x y i j : ℕ} {m : Move} → OnFloor w h x y → Reaches w h m x y i j → OnFloor w h i j
 reaches-on {w} {h} {x} {y} {i} {j} {m} o r = record {
@@ -164,25 +111,15 @@ pub offsets-end : (w h x y : ℕ) (m : Move) → far_end_at w h (move_of m.dx m.
 unfolding far_end_at
 offsets-end w h x y m = refl
 
-pub step-off : (w h x y : ℕ) (m : Move) → spot_of (shifted w x m.dx) (shifted h y m.dy) ≡ Outside
-    → Off ≡ step_of (far_end_at w h m x y)
-unfolding step_of
-step-off w h x y m e = rw (far-past w h x y m e)
-
-pub step-none : (o : Option ℕ) → step_of o ≡ Off → o ≡ none
+pub step-none : (o : Option ℕ) → step_of o ≡ None → o ≡ none
 unfolding step_of
 step-none none e = refl
-step-none (some w) e = let z : ◌≡◌ {A = ℕ} 0 1 = cc in absurd (omega arith)
+step-none (some w) e = cc
 
-pub step-some : (o : Option ℕ) (v : Vertex) → step_of o ≡ To v → o ≡ some v.0
+pub step-some : (o : Option ℕ) (v : Vertex) → step_of o ≡ Some v → o ≡ some v.0
 unfolding step_of
-step-some none v e = let z : ◌≡◌ {A = ℕ} 0 1 = cc in absurd (omega arith)
+step-some none v e = cc
 step-some (some u) v e = let q : ◌≡◌ {A = Vertex} (record { 0 = u }) v = cc in ap (λ (x : Vertex). some x.0) q
-
-pub step-to : {w h x y i j : ℕ} {m : Move} → Reaches w h m x y i j
-    → To (record { 0 = number w i j }) ≡ step_of (far_end_at w h m x y)
-unfolding step_of
-step-to r = rw (reaches-far r)
 
 -- ---- where a test S holds of the segment: `sees` for an open move
 
@@ -190,10 +127,9 @@ abbrev pub when_held : Bool → ℕ → Option ℕ
 when_held b w = elim b [ true ↦ some w | false ↦ none ]
 
 module _ (S : Floor → Segment → Bool) (f : Floor) (m : Move) (x y : ℕ) where
-  pub end-past : spot_of (shifted f.wide x m.dx) (shifted f.high y m.dy) ≡ Outside
-      → end_if S f m x y ≡ none
+  pub end-past : far_end_at f.wide f.high m x y ≡ none → end_if S f m x y ≡ none
   unfolding end_if then_at
-  end-past e = rw (far-past f.wide f.high x y m e)
+  end-past e = rw e
 
   module _ (i j : ℕ) (on : x ≤ f.wide) (r : Reaches f.wide f.high m x y i j) where
     -- The segment by its two vertex numbers is the one by their columns and rows.
@@ -214,32 +150,12 @@ module _ (S : Floor → Segment → Bool) (f : Floor) (m : Move) (x y : ℕ) whe
         ap (λ o. then_at o (λ w. when_held (S f (segment f.wide (number f.wide x y) w)) w)) (reaches-far r)
         ∙ ap (λ s. when_held (S f s) (number f.wide i j)) segment-is
 
--- What the code answers for a move, whose far end is `end`.
+-- What the code answers for a move.
 module _ (S : Floor → Segment → Bool) (f : Floor) (m : Move) (x y : ℕ) where
-  abbrev end : Option ℕ
-  end = far_end_at f.wide f.high m x y
-
-  pub end-off : step_of end ≡ Off → false ≡ is_some (end_if S f m x y)
+  -- Where the code finds the move to lead off the floor, `end_if` is not there. The proofs go without it; docs name it.
+  pub end-off : step_of (far_end_at f.wide f.high m x y) ≡ None → false ≡ is_some (end_if S f m x y)
   unfolding end_if then_at is_some
-  end-off e = rw (step-none end e)
-
-  -- Where the move leads to a vertex, that is the spot (x + dx, y + dy).
-  pub far-reaches : (v : Vertex) → step_of end ≡ To v
-      → Reaches f.wide f.high m x y (x + up m.dx - down m.dx) (y + up m.dy - down m.dy)
-  unfolding far_end_at then_at step_of
-  far-reaches v e = cases (shifted f.wide x m.dx) (shifted f.high y m.dy) refl refl e
-    where
-      cases : (a b : Option ℕ) → shifted f.wide x m.dx ≡ a → shifted f.high y m.dy ≡ b
-          → step_of (then_at a (λ i. then_at b (λ j. some (number f.wide i j)))) ≡ To v
-          → Reaches f.wide f.high m x y (x + up m.dx - down m.dx) (y + up m.dy - down m.dy)
-      cases none b p q e = let z : ◌≡◌ {A = ℕ} 0 1 = cc in absurd (omega arith)
-      cases (some i) none p q e = let z : ◌≡◌ {A = ℕ} 0 1 = cc in absurd (omega arith)
-      cases (some i) (some j) p q e =
-          let s = shifted-is f.wide x i m.dx p in
-          let t = shifted-is f.high y j m.dy q in
-          let h : i ≡ x + up m.dx - down m.dx = omega arith in
-          let k : j ≡ y + up m.dy - down m.dy = omega arith in
-          record { columns = p ∙ ap some h; rows = q ∙ ap some k }
+  end-off e = rw (step-none (far_end_at f.wide f.high m x y) e)
 
   module _ (i j : ℕ) (on : x ≤ f.wide) (r : Reaches f.wide f.high m x y i j) where
     pub end-there : S f (segment_of x y i j) ≡ is_some (end_if S f m x y)
@@ -285,8 +201,8 @@ module _ (S : Floor → Segment → Bool) (f : Floor) (m : Move) (x y w : ℕ) (
       held i j p q false s h = none-some h
 
       spot : (a b : Option ℕ) → shifted f.wide x m.dx ≡ a → shifted f.high y m.dy ≡ b → Goes S f m x y w
-      spot none b p q = none-some (sym (end-past S f m x y (sym (spot-past-column _ _ p))) ∙ e)
-      spot (some i) none p q = none-some (sym (end-past S f m x y (sym (spot-past-row _ _ q))) ∙ e)
+      spot none b p q = none-some (sym (end-past S f m x y (off-column f.wide f.high x y m p)) ∙ e)
+      spot (some i) none p q = none-some (sym (end-past S f m x y (off_row f.wide f.high x y m q)) ∙ e)
       spot (some i) (some j) p q =
           held i j p q (S f (segment_of x y i j)) refl
           (sym (end-if S f m x y i j on (record { columns = p; rows = q })) ∙ e)

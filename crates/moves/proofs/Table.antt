@@ -4,6 +4,7 @@
 --                           the same order, and the sixteen
 --   each-listed          == what holds of the directions of 4, of 8 and of 16 holds of every `Listed r`
 --   LawfulMove r m       == the parts of `lawful_dirs r` for move m
+--   dir_listed           == a direction of a lawful table is one of the 32
 --   move-short           == a move that is read of a lawful table is short
 --   same-dir             == two moves of the same direction are the same move
 --   dirs-lawful          == directions that pass the test are a lawful table
@@ -13,10 +14,8 @@
 --   table-listed, table-within == `table_of r` is a neighbourhood, and has the directions of the neighbourhood r
 --   table-sixteen, table-eight == which table `table_of r` is, by the number of moves
 --   dearest, listed-cost == no move of a neighbourhood costs more than 577, or with sixteen 2,236
---   dir_cost, dir-cost    == the cost of a direction, by where it is in a quarter turn
 --   offset-eq            == offsets a and b that lead from the same line to the same line are equal
---   past                 == a number that is none of three in turn is past them
-use Prim.Native.Nat.{ℕ, zero, suc, ◌+◌, ◌%◌, ◌≤◌, ◌<◌}
+use Prim.Native.Nat.{ℕ, zero, suc, ◌+◌, ◌≤◌, ◌<◌}
 use mathlib.Core.Path.{◌≡◌, refl, sym, ap, ap₂, subst}
 use mathlib.Core.Logic.{⊎_elim}
 use mathlib.Core.Bool.{Bool, true, false, ◌&&◌, ◌||◌, not}
@@ -24,17 +23,16 @@ use mathlib.Core.List.{List, [], ◌∷◌, ◌++◌}
 use native.Mathlib.Omega.{arith}
 use native.Mathlib.Nat.{mod-lt}
 use borrow.Author.Tests.{eqb-true, eq-eqb, ne_eqb, leb-true, ltb-true, not-true}
-use lib.Dec.{eqb, leb, ltb}
+use lib.Dec.{eqb, leb}
 use lib.IntN.{ℤ, pos, negsuc, nat_abs}
 use lib.ListN.{length, get_or}
+use Rattle.std.proofs.Common.{Some, None}
 use Rattle.basics.specs.Bounded.{pick, every, any, bounded-opened}
 use Rattle.basics.proofs.Order.{le-or-lt}
 use Rattle.basics.proofs.Bools.{and_left, and_right, not-both}
 use Rattle.basics.proofs.Bounded.{every-at, any-cases}
 use Rattle.moves.specs.declared.Move.{Move}
 use Rattle.moves.specs.declared.Directions.{Directions}
-use Rattle.moves.specs.declared.Neighbourhood.{Neighbourhood}
-use Rattle.moves.specs.declared.Neighbourhood.TheVariants.{Known, Refused}
 use Rattle.moves.specs.Moves.{moves, sixteen, dir_count, dir_move, directions_of, dir_at, move_at, neighbourhood_of}
 use Rattle.moves.specs.Steps.{up, down}
 use Rattle.moves.specs.AnyTable.{Turned, LawfulTable}
@@ -60,18 +58,18 @@ unfoldable pub kept : (Move → Bool) → List Move → List Move
 kept p [] = []
 kept p (m ∷ l) = pick (p m) (m ∷ kept p l) (kept p l)
 
-known_is : (q r : Directions) → ◌≡◌ {A = Neighbourhood} (Known q) (Known r) → r ≡ q
+known_is : (q r : Directions) → Some q ≡ Some r → r ≡ q
 known_is q r e = cc
 
-pub neighbourhood-8 : (r : Directions) → neighbourhood_of 8 ≡ Known r → moves_of r ≡ moves
+pub neighbourhood-8 : (r : Directions) → neighbourhood_of 8 ≡ Some r → moves_of r ≡ moves
 unfolding neighbourhood_of moves_of first_moves
 neighbourhood-8 r e = ap moves_of (known_is (directions_of 0 2 8) r e)
 
-pub neighbourhood-4 : (r : Directions) → neighbourhood_of 4 ≡ Known r → moves_of r ≡ kept cardinal moves
+pub neighbourhood-4 : (r : Directions) → neighbourhood_of 4 ≡ Some r → moves_of r ≡ kept cardinal moves
 unfolding neighbourhood_of moves_of first_moves kept cardinal
 neighbourhood-4 r e = ap moves_of (known_is (directions_of 0 4 4) r e)
 
-pub neighbourhood-16 : (r : Directions) → neighbourhood_of 16 ≡ Known r → moves_of r ≡ sixteen
+pub neighbourhood-16 : (r : Directions) → neighbourhood_of 16 ≡ Some r → moves_of r ≡ sixteen
 unfolding neighbourhood_of moves_of first_moves
 neighbourhood-16 r e = ap moves_of (known_is (directions_of 16 1 16) r e)
 
@@ -82,14 +80,14 @@ each-listed P four eight more {r} h =
     cases (eqb h.number 16) (eqb h.number 8) (eqb h.number 4) h.known
   where
     cases : (a b c : Bool)
-        → pick a (Known (directions_of 16 1 16))
-        (pick b (Known (directions_of 0 2 8)) (pick c (Known (directions_of 0 4 4)) Refused))
-        ≡ Known r
+        → pick a (Some (directions_of 16 1 16))
+        (pick b (Some (directions_of 0 2 8)) (pick c (Some (directions_of 0 4 4)) None))
+        ≡ Some r
         → P r
     cases true b c e = subst P (sym (known_is (directions_of 16 1 16) r e)) more
     cases false true c e = subst P (sym (known_is (directions_of 0 2 8) r e)) eight
     cases false false true e = subst P (sym (known_is (directions_of 0 4 4) r e)) four
-    cases false false false e = let z : ◌≡◌ {A = ℕ} 0 1 = cc in absurd (omega arith)
+    cases false false false e = cc
 
 -- ---- the test, and what it gives
 
@@ -215,6 +213,10 @@ lawful-move r m e l =
           (not-true _ (every-at m (elsewhere r m) (test 8 (omega arith)) n k));
     }
 
+-- A direction of a lawful table, as the code works it out.
+pub dir_listed : (r : Directions) (m : ℕ) → lawful_dirs r ≡ true → m < r.count → dir_at r m < dir_count
+dir_listed r m e l = (lawful-move r m e l).in_the_table
+
 pub move-short : (r : Directions) (m : ℕ) {t : Move} → lawful_dirs r ≡ true → m < r.count → t ≡ move_at r m → Short t
 move-short r m e l is = rw is (lawful-move r m e l).is_short
 
@@ -247,17 +249,3 @@ module _ (r : Directions) (e : lawful_dirs r ≡ true) where
   -- Two moves of the same direction are the same move.
   pub same-dir : (m n : ℕ) → m < r.count → n < r.count → dir_at r m ≡ dir_at r n → m ≡ n
   same-dir m n l k p = same_move m n l k (ap (λ z. (dir_move z).dx) p) (ap (λ z. (dir_move z).dy) p)
-
--- The cost of a direction, by where it is in a quarter turn.
-abbrev pub dir_cost : ℕ → ℕ
-dir_cost k =
-    pick (ltb k 16) (pick (ltb (k % 4) 2) 408 577) (pick (eqb (k % 2) 1) 2236 (pick (eqb (k % 4) 0) 1000 1414))
-
-pub dir-cost : (k : ℕ) → k < dir_count → (dir_move k).cost ≡ dir_cost k
-unfolding bounded-opened
-dir-cost k l = eqb-true _ _ (every-at dir_count (λ k. eqb (dir_move k).cost (dir_cost k)) refl k l)
-
--- ---- a move by its number
-
-pub past : (n k : ℕ) → n ≤ k → (k ≡ n → ⊥) → (k ≡ n + 1 → ⊥) → (k ≡ n + 2 → ⊥) → n + 3 ≤ k
-past n k l a b c = omega arith

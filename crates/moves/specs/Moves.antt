@@ -14,11 +14,10 @@
 --   neighbourhood_of n  == the directions of neighbourhood n: 8 has the table of eight, 4 its cardinal directions in
 --                          the same order, 16 the table of sixteen; every other n is refused (refusal 4)
 use Rattle.std.specs.Prelude.{ℕ, ◌+◌, ◌-◌, ◌*◌, ◌/◌, List, [], ◌∷◌, ltb, eqb, ℤ, pos, negsuc, get_or}
+use Rattle.std.specs.Prelude.{Option, Some, None}
 use Rattle.basics.specs.Bounded.{pick}
 use Rattle.moves.specs.declared.Move.{Move}
 use Rattle.moves.specs.declared.Directions.{Directions}
-use Rattle.moves.specs.declared.Neighbourhood.{Neighbourhood}
-use Rattle.moves.specs.declared.Neighbourhood.TheVariants.{Known, Refused}
 
 abbrev pub move_of : ℤ → ℤ → ℕ → Move
 move_of x y c = record { dx = x; dy = y; cost = c }
@@ -76,7 +75,7 @@ dir_at r m = r.first + r.stride * m
 abbrev pub move_at : Directions → ℕ → Move
 move_at r m = dir_move (dir_at r m)
 
-unfoldable pub neighbourhood_of : ℕ → Neighbourhood
+unfoldable pub neighbourhood_of : ℕ → Option Directions
 neighbourhood_of n =
-    pick (eqb n 16) (Known (directions_of 16 1 16))
-    (pick (eqb n 8) (Known (directions_of 0 2 8)) (pick (eqb n 4) (Known (directions_of 0 4 4)) Refused))
+    pick (eqb n 16) (Some (directions_of 16 1 16))
+    (pick (eqb n 8) (Some (directions_of 0 2 8)) (pick (eqb n 4) (Some (directions_of 0 4 4)) None))

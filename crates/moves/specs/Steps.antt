@@ -7,13 +7,13 @@
 --   open_end_at f m x y  == `end_if sees f m x y`: the far end of move m from (x, y), where the move is open
 --   open_end f m v       == `open_end_at f m x y`, where (x, y) is the vertex with number v
 --   step_of o            == the far end o, a vertex or off the floor, as the code answers it
-use Rattle.std.specs.Prelude.{ℕ, suc, ◌+◌, ◌-◌, Bool, true, false, ◌&&◌, leb, ℤ, pos, negsuc}
+use Rattle.std.specs.Prelude.{ℕ, suc, ◌+◌, ◌-◌, Bool, true, false, ◌&&◌, leb, ℤ, pos, negsuc, Some, None}
+use Rattle.std.specs.Prelude.{Option as Answer}
 use Rattle.std.proofs.Math.Option.{Option, none, some}
 use Rattle.floor.specs.Floor.{Floor, number, column, row}
+use Rattle.floor.specs.declared.Vertex.{Vertex}
 use Rattle.sight.specs.Sight.{Segment, segment, sees}
 use Rattle.moves.specs.declared.Move.{Move}
-use Rattle.moves.specs.declared.Step.{Step}
-use Rattle.moves.specs.declared.Step.TheVariants.{To, Off}
 
 -- How far an offset goes up, and how far down: one of the two is 0.
 unfoldable pub up : ℤ → ℕ
@@ -47,9 +47,9 @@ open_end_at = end_if sees
 abbrev pub open_end : Floor → Move → ℕ → Option ℕ
 open_end f m v = open_end_at f m (column f.wide v) (row f.wide v)
 
-unfoldable pub step_of : Option ℕ → Step
-step_of none = Off
-step_of (some v) = To (record { 0 = v })
+unfoldable pub step_of : Option ℕ → Answer Vertex
+step_of none = None
+step_of (some v) = Some (record { 0 = v })
 
 -- Named on an `unfolding` line, this opens all of these definitions, for a theorem that antt computes.
 unfoldable pub steps-opened : ℕ

@@ -19,24 +19,19 @@
 --   is_some o       == o is not none
 --   parts_of d      == the signed offset d as how far up and how far down
 --   place_of a      == one coordinate of a far end, or none, as the code answers it
---   spot_of a b     == the column a and the row b of a far end, or none where either is, as the code answers it
 use Rattle.std.specs.Prelude.{ℕ, ◌+◌, ◌/◌, ◌%◌, ◌≤◌, ◌<◌, ◌≡◌, Bool, true, false, ◌&&◌, ◌||◌, not, List, [], ◌∷◌, leb, ltb, eqb, ℤ, nat_abs, length, get_or}
+use Rattle.std.specs.Prelude.{Option as Answer, Some, None}
 use Rattle.std.proofs.Math.Option.{Option, none, some}
 use Rattle.basics.specs.Bounded.{pick, every}
 use Rattle.moves.specs.declared.Move.{Move}
 use Rattle.moves.specs.declared.Directions.{Directions}
-use Rattle.moves.specs.declared.Neighbourhood.TheVariants.{Known}
 use Rattle.moves.specs.declared.Offset.{Offset}
-use Rattle.moves.specs.declared.Place.{Place}
-use Rattle.moves.specs.declared.Place.TheVariants.{Is, Past}
-use Rattle.moves.specs.declared.Spot.{Spot}
-use Rattle.moves.specs.declared.Spot.TheVariants.{At, Outside}
 use Rattle.moves.specs.Moves.{dir_count, directions_of, dir_at, move_at, neighbourhood_of}
-use Rattle.moves.specs.Steps.{up, down, shifted}
+use Rattle.moves.specs.Steps.{up, down, shifted, then_at, far_end_at, end_if, step_of}
 
 pub record Listed (r : Directions) : Type 0 where
   pub number : ℕ
-  pub known : neighbourhood_of number ≡ Known r
+  pub known : neighbourhood_of number ≡ Some r
 
 abbrev pub eight_dirs : Directions
 eight_dirs = directions_of 0 2 8
@@ -108,11 +103,15 @@ is_some (some w) = true
 abbrev pub parts_of : ℤ → Offset
 parts_of d = record { up = up d; down = down d }
 
-unfoldable pub place_of : Option ℕ → Place
-place_of none = Past
-place_of (some a) = Is a
+unfoldable pub place_of : Option ℕ → Answer ℕ
+place_of none = None
+place_of (some a) = Some a
 
-unfoldable pub spot_of : Option ℕ → Option ℕ → Spot
-spot_of none b = Outside
-spot_of (some i) none = Outside
-spot_of (some i) (some j) = At i j
+-- Named on an `unfolding` line, these open one coordinate of where a move leads, and where it leads, by cases.
+unfoldable pub offset_opened : ℕ
+unfolding up down shifted place_of
+offset_opened = 0
+
+unfoldable pub far_opened : ℕ
+unfolding then_at far_end_at end_if step_of is_some place_of
+far_opened = 0

@@ -5,12 +5,11 @@
 --   best-start, -off, -lower, -higher == `BestScan` at the start, and after a move without a candidate, with one of no
 --                             higher count, and with one of a higher count
 --   best-end               == after all n moves r is `best T c n`, where some candidate has a positive count
---   OffScan d e goal i v n == n is 0 only where the vertices from i to v are not on the way
---   off-start, -more, -end == `OffScan` before the first vertex and after one vertex more; where n is 0 at the end,
---                             `OffWay`
+--   OffScan d e goal i v t == t is false only where the vertices from i to before v are not on the way
+--   off-start, off-more    == `OffScan` before the first vertex and after one vertex more
 use Prim.Native.Nat.{ℕ, suc, ◌+◌, ◌≤◌, ◌<◌}
 use mathlib.Core.Path.{◌≡◌, refl, sym, ◌∙◌, subst}
-use mathlib.Core.Bool.{Bool, true, false, not, and-true, and-false}
+use mathlib.Core.Bool.{Bool, true, false, ◌||◌, and-true, and-false}
 use mathlib.Core.Logic.{⊎_elim}
 use mathlib.Core.List.{List}
 use mathlib.Core.Option.{Option, none, some}
@@ -109,39 +108,25 @@ module _ (D E : ℕ → ℕ) (b v : ℕ) where
   unfolding on_shortest
   on_shortest-sum l = rw (lt-ltb (D b) unreachable l)
 
-pub record OffScan (d e : List ℕ) (goal i v n : ℕ) : Type 0 where
-  pub from : i ≤ v
-  pub few : n + i ≤ v
-  pub off : n ≡ 0 → OffWay d e goal i v
+-- No vertex from i to before v is on the way, unless `any` says so.
+abbrev pub OffScan : List ℕ → List ℕ → ℕ → ℕ → ℕ → Bool → Type 0
+OffScan d e goal i v any = any ≡ false → OffWay d e goal i v
 
-not-adding-up : (d e : List ℕ) (goal v : ℕ) (t : Bool) → t ≡ eqb (entry d v + entry e v) (entry d goal)
-    → ◌≡◌ {A = ℕ} (pick t 1 0) 0 → on_shortest (entry d) (entry e) goal v ≡ false
-unfolding on_shortest
-not-adding-up d e goal v true q z = absurd (omega arith)
-not-adding-up d e goal v false q z = rw (sym q) (and-false (ltb (entry d goal) unreachable))
+module _ (d e : List ℕ) (goal i : ℕ) where
+  pub off-start : (any : Bool) → OffScan d e goal i i any
+  off-start any z = record { at = λ v l h. absurd (omega arith) }
 
-module _ {d e : List ℕ} {goal i : ℕ} where
-  pub off-start : OffScan d e goal i i 0
-  off-start = record { from = omega arith; few = omega arith; off = λ z. record { at = λ v l h. absurd (omega arith) } }
-
-  pub off-more : {v n : ℕ} → OffScan d e goal i v n → (x y z k : ℕ) → x ≡ entry d v → y ≡ entry e v → z ≡ entry d goal
-      → k ≡ pick (eqb (x + y) z) 1 0 → k ≤ 1 → OffScan d e goal i (v + 1) (n + k)
-  off-more {v} {n} s x y z k p q r one small = record {
-    from = omega (arith, s.from);
-    few = omega (arith, s.few);
-    off = λ t. record {
-      at = λ u l h. ⊎_elim
-          (λ lt. (s.off (omega arith)).at u l lt)
-          (λ ge.
-          let same : v ≡ u = omega arith in
-          subst (λ w. on_shortest (entry d) (entry e) goal w ≡ false) same
-          (not-adding-up d e goal v (eqb (x + y) z) (rw (p, q, r)) (sym one ∙ omega arith))) (le-or-lt (suc u) v);
-    };
-  }
-
-  pub off-end : {v n : ℕ} (j : ℕ) → OffScan d e goal i v n → j ≤ v → not (eqb n 0) ≡ false → OffWay d e goal i j
-  off-end {v} {n} j s past t = record {
-    at = λ u l h. (s.off (eqb-true n 0 (not-false (eqb n 0) t))).at u l (omega arith);
+  pub off-more : {v : ℕ} {any : Bool} → OffScan d e goal i v any → (x y z : ℕ) → x ≡ entry d v → y ≡ entry e v
+      → z ≡ entry d goal → OffScan d e goal i (v + 1) (any || eqb (x + y) z)
+  unfolding on_shortest
+  off-more {v} {any = true} s x y z p q r t = cc
+  off-more {v} {any = false} s x y z p q r t = record {
+    at = λ u l h. ⊎_elim (λ lt. (s refl).at u l lt)
+        (λ ge.
+        let same : v ≡ u = omega arith in
+        let off : eqb (entry d v + entry e v) (entry d goal) ≡ false = rw (p, q, r) at t in
+        subst (λ w. on_shortest (entry d) (entry e) goal w ≡ false) same
+        (rw off (and-false (ltb (entry d goal) unreachable)))) (le-or-lt (suc u) v);
   }
 
 module _ (on : ℕ → Bool) (D : ℕ → ℕ) (v w c : ℕ) where

@@ -1,14 +1,13 @@
 -- One vertex of a row of the floor, in column x, as a loop over the row tests it.
 --
 --   column-shows            == the mask of the moves that leave (x, y) `Shows` the steps from its vertex
---   flag-stops, flag-keeps  == `every` of a test p below x + 1, where p x is false, and where it is true and `every`
---                              below x is known
+--   flag-more               == a flag that says whether a test p holds below x, and the test of x, say whether it holds
+--                              below x + 1
 use Prim.Native.Nat.{ℕ, ◌+◌}
-use mathlib.Core.Path.{◌≡◌, sym, ◌∙◌}
-use mathlib.Core.Bool.{Bool, true, false, not, and-true, and-false}
+use mathlib.Core.Path.{◌≡◌, ap₂}
+use mathlib.Core.Bool.{Bool, ◌&&◌}
 use mathlib.Core.List.{List}
 use native.Mathlib.Numerals.{add-one}
-use borrow.Author.Tests.{not-true, not-false}
 use Rattle.basics.specs.Bounded.{every}
 use Rattle.floor.specs.Floor.{floor_of, number}
 use Rattle.floor.proofs.Numbers.{number_lt}
@@ -32,11 +31,7 @@ column-shows {w} {h} {x = x} {y} {mask} {map = map} {r = r} J S o is numbered =
     (mask-shows leaves f r (listed-lawful J.listed) S J.sized.wide J.sized.high mask (number w x y)
     (number_lt w h x y o.column o.row) (mask-number f x y o.column is))
 
-module _ (p : ℕ → Bool) (x : ℕ) {t : Bool} (is : t ≡ p x) where
-  pub flag-stops : not t ≡ true → false ≡ every (x + 1) p
-  unfolding every
-  flag-stops e = rw (add-one, sym is ∙ not-true t e) (sym (and-false (every x p)))
-
-  pub flag-keeps : {old : Bool} → old ≡ every x p → not t ≡ false → old ≡ every (x + 1) p
-  unfolding every
-  flag-keeps before e = before ∙ rw (add-one, sym is ∙ not-false t e) (sym (and-true (every x p)))
+pub flag-more : (p : ℕ → Bool) (x : ℕ) {old new : Bool} → old ≡ every x p → new ≡ p x
+    → (old && new) ≡ every (x + 1) p
+unfolding every
+flag-more p x before is = rw add-one (ap₂ ◌&&◌ before is)

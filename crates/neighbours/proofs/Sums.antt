@@ -6,6 +6,7 @@ use mathlib.Core.Path.{◌≡◌, refl, ap, ◌∙◌}
 use mathlib.Core.Logic.{⊎_elim}
 use mathlib.Core.Option.{none, some}
 use native.Mathlib.Omega.{arith}
+use Rattle.std.specs.Prelude.{Some, None}
 use borrow.Author.Tests.{lt-ltb, le-ltb}
 use Rattle.basics.specs.Bounded.{sum}
 use Rattle.basics.proofs.Order.{le-or-lt}
@@ -13,25 +14,24 @@ use Rattle.basics.proofs.Sums.{sum-next, sum-prefix}
 use Rattle.paths.specs.Graph.{Graph}
 use Rattle.paths.specs.Local.{given, inflow}
 use Rattle.paths.proofs.Neighbours.{when-yes, when-no}
-use Rattle.neighbours.specs.declared.Sum.TheVariants.{Is, Over}
 use Rattle.neighbours.specs.Reading.{inflow_by, sum_of}
 
-pub sum_of-fits : (x : ℕ) → x < 2 ^ 64 → Is x ≡ sum_of x
+pub sum_of-fits : (x : ℕ) → x < 2 ^ 64 → Some x ≡ sum_of x
 unfolding sum_of
 sum_of-fits x l = rw (lt-ltb x (2 ^ 64) l)
 
-pub sum_of-over : (x : ℕ) → 2 ^ 64 ≤ x → Over ≡ sum_of x
+pub sum_of-over : (x : ℕ) → 2 ^ 64 ≤ x → None ≡ sum_of x
 unfolding sum_of
 sum_of-over x l = rw (le-ltb x (2 ^ 64) l)
 
 -- A sum that the code answers is the sum itself, and fits 64 bits.
-pub sum_of-is : (x s : ℕ) → sum_of x ≡ Is s → x ≡ s
-sum_of-is x s e = ⊎_elim (λ over. let z = sum_of-over x over in let q : ◌≡◌ {A = ℕ} 0 1 = cc in absurd (omega arith))
+pub sum_of-is : (x s : ℕ) → sum_of x ≡ Some s → x ≡ s
+sum_of-is x s e = ⊎_elim (λ over. let z = sum_of-over x over in cc)
     (λ fits. let z = sum_of-fits x fits in cc) (le-or-lt (2 ^ 64) x)
 
-pub sum_of-passes : (x : ℕ) → sum_of x ≡ Over → 2 ^ 64 ≤ x
+pub sum_of-passes : (x : ℕ) → sum_of x ≡ None → 2 ^ 64 ≤ x
 sum_of-passes x e = ⊎_elim (λ over. over)
-    (λ fits. let z = sum_of-fits x fits in let q : ◌≡◌ {A = ℕ} 0 1 = cc in absurd (omega arith)) (le-or-lt (2 ^ 64) x)
+    (λ fits. let z = sum_of-fits x fits in cc) (le-or-lt (2 ^ 64) x)
 
 pub record SumScan (g : Graph) (D F : ℕ → ℕ) (v k s : ℕ) : Type 0 where
   pub within : k ≤ g.moves
@@ -71,7 +71,7 @@ module _ {g : Graph} {D F : ℕ → ℕ} {v : ℕ} where
       pub sum-tight : s + F w < 2 ^ 64 → SumScan g D F v (k + 1) (s + F w)
       sum-tight fits = more (F w) h l adds fits
 
-      pub sum-passes : 2 ^ 64 ≤ s + F w → Over ≡ sum_of (inflow g D F v)
+      pub sum-passes : 2 ^ 64 ≤ s + F w → None ≡ sum_of (inflow g D F v)
       unfolding inflow inflow_by
       sum-passes over =
           sum_of-over (inflow g D F v)
@@ -83,7 +83,7 @@ module _ {g : Graph} {D F : ℕ → ℕ} {v : ℕ} where
             sum-prefix (k + 1) g.moves (inflow_by g D F v) (omega arith),
           ))
 
-  pub sum-end : {k s : ℕ} → SumScan g D F v k s → g.moves ≤ k → Is s ≡ sum_of (inflow g D F v)
+  pub sum-end : {k s : ℕ} → SumScan g D F v k s → g.moves ≤ k → Some s ≡ sum_of (inflow g D F v)
   unfolding inflow inflow_by
   sum-end {k} {s} h l =
       let e : k ≡ g.moves = omega (arith, h.within) in

@@ -1,3 +1,4 @@
 pub mod Reading
 pub mod Least
 pub mod Choice
+pub mod Rows

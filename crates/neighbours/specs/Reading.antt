@@ -10,8 +10,8 @@
 --   tight_by g D v m       == D w and the cost of move m make D v, where m leads from v to w: the test of `tight`
 --   inflow_by g D F v m    == F w where `tight_by g D v m` and m leads from v to w, else 0: what move m adds to
 --                             `inflow`
---   sum_of x               == x as the code answers a sum: x where it fits 64 bits, else over
-use Rattle.std.specs.Prelude.{ℕ, ◌+◌, ◌^◌, ◌<◌, ◌≡◌, Bool, true, List, ltb, eqb, length}
+--   sum_of x               == x as the code answers a sum: x where it fits 64 bits, else none
+use Rattle.std.specs.Prelude.{ℕ, ◌+◌, ◌^◌, ◌<◌, ◌≡◌, Bool, true, List, ltb, eqb, length, Option as Answer, Some, None}
 use Rattle.std.proofs.Math.Option.{Option, some}
 use Rattle.basics.specs.Bounded.{pick}
 use Rattle.moves.specs.declared.Directions.{Directions}
@@ -20,8 +20,6 @@ use Rattle.moves.specs.Table.{lawful_dirs}
 use Rattle.offsets.specs.Offsets.{Movable, shifted_by, dir_end}
 use Rattle.paths.specs.Graph.{Graph}
 use Rattle.paths.specs.Local.{given, is-there, when-eq}
-use Rattle.neighbours.specs.declared.Sum.{Sum}
-use Rattle.neighbours.specs.declared.Sum.TheVariants.{Is, Over}
 
 abbrev pub read_step : Directions → List ℕ → ℕ → ℕ → ℕ → Option ℕ
 read_step r s mask v m = dir_end s mask v (dir_at r m)
@@ -47,5 +45,5 @@ tight_by g D v m = is-there (g.step m v) (λ w. eqb (D w + g.cost m) (D v))
 unfoldable pub inflow_by : Graph → (ℕ → ℕ) → (ℕ → ℕ) → ℕ → ℕ → ℕ
 inflow_by g D F v m = given (g.step m v) (λ w. when-eq (D w + g.cost m) (D v) (F w))
 
-unfoldable pub sum_of : ℕ → Sum
-sum_of x = pick (ltb x (2 ^ 64)) (Is x) Over
+unfoldable pub sum_of : ℕ → Answer ℕ
+sum_of x = pick (ltb x (2 ^ 64)) (Some x) None

@@ -26,7 +26,7 @@ use Rattle.moves.specs.declared.Move.{Move}
 use Rattle.moves.specs.declared.Offset.{Offset}
 use Rattle.moves.specs.declared.Directions.{Directions}
 use Rattle.moves.specs.Moves.{dir_count, dir_move, dir_at, move_at}
-use Rattle.moves.specs.Steps.{up, down, end_if}
+use Rattle.moves.specs.Steps.{end_if}
 use Rattle.moves.specs.Table.{is_some, Within, Short, lawful_dirs, parts_of}
 use Rattle.basics.specs.Bits.{bit}
 use Rattle.masks.specs.Masks.{MaskAt}
@@ -43,21 +43,14 @@ goes-offset S f m x y w g =
     let n = suc f.wide in
     omega (arith, g.vertex, g.columns.moved, ap (λ z. z * n) g.rows.moved)
 
+small : {w a b : ℕ} → w ≤ 127 → a ≤ 2 → b ≤ 2 → b * suc w + a ≤ 258
+small {w} {a} {b} l p q = omega (arith, mul-le-mul {n₁ = b} {m₁ = suc w} {n₂ = 2} {m₂ = 128} q (omega arith))
+
 up_small : (w : ℕ) (m : Move) → w ≤ 127 → Short m → (offset_of w m).up ≤ 258
-up_small w m l s =
-    let a = up_le m.dx in
-    let b = up_le m.dy in
-    let x = s.columns in
-    let y = s.rows in
-    omega (arith, mul-le-mul {n₁ = up m.dy} {m₁ = suc w} {n₂ = 2} {m₂ = 128} (omega arith) (omega arith))
+up_small w m l s = small l (omega (arith, up_le m.dx, s.columns)) (omega (arith, up_le m.dy, s.rows))
 
 down-small : (w : ℕ) (m : Move) → w ≤ 127 → Short m → (offset_of w m).down ≤ 258
-down-small w m l s =
-    let a = down_le m.dx in
-    let b = down_le m.dy in
-    let x = s.columns in
-    let y = s.rows in
-    omega (arith, mul-le-mul {n₁ = down m.dy} {m₁ = suc w} {n₂ = 2} {m₂ = 128} (omega arith) (omega arith))
+down-small w m l s = small l (omega (arith, down_le m.dx, s.columns)) (omega (arith, down_le m.dy, s.rows))
 
 -- Neither part of the offset is above 258.
 pub record MoveOffset (w : ℕ) (m : Move) (o : Offset) : Type 0 where

@@ -10,13 +10,12 @@
 --   by_shift x, shifted_by l k == the offset x - 512, and that of place k of the list l
 --   dir_end l n v k            == the far end of direction k from v by the mask n and the shifts l, if the move is open
 --   end_of o                   == the far end o as the code answers it
-use Rattle.std.specs.Prelude.{ℕ, suc, ◌+◌, ◌-◌, ◌*◌, ◌^◌, ◌≤◌, ◌<◌, ◌≡◌, true, List, length, get_or}
+use Rattle.std.specs.Prelude.{ℕ, suc, ◌+◌, ◌-◌, ◌*◌, ◌^◌, ◌≤◌, ◌<◌, ◌≡◌, true, List, length, get_or, Option as Answer, Some, None}
 use Rattle.std.proofs.Math.Option.{Option, none, some}
 use Rattle.basics.specs.Bounded.{pick}
 use Rattle.moves.specs.declared.Move.{Move}
 use Rattle.moves.specs.declared.Offset.{Offset}
-use Rattle.offsets.specs.declared.OpenEnd.{OpenEnd}
-use Rattle.offsets.specs.declared.OpenEnd.TheVariants.{At, Shut}
+use Rattle.floor.specs.declared.Vertex.{Vertex}
 use Rattle.moves.specs.declared.Directions.{Directions}
 use Rattle.moves.specs.Moves.{dir_count, dir_at, move_at}
 use Rattle.moves.specs.Steps.{up, down}
@@ -50,6 +49,6 @@ shifted_by l k = by_shift (get_or l k 0)
 abbrev pub dir_end : List ℕ → ℕ → ℕ → ℕ → Option ℕ
 dir_end l n v k = masked_end n v k (shifted_by l k)
 
-unfoldable pub end_of : Option ℕ → OpenEnd
-end_of none = Shut
-end_of (some v) = At (record { 0 = v })
+abbrev pub end_of : Option ℕ → Answer Vertex
+end_of none = None
+end_of (some v) = Some (record { 0 = v })

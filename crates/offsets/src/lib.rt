@@ -4,7 +4,7 @@
 
 ghost use Rattle.std.specs.Prelude.{◌≡◌, true, ◌+◌, ◌<◌, ◌≤◌};
 ghost use Rattle.moves.specs.Moves.{move_at};
-ghost use Rattle.moves.specs.Table.{Listed, eight_dirs, sixteen_dirs, lawful_dirs};
+ghost use Rattle.moves.specs.Table.{Listed, lawful_dirs};
 ghost use Rattle.offsets.specs.Offsets.{offset_of, masked_end, Movable, shift_base, Shifts, by_shift, end_of};
 ghost use Rattle.offsets.specs.Classes.{class_dir, class_for, classes_for, Classes};
 
@@ -31,14 +31,6 @@ pub struct Class {
     pub cost: u32,
 }
 
-// Where a move leads from a vertex, by the mask of its open moves: to a vertex, or nowhere. A move that leads off the
-// floor is shut.
-#[derive(Clone, Copy)]
-pub enum OpenEnd {
-    At(Vertex),
-    Shut,
-}
-
 // By how much move m of a neighbourhood changes a vertex number.
 fn offset_of(w: usize, dirs: Directions, m: usize) -> Offset
     requires { (w ≤ 127) × (lawful_dirs dirs ≡ true) × (m < dirs.count) }
@@ -54,18 +46,22 @@ fn offset_of(w: usize, dirs: Directions, m: usize) -> Offset
 }
 
 // The far end of direction k from v, by the mask of v's open moves and `shift`, the place of the direction in the list
-// of `shifts_of`. The caller reads the shift before the test: read after it, every call would be compiled to a branch.
-pub fn open_end(mask: u32, v: Vertex, k: usize, shift: usize) -> OpenEnd
+// of `shifts_of`. A move that leads off the floor is shut. The caller reads the shift before the test: read after it,
+// every call would be compiled to a branch.
+pub fn open_end(mask: u32, v: Vertex, k: usize, shift: usize) -> Option<Vertex>
     requires { Movable mask v.0 k (by_shift shift) }
     ensures { result ≡ end_of (masked_end mask v.0 k (by_shift shift)) }
 {
     if (mask >> k) % 2 == 1 {
-        return OpenEnd::At(Vertex(v.0 + shift - SHIFT_BASE));
+        Some(Vertex(v.0 + shift - SHIFT_BASE))
+    } else {
+        None
     }
-    OpenEnd::Shut
 }
 
-// SHIFT_BASE plus the change of a vertex number by move m of a neighbourhood.
+// SHIFT_BASE plus the change of a vertex number by move m of a neighbourhood. It is inlined in any case, so that the
+// moves of a table fold.
+#[inline(always)]
 fn shift_of(w: usize, dirs: Directions, m: usize) -> usize
     requires { (w ≤ 127) × (lawful_dirs dirs ≡ true) × (m < dirs.count) }
     ensures { result + (offset_of w (move_at dirs m)).down ≡ shift_base + (offset_of w (move_at dirs m)).up }
@@ -74,43 +70,33 @@ fn shift_of(w: usize, dirs: Directions, m: usize) -> usize
     SHIFT_BASE + by.up - by.down
 }
 
-// The shifts of the eight. The directions and their number are constants here, so that the compiler writes the loop out
-// move by move.
-fn eight_shifts(w: usize) -> [usize; DIRS]
-    requires { w ≤ 127 }
-    ensures { Shifts w eight_dirs result }
+// The shifts of a table of N directions. The number is a constant of the function, and the table one where it is
+// called: each of the two tables has a function of its own, of which the compiler writes the loop out move by move.
+#[tactic(auto, using(masks::proofs::Tables::tables))]
+fn table_shifts<const N: usize>(w: usize, table: Directions) -> [usize; DIRS]
+    requires { (w ≤ 127) × Listed table × (table.count ≡ N) }
+    ensures { Shifts w table result }
 {
     let mut shifts = [0; DIRS];
-    for m in 0..8 {
-        let k = moves::dir_at(EIGHT_DIRS, m);
-        shifts[k] = shift_of(w, EIGHT_DIRS, m);
-    }
-    shifts
-}
-
-// The shifts of the sixteen.
-fn sixteen_shifts(w: usize) -> [usize; DIRS]
-    requires { w ≤ 127 }
-    ensures { Shifts w sixteen_dirs result }
-{
-    let mut shifts = [0; DIRS];
-    for m in 0..16 {
-        let k = moves::dir_at(SIXTEEN_DIRS, m);
-        shifts[k] = shift_of(w, SIXTEEN_DIRS, m);
+    for m in 0..N {
+        let k = moves::dir_at(table, m);
+        shifts[k] = shift_of(w, table, m);
     }
     shifts
 }
 
 // For each direction of a neighbourhood, SHIFT_BASE plus the change of a vertex number by its move, on floors of width
 // w. The directions of a neighbourhood of 4 are among the eight. A direction that the table does not have has 0.
+#[tactic(auto, using(masks::proofs::Tables::tables))]
 pub fn shifts_of(w: usize, dirs: Directions) -> [usize; DIRS]
     requires { (w ≤ 127) × Listed dirs }
     ensures { Shifts w dirs result }
 {
     if dirs.count == 16 {
-        return sixteen_shifts(w);
+        table_shifts::<16>(w, SIXTEEN_DIRS)
+    } else {
+        table_shifts::<8>(w, EIGHT_DIRS)
     }
-    eight_shifts(w)
 }
 
 // Direction j of a class, for j from 0 to 3.
@@ -128,12 +114,13 @@ pub fn class_of(dirs: Directions, m: usize) -> Class
     ensures { result ≡ class_for dirs m }
 {
     if m < dirs.count / 4 {
-        return Class {
+        Class {
             dir: moves::dir_at(dirs, m),
             cost: moves::cost_at(dirs, m),
-        };
+        }
+    } else {
+        Class { dir: 0, cost: 0 }
     }
-    Class { dir: 0, cost: 0 }
 }
 
 // The classes of a neighbourhood, from the table: of the first move, of the one in the middle of a quarter turn, and of

@@ -2,6 +2,7 @@
 --
 --   Sheet                  == the slices d, e, f, b and route (rule 5.1), the slice next, and the point count n
 --   sheet_of d e f b r x n == the sheet with these slices and this point count
+--   sheet_in s             == the sheet that the code has as s
 --   joined g a b           == an open walk joins a to b
 --   fits g a b             == the total f(B) is at most 2^64 - 1
 --   route_sheet g a b      == the one true route sheet, where a walk joins a to b and the total fits
@@ -11,6 +12,7 @@
 --   same_sheet s t         == the two sheets have the same numbers, tested
 use Rattle.std.specs.Prelude.{ℕ, ◌^◌, ◌≡◌, Bool, true, false, ◌&&◌, List, ltb, eqb, length}
 use Rattle.basics.specs.Lists.{tabulate, padded, zeros, same}
+use Rattle.paths.specs.declared.sheet.Sheet.{Sheet as Lent}
 use Rattle.paths.specs.Graph.{Graph}
 use Rattle.paths.specs.Distance.{unreachable, distance, path_count}
 use Rattle.paths.specs.Route.{count_from, count_to, central_route, next_number}
@@ -26,6 +28,9 @@ pub record Sheet : Type 0 where
 
 abbrev pub sheet_of : List ℕ → List ℕ → List ℕ → List ℕ → List ℕ → List ℕ → ℕ → Sheet
 sheet_of d e f b r x n = record { d = d; e = e; f = f; b = b; route = r; next = x; n = n }
+
+abbrev pub sheet_in : Lent → Sheet
+sheet_in s = sheet_of s.d.now s.e.now s.f.now s.back.now s.route.now s.next.now s.n
 
 unfoldable pub joined : Graph → ℕ → ℕ → Bool
 joined g a b = ltb (distance g a b) unreachable

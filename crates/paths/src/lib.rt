@@ -1,6 +1,6 @@
 // Walks, costs, counts and the central route, over any table of moves: definitions in specs/, laws in proofs/. The code
-// is one constant, the cost that crates above write where no walk joins two vertices, and a function whose contract
-// says that it is `unreachable`.
+// is one constant, the cost that crates above write where no walk joins two vertices, a function whose contract says
+// that it is `unreachable`, and a sheet that a caller hands in.
 //
 // The terms of docs/RULES.md, sections 4 and 5, and what they are called here:
 //
@@ -14,7 +14,7 @@
 //     a walk joins A to B      `joined g a b`
 //     the central route        `central_route g a b`
 //     the next vertex          `next_number g a b v` (rule 5.3)
-//     the sheet                `Sheet`
+//     the sheet                `Sheet`; of a sheet as the code has it, `sheet_in`
 //     the true route sheet     `route_sheet g a b`, where `TrueRoute g a b s` says that s is it and that the job has one
 //     the true no_route sheet  `no_route_sheet g a`, and `TrueNoRoute g a b s`
 //
@@ -26,6 +26,10 @@
 
 ghost use Rattle.std.specs.Prelude.{◌≡◌};
 ghost use Rattle.paths.specs.Distance.{unreachable};
+
+mod sheet; // sheet.rt: a sheet that is handed in
+
+pub use sheet::Sheet;
 
 // The cost where no walk joins two vertices: M of rule 4.2.
 pub const UNREACHABLE: u32 = 4294967295;

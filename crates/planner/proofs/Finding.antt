@@ -21,6 +21,7 @@ use Rattle.floor.specs.Floor.{floor_of, vertices}
 use Rattle.floor.specs.declared.Refusal.TheVariants.{NoRoute, TooMany}
 use Rattle.moves.specs.declared.Directions.{Directions}
 use Rattle.moves.proofs.Table.{listed-lawful}
+use Rattle.std.specs.Prelude.{Ok, Err}
 use Rattle.paths.specs.Graph.{Graph, Lawful}
 use Rattle.paths.specs.Distance.{unreachable, distance, path_count}
 use Rattle.paths.specs.Route.{count_from, next_number}
@@ -37,15 +38,13 @@ use Rattle.workspace.specs.Regions.{Masked, MasksIn}
 use Rattle.workspace.proofs.Regions.{floor-masked}
 use Rattle.distances.specs.Costs.{Costing, OrderedCosts}
 use Rattle.counts.specs.Passes.{PassInput, Known, Filled}
-use Rattle.planner.specs.declared.Planned.{Planned}
-use Rattle.planner.specs.declared.Planned.TheVariants.{Found, Refused}
-use Rattle.planner.specs.Plan.{slices_of}
+use Rattle.planner.specs.Plan.{Planned, plan_of, slices_of}
 use Rattle.planner.specs.Parts.{number_at, Choosable, Finishable, Findable, Finished, Walkable, Routed}
 use Rattle.planner.proofs.Numbering.{TrueLists, true-choosable, true-numbers}
 use Rattle.planner.proofs.Finishing.{finished-none, finished-many, finished-route}
 
 module _ {w h : ℕ} {map : List ℕ} {dirs : Directions} {a b : ℕ} {d e f back route next work : List ℕ}
-    (F : Findable w h map dirs a b d e f back route next work) where
+    (F : Findable w h map dirs a b d (slices_of e f back route next work)) where
   abbrev g : Graph
   g = floor_graph (floor_of w h map) dirs
 
@@ -116,7 +115,7 @@ module _ {w h : ℕ} {map : List ℕ} {dirs : Directions} {a b : ℕ} {d e f bac
 
       module _ {r : Bool} {work'' f' back' : List ℕ} (filled : Filled g dirs shifts a b r work'' f' back') where
         pub found-many : r ≡ false
-            → Finished g a b (Refused TooMany) (slices_of e' f' back' route next (zeros (4 * vertices w h)))
+            → Finished g a b (Err TooMany) (slices_of e' f' back' route next (zeros (4 * vertices w h)))
         found-many over =
             let K = subst (λ z. Filled g dirs shifts a b z work'' f' back') over filled in
             finished-many refl F.reached e_true (sym K.answer) K.f_left K.back_left
@@ -174,7 +173,7 @@ module _ {w h : ℕ} {map : List ℕ} {dirs : Directions} {a b : ℕ} {d e f bac
             }
 
             pub found-route : {route' : List ℕ} (k : ℕ) → Routed g a b route' k
-                → Finished g a b (Found (entry d b) (entry f' b) k)
+                → Finished g a b (Ok (plan_of (entry d b) (entry f' b) k))
                 (slices_of e' f' back' route' next' (zeros (4 * vertices w h)))
             found-route k R =
                 finished-route refl F.reached e_true (entry d b) (entry f' b) k
@@ -184,7 +183,7 @@ module _ {w h : ℕ} {map : List ℕ} {dirs : Directions} {a b : ℕ} {d e f bac
 
 module _ {w h : ℕ} {map : List ℕ} {dirs : Directions} {a b : ℕ}
     {d e f back route next work f' back' route' next' : List ℕ}
-    (P : Finishable w h map dirs a b d e f back route next work)
+    (P : Finishable w h map dirs a b d (slices_of e f back route next work))
     (f_blank : f' ≡ zeros (length f))
     (back_blank : back' ≡ zeros (length back)) (route_blank : route' ≡ zeros (length route))
     (next_blank : next' ≡ zeros (length next)) where
@@ -195,7 +194,7 @@ module _ {w h : ℕ} {map : List ℕ} {dirs : Directions} {a b : ℕ}
   goal-cost = ap (λ l. entry l b) P.costs ∙ get_d_tabulate (vertices w h) b (distance graph a) P.job.goal_in
 
   pub finish-none : {e' work' : List ℕ} → entry d b ≡ unreachable → e' ≡ zeros (length e) → work' ≡ zeros (length work)
-      → Finished graph a b (Refused NoRoute) (slices_of e' f' back' route' next' work')
+      → Finished graph a b (Err NoRoute) (slices_of e' f' back' route' next' work')
   finish-none far e-blank work-blank =
       finished-none (work-blank ∙ ap zeros P.lent.work_len) (sym goal-cost ∙ far)
       (e-blank ∙ ap zeros P.lent.sheet.e) (f_blank ∙ ap zeros P.lent.sheet.f)
@@ -203,7 +202,7 @@ module _ {w h : ℕ} {map : List ℕ} {dirs : Directions} {a b : ℕ}
       (next_blank ∙ ap zeros P.lent.sheet.next)
 
   pub finish-findable : MasksIn (floor_of w h map) dirs work → (entry d b ≡ unreachable → ⊥)
-      → Findable w h map dirs a b d e f' back' route' next' work
+      → Findable w h map dirs a b d (slices_of e f' back' route' next' work)
   finish-findable masks near = record {
     finishable = record {
       job = P.job;

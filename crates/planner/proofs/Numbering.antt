@@ -9,12 +9,12 @@
 --                          at the end
 use Prim.Native.Nat.{ℕ, suc, ◌+◌, ◌*◌, ◌^◌, ◌≤◌, ◌<◌}
 use mathlib.Core.Path.{◌≡◌, sym, ap, ap₂, ◌∙◌, subst}
-use mathlib.Core.Bool.{Bool, true, false, not}
+use mathlib.Core.Bool.{Bool, true, false}
 use mathlib.Core.Logic.{⊎_elim}
 use mathlib.Core.List.{List, []}
 use mathlib.Core.Option.{some}
 use native.Mathlib.Omega.{arith}
-use borrow.Author.Tests.{eq-eqb, ne_eqb, not-true, not-false}
+use borrow.Author.Tests.{eq-eqb, ne_eqb}
 use lib.ListN.{length, set, length-set, length-replicate}
 use lib.Seq.{get_or-set_same, get_or-set_other}
 use Rattle.basics.specs.Lists.{tabulate, zeros}
@@ -136,12 +136,12 @@ module _ {g : Graph} {dirs : Directions} {shifts : List ℕ} {a b : ℕ} {d e f 
 
 module _ {dirs : Directions} {shifts : List ℕ} {mask b : ℕ} {d e : List ℕ} (f back : List ℕ) {v : ℕ}
     (C : Choosing dirs shifts mask d e b v) {o : Bool} (on : o ≡ on_shortest (entry d) (entry e) b v) where
-  pub number-off : not o ≡ true → (0 ≡ number_of dirs shifts mask b d e f back v) × (0 < length d)
-  number-off t = (rw (sym on ∙ not-true o t), omega (arith, C.readable.vertex))
+  pub number-off : o ≡ false → (0 ≡ number_of dirs shifts mask b d e f back v) × (0 < length d)
+  number-off t = (rw (sym on ∙ t), omega (arith, C.readable.vertex))
 
-  module _ (t : not o ≡ false) where
+  module _ (t : o ≡ true) where
     way : on_shortest (entry d) (entry e) b v ≡ true
-    way = sym on ∙ not-false o t
+    way = sym on ∙ t
 
     pub number-goal : v ≡ b → (b ≡ number_of dirs shifts mask b d e f back v) × (b < length d)
     number-goal q = (rw (way, eq-eqb v b q), C.goal_in)

@@ -11,28 +11,26 @@ use mathlib.Core.List.{List}
 use borrow.Author.Tests.{eq-eqb}
 use lib.Dec.{eqb}
 use lib.ListN.{length}
+use Rattle.std.specs.Prelude.{Ok, Err}
 use Rattle.basics.specs.Lists.{tabulate, zeros}
 use Rattle.basics.proofs.Bools.{and_left}
 use Rattle.basics.proofs.Lists.{length-tabulate}
 use Rattle.floor.specs.Floor.{floor_of, vertices}
 use Rattle.floor.specs.declared.Refusal.TheVariants.{FalseSheet}
-use Rattle.floor.specs.declared.Shape.TheVariants.{Good}
 use Rattle.moves.specs.declared.Directions.{Directions}
 use Rattle.paths.specs.Graph.{Graph}
 use Rattle.paths.specs.Distance.{distance}
 use Rattle.grid.specs.Grid.{floor_graph, job_shape}
-use Rattle.grid.specs.declared.JobShape.TheVariants.{Fit}
 use Rattle.grid.proofs.Jobs.{start-fit}
 use Rattle.given_costs.specs.Given.{costs_true}
 use Rattle.given_costs.proofs.Tested.{list-true}
-use Rattle.planner.specs.declared.Planned.TheVariants.{Refused}
 use Rattle.planner.specs.Plan.{CostSlices, cost_slices_of, costs_sized, costs_answer, costs_left}
 use Rattle.planner.specs.Plan.{Slices, slices_sized, route_answer, route_left, finish_answer, finish_left}
 
 -- The first operation answers 0, and leaves the true costs in d and 0 in its working slice; the second, on that d,
 -- gives the answer of the job and leaves its slices as the job does.
 pub record Together (w h : ℕ) (map : List ℕ) (nb a b : ℕ) (g : Graph) (s : CostSlices) (t : Slices) : Type 0 where
-  pub first : costs_answer w h map nb a s ≡ Good
+  pub first : costs_answer w h map nb a s ≡ Ok tt
   pub costs : costs_left w h map nb a s ≡ cost_slices_of (tabulate g.size (distance g a)) (zeros (4 * g.size))
   pub answer : finish_answer w h map nb a b (costs_left w h map nb a s).d t ≡ route_answer g a b
   pub left : finish_left w h map nb a b (costs_left w h map nb a s).d t ≡ route_left g a b
@@ -41,7 +39,7 @@ module _ (w h : ℕ) (map : List ℕ) (nb a b : ℕ) (dirs : Directions) where
   abbrev g : Graph
   g = floor_graph (floor_of w h map) dirs
 
-  module _ (fit : job_shape w h map nb a b ≡ Fit dirs) where
+  module _ (fit : job_shape w h map nb a b ≡ Ok dirs) where
     module _ (d : List ℕ) (t : Slices) (sized : slices_sized (vertices w h) d t ≡ true) where
       pub finish-true : costs_true g a d ≡ true
           → (finish_answer w h map nb a b d t ≡ route_answer g a b) × (finish_left w h map nb a b d t ≡ route_left g a b)
@@ -49,7 +47,7 @@ module _ (w h : ℕ) (map : List ℕ) (nb a b : ℕ) (dirs : Directions) where
       finish-true e = (rw (fit, sized, e), rw (fit, sized, e))
 
       pub finish-false : costs_true g a d ≡ false
-          → (finish_answer w h map nb a b d t ≡ Refused FalseSheet) × (finish_left w h map nb a b d t ≡ t)
+          → (finish_answer w h map nb a b d t ≡ Err FalseSheet) × (finish_left w h map nb a b d t ≡ t)
       unfolding finish_answer finish_left
       finish-false e = (rw (fit, sized, e), rw (fit, sized, e))
 

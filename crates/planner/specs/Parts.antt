@@ -7,22 +7,23 @@
 --   Choosable r s b d e f back work == the slices have the lengths, costs, counts and masks by which every next vertex
 --                                is chosen, and a move leads on from each vertex on the way before b
 --   NumberedTo .. v next      == the list `next` has the next vertices of the vertices before v, and 0 from place v on
+--   number_by n, ChoosableBy n, NumberedBy n == `number_at`, `Choosable` and `NumberedTo` by the numbers n
 --   Walkable g a b next route == `next` has the next vertices of a job on graph g that has a route, and `route` is all
 --                                0
 --   Routed g a b route n      == the slice `route` has the central route, and n is the number of its points
+--   lent_in s                 == what the slices hold that are lent as s
+--   left_in x                 == what slices that were lent hold at the end, field by field
 --   lengths_good v ..          == slices of these lengths have the places that a floor of v vertices needs
 --   FullSlices v ..           == the slices have the places that a floor of v vertices needs
 --   Finishable ..             == a good job, `FullSlices` for its floor, and d has the costs from a
 --   Findable ..               == `Finishable`, the working slice has the masks, a walk joins the ends, and counts,
 --                                route and next vertices are all 0
 --   Finished g a b r s        == the answer r and the slices s are those of the job from a to b on graph g
---   FillsJob .., FinishesJob .. == the answer r and the slices s' are those of the first operation, and of the second,
---                                where none of refusals 1 to 5 and 11 applies
 use Rattle.std.specs.Prelude.{ℕ, ◌*◌, ◌≤◌, ◌<◌, ◌≡◌, Bool, ◌&&◌, List, eqb, length}
+use denote.MutBor.{MutBor}
 use Rattle.basics.specs.Bounded.{pick}
 use Rattle.basics.specs.Lists.{tabulate, padded, zeros}
 use Rattle.floor.specs.Floor.{floor_of, vertices}
-use Rattle.floor.specs.declared.Shape.{Shape}
 use Rattle.moves.specs.declared.Directions.{Directions}
 use Rattle.paths.specs.Graph.{Graph, Lawful}
 use Rattle.paths.specs.Distance.{unreachable, distance}
@@ -31,12 +32,11 @@ use Rattle.paths.specs.Sheet.{sheet_of}
 use Rattle.paths.specs.Local.{entry, Shaped}
 use Rattle.grid.specs.Grid.{floor_graph}
 use Rattle.grid.specs.Known.{GoodJob}
-use Rattle.grid.specs.declared.JobShape.TheVariants.{Fit}
 use Rattle.neighbours.specs.Choice.{Choosing, Counted, next_of, LeadsBy}
 use Rattle.workspace.specs.Regions.{mask_at, MasksIn}
-use Rattle.planner.specs.declared.Planned.{Planned}
-use Rattle.planner.specs.Plan.{CostSlices, Slices, route_answer, route_left}
-use Rattle.planner.specs.Plan.{job_costs, job_costs_left, job_answer, job_left}
+use Rattle.planner.specs.declared.route.Numbers.{Numbers}
+use Rattle.planner.specs.declared.Slices.{Slices as LentSlices}
+use Rattle.planner.specs.Plan.{Slices, slices_of, Planned, route_answer, route_left}
 
 abbrev pub number_of : Directions → List ℕ → ℕ → ℕ → List ℕ → List ℕ → List ℕ → List ℕ → ℕ → ℕ
 number_of r s mask b d e f back v =
@@ -58,6 +58,16 @@ pub record NumberedTo (dirs : Directions) (shifts : List ℕ) (b : ℕ) (d e f b
   pub at : (u : ℕ) → u < v → entry next u ≡ number_at dirs shifts b d e f back work u
   pub blank : (u : ℕ) → v ≤ u → entry next u ≡ 0
 
+-- The same, by the numbers that the code lends together.
+abbrev pub number_by : Numbers → ℕ → ℕ
+number_by n = number_at n.dirs n.shifts.now n.b n.d.now n.e.now n.f.now n.back.now n.work.now
+
+abbrev pub ChoosableBy : Numbers → Type 0
+ChoosableBy n = Choosable n.dirs n.shifts.now n.b n.d.now n.e.now n.f.now n.back.now n.work.now
+
+abbrev pub NumberedBy : Numbers → ℕ → List ℕ → Type 0
+NumberedBy n = NumberedTo n.dirs n.shifts.now n.b n.d.now n.e.now n.f.now n.back.now n.work.now
+
 pub record Walkable (g : Graph) (a b : ℕ) (next route : List ℕ) : Type 0 where
   pub few : g.size ≤ 16384
   pub lawful : Lawful g
@@ -71,6 +81,16 @@ pub record Routed (g : Graph) (a b : ℕ) (route : List ℕ) (n : ℕ) : Type 0 
   pub points : n ≡ length (central_route g a b)
   pub list : route ≡ padded g.size (central_route g a b)
 
+abbrev pub lent_in : LentSlices → Slices
+lent_in s = slices_of s.e.now s.f.now s.back.now s.route.now s.next.now s.work.now
+
+abbrev pub LentList : Type 0
+LentList = MutBor (List ℕ)
+
+abbrev pub left_in : LentList × (LentList × (LentList × (LentList × (LentList × (LentList × Unit {0}))))) → Slices
+left_in x =
+    slices_of x.0.now x.1.0.now x.1.1.0.now x.1.1.1.0.now x.1.1.1.1.0.now x.1.1.1.1.1.0.now
+
 unfoldable pub lengths_good : ℕ → ℕ → ℕ → ℕ → ℕ → ℕ → ℕ → ℕ → Bool
 lengths_good v d e f b route next work =
     eqb d v && eqb e v && eqb f v && eqb b v && eqb route v && eqb next v && eqb work (4 * v)
@@ -79,33 +99,20 @@ pub record FullSlices (v : ℕ) (d e f back route next work : List ℕ) : Type 0
   pub sheet : Shaped v (sheet_of d e f back route next 0)
   pub work_len : length work ≡ 4 * v
 
-pub record Finishable (w h : ℕ) (map : List ℕ) (dirs : Directions) (a b : ℕ) (d e f back route next work : List ℕ)
-    : Type 0 where
+pub record Finishable (w h : ℕ) (map : List ℕ) (dirs : Directions) (a b : ℕ) (d : List ℕ) (s : Slices) : Type 0 where
   pub job : GoodJob w h map dirs a b
-  pub lent : FullSlices (vertices w h) d e f back route next work
+  pub lent : FullSlices (vertices w h) d s.e s.f s.b s.route s.next s.work
   pub costs : d ≡ tabulate (vertices w h) (distance (floor_graph (floor_of w h map) dirs) a)
 
-pub record Findable (w h : ℕ) (map : List ℕ) (dirs : Directions) (a b : ℕ) (d e f back route next work : List ℕ)
-    : Type 0 where
-  pub finishable : Finishable w h map dirs a b d e f back route next work
-  pub masks : MasksIn (floor_of w h map) dirs work
+pub record Findable (w h : ℕ) (map : List ℕ) (dirs : Directions) (a b : ℕ) (d : List ℕ) (s : Slices) : Type 0 where
+  pub finishable : Finishable w h map dirs a b d s
+  pub masks : MasksIn (floor_of w h map) dirs s.work
   pub reached : distance (floor_graph (floor_of w h map) dirs) a b < unreachable
-  pub f_blank : f ≡ zeros (vertices w h)
-  pub back_blank : back ≡ zeros (vertices w h)
-  pub route_blank : route ≡ zeros (vertices w h)
-  pub next_blank : next ≡ zeros (vertices w h)
+  pub f_blank : s.f ≡ zeros (vertices w h)
+  pub back_blank : s.b ≡ zeros (vertices w h)
+  pub route_blank : s.route ≡ zeros (vertices w h)
+  pub next_blank : s.next ≡ zeros (vertices w h)
 
 pub record Finished (g : Graph) (a b : ℕ) (r : Planned) (s : Slices) : Type 0 where
   pub answer : r ≡ route_answer g a b
   pub left : s ≡ route_left g a b
-
-pub record FillsJob (w h : ℕ) (map : List ℕ) (dirs : Directions) (a : ℕ) (s : CostSlices) (r : Shape) (s' : CostSlices)
-    : Type 0 where
-  pub answer : r ≡ job_costs w h s (Fit dirs)
-  pub left : s' ≡ job_costs_left w h map a s (Fit dirs)
-
-pub record FinishesJob (w h : ℕ) (map : List ℕ) (dirs : Directions) (a b : ℕ) (d : List ℕ) (s : Slices) (r : Planned)
-    (s' : Slices)
-    : Type 0 where
-  pub answer : r ≡ job_answer w h map a b d s (Fit dirs)
-  pub left : s' ≡ job_left w h map a b d s (Fit dirs)

@@ -4,6 +4,8 @@
 --
 --   CostSlices         == the slices lent to the first operation: d and its working slice
 --   Slices             == the slices lent to the second operation: those of the sheet but d, and its working slice
+--   Planned             == the answer of the second operation: the values of the route, or a refusal
+--   plan_of c t n       == the answer of cost c, total t and n points
 --   route_answer g a b  == the answer for the job from a to b on graph g, where its shape is good and d is true: 0, 7 or
 --                         8
 --   route_left g a b    == the slices that the second operation leaves at the answer `route_answer g a b`
@@ -18,24 +20,21 @@
 --                         and 11
 --   Finishes ..        == the promise of the second operation: `finish_answer` and `finish_left`
 --   plan_number, plan_cost, plan_total, plan_points == the number (rule 6.1) and the values (rule 6.4) of an answer
-use Rattle.std.specs.Prelude.{ℕ, ◌*◌, ◌≡◌, Bool, ◌&&◌, List, eqb, length}
+use Rattle.std.specs.Prelude.{ℕ, ◌*◌, ◌≡◌, Bool, ◌&&◌, List, eqb, length, Result, Ok, Err}
 use Rattle.basics.specs.Bounded.{pick}
 use Rattle.basics.specs.Lists.{tabulate, zeros}
 use Rattle.floor.specs.Floor.{floor_of, vertices}
-use Rattle.floor.specs.Refusals.{refusal_number}
+use Rattle.floor.specs.Refusals.{Shape, refusal_number}
+use Rattle.floor.specs.declared.Refusal.{Refusal}
 use Rattle.floor.specs.declared.Refusal.TheVariants.{SliceLength, NoRoute, TooMany, FalseSheet}
-use Rattle.floor.specs.declared.Shape.{Shape}
-use Rattle.floor.specs.declared.Shape.TheVariants.{Good, Refused as BadShape}
+use Rattle.moves.specs.declared.Directions.{Directions}
 use Rattle.paths.specs.Graph.{Graph}
 use Rattle.paths.specs.Distance.{distance, path_count}
 use Rattle.paths.specs.Route.{central_route}
 use Rattle.paths.specs.Sheet.{Sheet, joined, fits, route_sheet, no_route_sheet}
 use Rattle.grid.specs.Grid.{floor_graph, job_shape}
-use Rattle.grid.specs.declared.JobShape.{JobShape}
-use Rattle.grid.specs.declared.JobShape.TheVariants.{Fit, Refused as BadJob}
 use Rattle.given_costs.specs.Given.{costs_true}
-use Rattle.planner.specs.declared.Planned.{Planned}
-use Rattle.planner.specs.declared.Planned.TheVariants.{Found, Refused}
+use Rattle.planner.specs.declared.Plan.{Plan}
 
 pub record CostSlices : Type 0 where
   pub d : List ℕ
@@ -67,11 +66,17 @@ costs_alone g b =
     slices_of (tabulate g.size (λ v. distance g v b)) (zeros g.size) (zeros g.size) (zeros g.size)
     (zeros g.size) (zeros (4 * g.size))
 
+abbrev pub Planned : Type 0
+Planned = Result Plan Refusal
+
+abbrev pub plan_of : ℕ → ℕ → ℕ → Plan
+plan_of c t n = record { cost = c; total = t; points = n }
+
 unfoldable pub route_answer : Graph → ℕ → ℕ → Planned
 route_answer g a b =
     pick (joined g a b)
-    (pick (fits g a b) (Found (distance g a b) (path_count g a b) (length (central_route g a b))) (Refused TooMany))
-    (Refused NoRoute)
+    (pick (fits g a b) (Ok (plan_of (distance g a b) (path_count g a b) (length (central_route g a b)))) (Err TooMany))
+    (Err NoRoute)
 
 unfoldable pub route_left : Graph → ℕ → ℕ → Slices
 route_left g a b =
@@ -84,16 +89,16 @@ route_left g a b =
 unfoldable pub costs_sized : ℕ → CostSlices → Bool
 costs_sized v s = eqb (length s.d) v && eqb (length s.work) (4 * v)
 
-abbrev pub job_costs : ℕ → ℕ → CostSlices → JobShape → Shape
-job_costs w h s (Fit dirs) = pick (costs_sized (vertices w h) s) Good (BadShape SliceLength)
-job_costs w h s (BadJob r) = BadShape r
+abbrev pub job_costs : ℕ → ℕ → CostSlices → Result Directions Refusal → Shape
+job_costs w h s (Ok dirs) = pick (costs_sized (vertices w h) s) (Ok tt) (Err SliceLength)
+job_costs w h s (Err r) = Err r
 
-abbrev pub job_costs_left : ℕ → ℕ → List ℕ → ℕ → CostSlices → JobShape → CostSlices
-job_costs_left w h map a s (Fit dirs) =
+abbrev pub job_costs_left : ℕ → ℕ → List ℕ → ℕ → CostSlices → Result Directions Refusal → CostSlices
+job_costs_left w h map a s (Ok dirs) =
     let v = vertices w h in
     pick (costs_sized v s)
     (cost_slices_of (tabulate v (distance (floor_graph (floor_of w h map) dirs) a)) (zeros (4 * v))) s
-job_costs_left w h map a s (BadJob r) = s
+job_costs_left w h map a s (Err r) = s
 
 unfoldable pub costs_answer : ℕ → ℕ → List ℕ → ℕ → ℕ → CostSlices → Shape
 costs_answer w h map nb a s = job_costs w h s (job_shape w h map nb a a)
@@ -115,18 +120,18 @@ slices_sized v d s =
     eqb (length d) v && eqb (length s.e) v && eqb (length s.f) v && eqb (length s.b) v
     && eqb (length s.route) v && eqb (length s.next) v && eqb (length s.work) (4 * v)
 
-abbrev pub job_answer : ℕ → ℕ → List ℕ → ℕ → ℕ → List ℕ → Slices → JobShape → Planned
-job_answer w h map a b d s (Fit dirs) =
+abbrev pub job_answer : ℕ → ℕ → List ℕ → ℕ → ℕ → List ℕ → Slices → Result Directions Refusal → Planned
+job_answer w h map a b d s (Ok dirs) =
     let g = floor_graph (floor_of w h map) dirs in
-    pick (slices_sized (vertices w h) d s) (pick (costs_true g a d) (route_answer g a b) (Refused FalseSheet))
-    (Refused SliceLength)
-job_answer w h map a b d s (BadJob r) = Refused r
+    pick (slices_sized (vertices w h) d s) (pick (costs_true g a d) (route_answer g a b) (Err FalseSheet))
+    (Err SliceLength)
+job_answer w h map a b d s (Err r) = Err r
 
-abbrev pub job_left : ℕ → ℕ → List ℕ → ℕ → ℕ → List ℕ → Slices → JobShape → Slices
-job_left w h map a b d s (Fit dirs) =
+abbrev pub job_left : ℕ → ℕ → List ℕ → ℕ → ℕ → List ℕ → Slices → Result Directions Refusal → Slices
+job_left w h map a b d s (Ok dirs) =
     let g = floor_graph (floor_of w h map) dirs in
     pick (slices_sized (vertices w h) d s) (pick (costs_true g a d) (route_left g a b) s) s
-job_left w h map a b d s (BadJob r) = s
+job_left w h map a b d s (Err r) = s
 
 unfoldable pub finish_answer : ℕ → ℕ → List ℕ → ℕ → ℕ → ℕ → List ℕ → Slices → Planned
 finish_answer w h map nb a b d s = job_answer w h map a b d s (job_shape w h map nb a b)
@@ -143,17 +148,17 @@ pub record Finishes (w h : ℕ) (map : List ℕ) (nb a b : ℕ) (d : List ℕ) (
 -- ---- numbers and values of an answer
 
 abbrev pub plan_number : Planned → ℕ
-plan_number (Found c t n) = 0
-plan_number (Refused r) = refusal_number r
+plan_number (Ok p) = 0
+plan_number (Err r) = refusal_number r
 
 abbrev pub plan_cost : Planned → ℕ
-plan_cost (Found c t n) = c
-plan_cost (Refused r) = 0
+plan_cost (Ok p) = p.cost
+plan_cost (Err r) = 0
 
 abbrev pub plan_total : Planned → ℕ
-plan_total (Found c t n) = t
-plan_total (Refused r) = 0
+plan_total (Ok p) = p.total
+plan_total (Err r) = 0
 
 abbrev pub plan_points : Planned → ℕ
-plan_points (Found c t n) = n
-plan_points (Refused r) = 0
+plan_points (Ok p) = p.points
+plan_points (Err r) = 0

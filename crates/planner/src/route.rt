@@ -2,111 +2,80 @@
 ghost use Rattle.std.specs.Prelude.{◌≡◌, ◌≤◌, ◌<◌, length};
 ghost use Rattle.basics.specs.Lists.{tabulate, zeros};
 ghost use Rattle.paths.specs.Graph.{Graph};
-ghost use Rattle.neighbours.specs.Choice.{Choosing, Counted, LeadsBy};
-ghost use Rattle.planner.specs.Parts.{number_of, number_at, Choosable, NumberedTo, Walkable, Routed};
+ghost use Rattle.planner.specs.Parts.{number_by, ChoosableBy, NumberedBy, Walkable, Routed};
 
 use moves::Directions;
 
 // The number of vertices in a part. Each part is tested for a vertex on the way before its next vertices are chosen.
 const PART: usize = 64;
 
-// The next vertex of v as the sheet has it, by the costs and counts and the mask of v: 0 off the way, b at b, and on
-// the way before b the one that the central rule chooses.
-fn next_number(
-    dirs: Directions,
-    shifts: &[usize],
-    mask: u32,
-    b: usize,
-    d: &[u32],
-    e: &[u32],
-    f: &[u64],
-    back: &[u64],
-    v: usize,
-) -> usize
-    requires { Choosing dirs shifts.now mask d.now e.now b v × Counted (length d.now) f.now back.now
-        × LeadsBy dirs shifts.now mask d.now e.now f.now back.now b v }
-    ensures { (result ≡ number_of dirs shifts.now mask b
-        d.now e.now f.now back.now v) × (result < length d.now) }
-{
-    if !neighbours::on_way(d, e, b, v) {
-        return 0;
-    }
-    if v == b {
-        return b;
-    }
-    neighbours::next_at(dirs, shifts, mask, d, e, f, back, b, v).0
+// What the next vertices of a job with a route are chosen by: the directions of its neighbourhood and by how much each
+// changes a vertex number, the goal b, the costs and counts of the sheet, and the masks in the working slice.
+#[derive(Clone, Copy)]
+pub struct Numbers<'a> {
+    pub dirs: Directions,
+    pub shifts: &'a [usize],
+    pub b: usize,
+    pub d: &'a [u32],
+    pub e: &'a [u32],
+    pub f: &'a [u64],
+    pub back: &'a [u64],
+    pub work: &'a [u32],
 }
 
-// Writes the next vertices of the vertices from `first` to before `past`.
-fn fill_part(
-    dirs: Directions,
-    shifts: &[usize],
-    b: usize,
-    d: &[u32],
-    e: &[u32],
-    f: &[u64],
-    back: &[u64],
-    work: &[u32],
-    next: &mut [u16],
-    first: usize,
-    past: usize,
-)
-    requires { Choosable dirs shifts.now b d.now e.now f.now back.now work.now
-        × NumberedTo dirs shifts.now b d.now e.now f.now back.now work.now first next.old
-        × (first ≤ past) × (past ≤ length d.now) }
-    ensures { NumberedTo dirs shifts.now b d.now e.now f.now
-        back.now work.now past next.new }
-{
-    for v in first..past {
-        let mask = workspace::mask_at(work, d.len(), v);
-        next[v] = next_number(dirs, shifts, mask, b, d, e, f, back, v) as u16;
-    }
-}
-
-// The end of the part that begins at `first`, in a slice of n places.
-fn part_end(first: usize, n: usize) -> usize
-    requires { first < n }
-    ensures { (first < result) × (result ≤ n) }
-{
-    if n - first <= PART {
-        return n;
-    }
-    first + PART
-}
-
-// Fills the slice, all 0 before, with the next vertex of every vertex. A part with no vertex on the way is skipped: its
-// numbers are 0.
-pub fn fill_next(
-    dirs: Directions,
-    shifts: &[usize],
-    b: usize,
-    d: &[u32],
-    e: &[u32],
-    f: &[u64],
-    back: &[u64],
-    work: &[u32],
-    next: &mut [u16],
-)
-    requires { Choosable dirs shifts.now b d.now e.now f.now back.now work.now
-        × (next.old ≡ zeros (length d.now)) }
-    ensures { next.new ≡ tabulate (length d.now) (number_at dirs shifts.now b
-        d.now e.now f.now back.now work.now) }
-{
-    let mut first: usize = 0;
-    while first < d.len() {
-        let past = part_end(first, d.len());
-        if neighbours::any_on_way(d, e, b, first, past) {
-            fill_part(dirs, shifts, b, d, e, f, back, work, next, first, past);
+impl Numbers<'_> {
+    // The next vertex of v as the sheet has it: 0 off the way, b at b, and on the way before b the one that the central
+    // rule chooses.
+    fn next_number(self, v: usize) -> usize
+        requires { ChoosableBy self × (v < length self.d.now) }
+        ensures { (result ≡ number_by self.entry v) × (result < length self.entry.d.now) }
+    {
+        if !neighbours::on_way(self.d, self.e, self.b, v) {
+            return 0;
         }
-        first = past;
+        if v == self.b {
+            return self.b;
+        }
+        let mask = workspace::mask_at(self.work, self.d.len(), v);
+        neighbours::next_at(
+            self.dirs,
+            self.shifts,
+            mask,
+            self.d,
+            self.e,
+            self.f,
+            self.back,
+            self.b,
+            v,
+        )
+        .0
     }
-}
 
-// A vertex number of 16 bits as an index.
-fn index(x: u16) -> usize
-    ensures { result ≡ x }
-{
-    x as usize
+    // Writes the next vertices of the vertices from `first` to before `past`.
+    fn fill_part(self, next: &mut [u16], first: usize, past: usize)
+        requires { ChoosableBy self × NumberedBy self first next.old × (first ≤ past) × (past ≤ length self.d.now) }
+        ensures { NumberedBy self.entry past next.new }
+    {
+        for v in first..past {
+            next[v] = self.next_number(v) as u16;
+        }
+    }
+
+    // Fills the slice, all 0 before, with the next vertex of every vertex. A part with no vertex on the way is skipped:
+    // its numbers are 0.
+    pub fn fill_next(self, next: &mut [u16])
+        requires { ChoosableBy self × (next.old ≡ zeros (length self.d.now)) }
+        ensures { next.new ≡ tabulate (length self.entry.d.now) (number_by self.entry) }
+    {
+        let count = (self.d.len() + PART - 1) / PART;
+        for part in 0..count {
+            let first = part * PART;
+            let past = self.d.len().min(first + PART);
+            if neighbours::any_on_way(self.d, self.e, self.b, first, past) {
+                self.fill_part(next, first, past);
+            }
+        }
+    }
 }
 
 // Writes the central route from a to b, the walk through the next vertices, into the route slice, all 0 before, and
@@ -121,7 +90,7 @@ pub fn write_route(a: usize, b: usize, next: &[u16], route: &mut [u16]) -> usize
     while at != b {
         route[n] = at as u16;
         n += 1;
-        at = index(next[at]);
+        at = usize::from(next[at]);
     }
     route[n] = at as u16;
     n + 1

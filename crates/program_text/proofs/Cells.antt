@@ -11,10 +11,9 @@ use lib.Seq.{length-take-le}
 use Rattle.floor.specs.Floor.{stored_cells}
 use Rattle.floor.proofs.Shapes.{sides-good}
 use Rattle.floor.proofs.Stored.{stored-good}
-use Rattle.records.specs.Format.{record_at, start_cursor, cells_of}
+use Rattle.records.specs.Format.{gives_map, record_at, start_cursor, cells_of}
 use Rattle.records.specs.declared.stream.Cursor.{Cursor}
 use Rattle.records.specs.declared.stream.MapRecord.{MapRecord}
-use Rattle.records.specs.declared.stream.Record.TheVariants.{Map}
 use Rattle.records.proofs.Moved.{MapFound, map-step}
 use Rattle.program_text.specs.Contract.{SmallFloor}
 
@@ -28,7 +27,7 @@ module _ (s : List ℕ) (m : MapRecord) where
       let count : m.cells + m.wide * m.high - m.cells ≡ m.wide * m.high = omega arith in
       ap (λ n. take n (drop m.cells s)) count
 
-  module _ (c : Cursor) (e : record_at s start_cursor ≡ Map m c) where
+  module _ (c : Cursor) (e : record_at s start_cursor ≡ gives_map m c) where
     found : MapFound s start_cursor m c
     found = map-step s start_cursor m c e
 

@@ -33,7 +33,7 @@ use Rattle.paths.specs.Distance.{unreachable, distance}
 use Rattle.paths.specs.Route.{central_route}
 use Rattle.paths.proofs.Route.{route-walk, route-pos, route-length, route_inside}
 use Rattle.grid.specs.Grid.{floor_graph, job_shape}
-use Rattle.grid.specs.declared.JobShape.TheVariants.{Fit}
+use Rattle.std.specs.Prelude.{Ok}
 use Rattle.grid.proofs.Lawful.{floor-lawful}
 use Rattle.grid.proofs.Jobs.{FitJob, job-fit}
 use Rattle.thinning.specs.Thinning.{seen, kept_from, kept_positions, sees_next, joined_list}
@@ -109,7 +109,7 @@ route-padded number f l n cost total k =
 
 -- ---- the route is joined
 
-module _ (w h : ℕ) (map : List ℕ) (nb a b : ℕ) (r : Directions) (e : job_shape w h map nb a b ≡ Fit r) where
+module _ (w h : ℕ) (map : List ℕ) (nb a b : ℕ) (r : Directions) (e : job_shape w h map nb a b ≡ Ok r) where
   abbrev f : Floor
   f = floor_of w h map
 

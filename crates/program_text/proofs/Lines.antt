@@ -12,6 +12,7 @@ use mathlib.Core.List.{List}
 use native.Mathlib.Omega.{arith}
 use native.Mathlib.Nat.{mul-le-mul}
 use lib.ListN.{length}
+use Rattle.std.specs.Prelude.{Result, Ok, Err}
 use Rattle.basics.specs.Lists.{padded}
 use Rattle.basics.proofs.Lists.{length-padded}
 use Rattle.floor.specs.Floor.{floor_of, vertices}
@@ -21,11 +22,8 @@ use Rattle.moves.specs.declared.Directions.{Directions}
 use Rattle.paths.specs.Distance.{unreachable, distance}
 use Rattle.paths.specs.Route.{central_route}
 use Rattle.grid.specs.Grid.{floor_graph}
-use Rattle.grid.specs.declared.JobShape.{JobShape}
-use Rattle.grid.specs.declared.JobShape.TheVariants.{Fit, Refused as BadJob}
-use Rattle.planner.specs.Plan.{Slices}
-use Rattle.planner.specs.declared.Planned.{Planned}
-use Rattle.planner.specs.declared.Planned.TheVariants.{Found, Refused}
+use Rattle.planner.specs.Plan.{Slices, Planned}
+use Rattle.planner.specs.declared.Plan.{Plan}
 use Rattle.thinning.specs.Thinning.{kept_positions, joined_list}
 use Rattle.records.specs.Lines.{refused_line}
 use Rattle.records.specs.Known.{Written}
@@ -43,7 +41,7 @@ use Rattle.program_text.specs.Contract.{
   Routable,
   RouteWritten,
 }
-use Rattle.program_text.proofs.Planning.{never, route-of}
+use Rattle.program_text.proofs.Planning.{route-of}
 use Rattle.program_text.proofs.Start.{written-size, written-take}
 use Rattle.program_text.proofs.Central.{central-length, central-joined, kept-padded, route-padded}
 
@@ -52,7 +50,7 @@ use Rattle.program_text.proofs.Central.{central-length, central-joined, kept-pad
 -- `JobPlanned` of an equal answer.
 pub planned-as : {w h : ℕ} {map : List ℕ} {j : JobRecord} {r x : Planned} {route : List ℕ} → r ≡ x
     → JobPlanned w h map j r route → JobPlanned w h map j x route
-planned-as e p = record { answer = sym e ∙ p.answer; points = λ c t n q. p.points c t n (e ∙ q) }
+planned-as e p = record { answer = sym e ∙ p.answer; points = λ x q. p.points x (e ∙ q) }
 
 -- The points of a job's route.
 abbrev points : ℕ → ℕ → List ℕ → JobRecord → List ℕ
@@ -73,25 +71,25 @@ module _ {w h : ℕ} {map : List ℕ} {j : JobRecord} {r : Planned} {route : Lis
 -- Where the answer is a route of n points: the job is fit, and the route slice has the central route.
 record FoundRoute (w h : ℕ) (map : List ℕ) (j : JobRecord) (n : ℕ) (route : List ℕ) : Type 0 where
   dirs : Directions
-  fit : shape_of w h map j ≡ Fit dirs
+  fit : shape_of w h map j ≡ Ok dirs
   reached : distance (floor_graph (floor_of w h map) dirs) j.start j.end < unreachable
   count : n ≡ length (central_route (floor_graph (floor_of w h map) dirs) j.start j.end)
   list : route ≡ padded (vertices w h) (central_route (floor_graph (floor_of w h map) dirs) j.start j.end)
 
-found-route : {w h : ℕ} {map : List ℕ} {j : JobRecord} {c t n : ℕ} {route : List ℕ}
-    → JobPlanned w h map j (Found c t n) route → FoundRoute w h map j n route
+found-route : {w h : ℕ} {map : List ℕ} {j : JobRecord} {x : Plan} {route : List ℕ}
+    → JobPlanned w h map j (Ok x) route → FoundRoute w h map j x.points route
 unfolding answer_of points_of
-found-route {w} {h} {map} {j} {c} {t} {n} {route} p =
-    cases (shape_of w h map j) refl p.answer (p.points c t n refl)
+found-route {w} {h} {map} {j} {x} {route} p =
+    cases (shape_of w h map j) refl p.answer (p.points x refl)
   where
-    cases : (shape : JobShape) → shape_of w h map j ≡ shape
-        → Found c t n ≡ answer_of (floor_of w h map) j.start j.end shape
+    cases : (shape : Result Directions Refusal) → shape_of w h map j ≡ shape
+        → Ok x ≡ answer_of (floor_of w h map) j.start j.end shape
         → route ≡ padded (vertices w h) (points_of (floor_of w h map) j.start j.end shape)
-        → FoundRoute w h map j n route
-    cases (Fit dirs) q u v =
-        let r = route-of (floor_graph (floor_of w h map) dirs) j.start j.end c t n (sym u) in
+        → FoundRoute w h map j x.points route
+    cases (Ok dirs) q u v =
+        let r = route-of (floor_graph (floor_of w h map) dirs) j.start j.end x (sym u) in
         record { dirs = dirs; fit = q; reached = r.reached; count = r.count; list = v }
-    cases (BadJob r) q u v = never u
+    cases (Err r) q u v = cc
 
 -- ---- the lines written
 
@@ -116,14 +114,14 @@ module _ {w h : ℕ} {map : List ℕ} (j : JobRecord) {kept out : List ℕ} (rea
         positions = k ∙ sym (answer-kept p kept);
       }
 
-  pub refused-written : {r : Refusal} {route out' : List ℕ} {k n : ℕ} → JobPlanned w h map j (Refused r) route
+  pub refused-written : {r : Refusal} {route out' : List ℕ} {k n : ℕ} → JobPlanned w h map j (Err r) route
       → k ≡ refusal_number r → Written out 0 (refused_line j.number k) out' n
       → JobWritten w h map j kept out n kept out'
   unfolding answer_text
   refused-written p e t = told p (written_as (ap (refused_line j.number) e) t) refl
 
-  module _ {c t n : ℕ} {route : List ℕ} (p : JobPlanned w h map j (Found c t n) route) where
-    found : FoundRoute w h map j n route
+  module _ {x : Plan} {route : List ℕ} (p : JobPlanned w h map j (Ok x) route) where
+    found : FoundRoute w h map j x.points route
     found = found-route p
 
     central : List ℕ
@@ -136,7 +134,7 @@ module _ {w h : ℕ} {map : List ℕ} (j : JobRecord) {kept out : List ℕ} (rea
         ∙ length-padded (vertices w h) central
         (central-length w h map j.neighbourhood j.start j.end found.dirs found.fit)
 
-    pub routable : Routable w h map route n kept out
+    pub routable : Routable w h map route x.points kept out
     unfolding central
     routable = record {
       floor = ready.floor;
@@ -148,18 +146,19 @@ module _ {w h : ℕ} {map : List ℕ} (j : JobRecord) {kept out : List ℕ} (rea
     }
 
     pub found-written : {kept' out' : List ℕ} {next : ℕ}
-        → RouteWritten (floor_of w h map) j.number c t n route kept out kept' next out'
+        → RouteWritten (floor_of w h map) j.number x.cost x.total x.points route kept out kept' next out'
         → JobWritten w h map j kept out next kept' out'
     unfolding answer_text points_of central
     found-written {kept'} {out'} {next} r =
         let f = floor_of w h map in
         let same : points w h map j ≡ central = ap (points_of f j.start j.end) found.fit in
-        let lines : route_text j.number f route c t n ≡ route_text j.number f (points w h map j) c t n =
-        ap (λ l. route_text j.number f l c t n) found.list
-        ∙ route-padded j.number f central (vertices w h) c t n
-        ∙ ap (λ l. route_text j.number f l c t n) (sym same) in
+        let lines : route_text j.number f route x.cost x.total x.points
+        ≡ route_text j.number f (points w h map j) x.cost x.total x.points =
+        ap (λ l. route_text j.number f l x.cost x.total x.points) found.list
+        ∙ route-padded j.number f central (vertices w h) x.cost x.total x.points
+        ∙ ap (λ l. route_text j.number f l x.cost x.total x.points) (sym same) in
         told p (rw lines at r.written)
         (r.positions
         ∙ ap (padded (length kept))
-        (ap (λ l. kept_positions f l n) found.list ∙ kept-padded f central (vertices w h) n
-        ∙ ap (λ l. kept_positions f l n) (sym same)))
+        (ap (λ l. kept_positions f l x.points) found.list ∙ kept-padded f central (vertices w h) x.points
+        ∙ ap (λ l. kept_positions f l x.points) (sym same)))

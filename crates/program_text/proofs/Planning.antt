@@ -10,7 +10,6 @@ use Prim.Native.Nat.{ℕ, ◌*◌, ◌<◌}
 use mathlib.Core.Path.{◌≡◌, refl, sym, ap, ◌∙◌}
 use mathlib.Core.Bool.{Bool, true, false}
 use mathlib.Core.List.{List}
-use native.Mathlib.Omega.{arith}
 use borrow.Author.Tests.{eq-eqb}
 use lib.ListN.{length}
 use Rattle.basics.specs.Bounded.{pick}
@@ -18,29 +17,25 @@ use Rattle.basics.specs.Lists.{padded}
 use Rattle.floor.specs.Floor.{floor_of, vertices}
 use Rattle.floor.specs.declared.Refusal.{Refusal}
 use Rattle.floor.specs.declared.Refusal.TheVariants.{NoRoute, TooMany, FalseSheet}
-use Rattle.floor.specs.declared.Shape.{Shape}
+use Rattle.floor.specs.Refusals.{Shape}
+use Rattle.std.specs.Prelude.{Result, Ok, Err}
+use Rattle.moves.specs.declared.Directions.{Directions}
 use Rattle.paths.specs.Graph.{Graph}
 use Rattle.paths.specs.Distance.{unreachable, distance, path_count}
 use Rattle.paths.specs.Route.{central_route}
 use Rattle.paths.specs.Sheet.{joined, fits, route_sheet, no_route_sheet}
 use Rattle.paths.proofs.Sheets.{joined-reached}
 use Rattle.grid.specs.Grid.{floor_graph}
-use Rattle.grid.specs.declared.JobShape.{JobShape}
-use Rattle.grid.specs.declared.JobShape.TheVariants.{Fit, Refused as BadJob}
 use Rattle.given_costs.specs.Given.{costs_true}
 use Rattle.planner.specs.Parts.{FullSlices}
 use Rattle.planner.specs.Plan.{Slices, sheet_slices, costs_alone, route_answer, route_left, slices_sized, job_answer, job_left}
 use Rattle.planner.specs.Plan.{CostSlices, cost_slices_of, costs_sized, costs_left, FillsCosts}
-use Rattle.planner.specs.Plan.{finish_answer, finish_left, Finishes, plan_number}
-use Rattle.planner.specs.declared.Planned.{Planned}
-use Rattle.planner.specs.declared.Planned.TheVariants.{Found, Refused}
+use Rattle.planner.specs.Plan.{finish_answer, finish_left, Finishes, Planned, plan_of}
+use Rattle.planner.specs.declared.Plan.{Plan}
 use Rattle.planner.proofs.Together.{costs-then-finish}
 use Rattle.records.specs.declared.stream.JobRecord.{JobRecord}
 use Rattle.program_text.specs.Text.{answer_of, points_of}
 use Rattle.program_text.specs.Contract.{shape_of, JobPlanned}
-
-pub never : {P : Type 0} {r : Refusal} {c t n : ℕ} → ◌≡◌ {A = Planned} (Found c t n) (Refused r) → P
-never {P} {r} {c} {t} {n} e = let z : ◌≡◌ {A = ℕ} 0 1 = cc in absurd (omega arith)
 
 -- ---- the answer for a graph
 
@@ -51,34 +46,37 @@ pub record RouteOf (g : Graph) (a b n : ℕ) : Type 0 where
 -- `route_answer` by its two tests.
 abbrev by_tests : Graph → ℕ → ℕ → Bool → Bool → Planned
 by_tests g a b x y =
-    pick x (pick y (Found (distance g a b) (path_count g a b) (length (central_route g a b))) (Refused TooMany))
-    (Refused NoRoute)
+    pick x (pick y (Ok (plan_of (distance g a b) (path_count g a b) (length (central_route g a b)))) (Err TooMany))
+    (Err NoRoute)
 
 abbrev left_by_tests : Graph → ℕ → ℕ → Bool → Bool → Slices
 left_by_tests g a b x y =
     pick x (pick y (sheet_slices g.size (route_sheet g a b)) (costs_alone g b))
     (sheet_slices g.size (no_route_sheet g a))
 
-module _ (g : Graph) (a b c t n : ℕ) where
-  pub route-of : route_answer g a b ≡ Found c t n → RouteOf g a b n
-  unfolding route_answer
-  route-of p = cases (joined g a b) (fits g a b) refl p
-    where
-      cases : (x y : Bool) → joined g a b ≡ x → by_tests g a b x y ≡ Found c t n → RouteOf g a b n
-      cases true true e u = record { reached = joined-reached g a b e; count = cc }
-      cases true false e u = never (sym u)
-      cases false y e u = never (sym u)
+points_same : {x y : Plan} → ◌≡◌ {A = Planned} (Ok x) (Ok y) → y.points ≡ x.points
+points_same {x} {y} e = let q : x ≡ y = cc in ap (λ (z : Plan). z.points) (sym q)
 
-  pub route-left : route_answer g a b ≡ Found c t n
+module _ (g : Graph) (a b : ℕ) (p : Plan) where
+  pub route-of : route_answer g a b ≡ Ok p → RouteOf g a b p.points
+  unfolding route_answer
+  route-of e = cases (joined g a b) (fits g a b) refl e
+    where
+      cases : (x y : Bool) → joined g a b ≡ x → by_tests g a b x y ≡ Ok p → RouteOf g a b p.points
+      cases true true e u = record { reached = joined-reached g a b e; count = points_same u }
+      cases true false e u = cc
+      cases false y e u = cc
+
+  pub route-left : route_answer g a b ≡ Ok p
       → (route_left g a b).route ≡ padded g.size (central_route g a b)
   unfolding route_answer route_left route_sheet
-  route-left p = cases (joined g a b) (fits g a b) p
+  route-left e = cases (joined g a b) (fits g a b) e
     where
-      cases : (x y : Bool) → by_tests g a b x y ≡ Found c t n
+      cases : (x y : Bool) → by_tests g a b x y ≡ Ok p
           → (left_by_tests g a b x y).route ≡ padded g.size (central_route g a b)
       cases true true u = refl
-      cases true false u = never (sym u)
-      cases false y u = never (sym u)
+      cases true false u = cc
+      cases false y u = cc
 
 -- ---- slices of the right lengths
 
@@ -108,7 +106,7 @@ full-on L p q r s x t = record {
 
 module _ {w h : ℕ} {map : List ℕ} (j : JobRecord) {r : Planned} {s' : Slices} where
   -- `JobPlanned` where the job is fit.
-  fit-planned : {dirs : _} → shape_of w h map j ≡ Fit dirs
+  fit-planned : {dirs : _} → shape_of w h map j ≡ Ok dirs
       → r ≡ route_answer (floor_graph (floor_of w h map) dirs) j.start j.end
       → s' ≡ route_left (floor_graph (floor_of w h map) dirs) j.start j.end → JobPlanned w h map j r s'.route
   unfolding answer_of points_of
@@ -116,36 +114,36 @@ module _ {w h : ℕ} {map : List ℕ} (j : JobRecord) {r : Planned} {s' : Slices
       let g = floor_graph (floor_of w h map) dirs in
       record {
         answer = rw q p;
-        points = λ c t n e. rw q (ap (λ (z : Slices). z.route) l
-            ∙ route-left g j.start j.end c t n (sym p ∙ e));
+        points = λ x e. rw q (ap (λ (z : Slices). z.route) l
+            ∙ route-left g j.start j.end x (sym p ∙ e));
       }
 
 module _ {w h : ℕ} {map : List ℕ} (j : JobRecord) {r : Planned} where
   -- `JobPlanned` where the job is refused.
-  refused-planned : {z : Refusal} → shape_of w h map j ≡ BadJob z → r ≡ Refused z → (route : List ℕ)
+  refused-planned : {z : Refusal} → shape_of w h map j ≡ Err z → r ≡ Err z → (route : List ℕ)
       → JobPlanned w h map j r route
   unfolding answer_of points_of
-  refused-planned q p route = record { answer = rw q p; points = λ c t n e. never (sym e ∙ p) }
+  refused-planned q p route = record { answer = rw q p; points = λ x e. cc }
 
 module _ {w h : ℕ} {map : List ℕ} (j : JobRecord) {r : Planned} {s s' : Slices} where
   pub planned-first : {d : List ℕ} → slices_sized (vertices w h) d s ≡ true
-      → Finishes w h map j.neighbourhood j.start j.end d s r s' → (plan_number r ≡ 9 → ⊥)
+      → Finishes w h map j.neighbourhood j.start j.end d s r s' → (r ≡ Err FalseSheet → ⊥)
       → JobPlanned w h map j r s'.route
   unfolding finish_answer finish_left
   planned-first {d} sized F other = cases (shape_of w h map j) refl F.answer F.left
     where
-      cases : (shape : JobShape) → shape_of w h map j ≡ shape → r ≡ job_answer w h map j.start j.end d s shape
+      cases : (shape : Result Directions Refusal) → shape_of w h map j ≡ shape → r ≡ job_answer w h map j.start j.end d s shape
           → s' ≡ job_left w h map j.start j.end d s shape → JobPlanned w h map j r s'.route
-      cases (BadJob z) q u v = refused-planned j q u s'.route
-      cases (Fit dirs) q u v = tested (costs_true g j.start d) (rw sized at u) (rw sized at v)
+      cases (Err z) q u v = refused-planned j q u s'.route
+      cases (Ok dirs) q u v = tested (costs_true g j.start d) (rw sized at u) (rw sized at v)
         where
           g : Graph
           g = floor_graph (floor_of w h map) dirs
 
-          tested : (t : Bool) → r ≡ pick t (route_answer g j.start j.end) (Refused FalseSheet)
+          tested : (t : Bool) → r ≡ pick t (route_answer g j.start j.end) (Err FalseSheet)
               → s' ≡ pick t (route_left g j.start j.end) s → JobPlanned w h map j r s'.route
           tested true p l = fit-planned j q p l
-          tested false p l = absurd (other (ap plan_number p))
+          tested false p l = absurd (other p)
 
   pub planned-again : {d d' work work' : List ℕ} {c : Shape} → costs_sized (vertices w h) (cost_slices_of d work) ≡ true
       → slices_sized (vertices w h) d s ≡ true
@@ -157,9 +155,9 @@ module _ {w h : ℕ} {map : List ℕ} (j : JobRecord) {r : Planned} {s s' : Slic
       filled : d' ≡ (costs_left w h map j.neighbourhood j.start (cost_slices_of d work)).d
       filled = ap (λ (z : CostSlices). z.d) C.left
 
-      cases : (shape : JobShape) → shape_of w h map j ≡ shape → JobPlanned w h map j r s'.route
-      cases (BadJob z) q = refused-planned j q (F.answer ∙ rw q) s'.route
-      cases (Fit dirs) q =
+      cases : (shape : Result Directions Refusal) → shape_of w h map j ≡ shape → JobPlanned w h map j r s'.route
+      cases (Err z) q = refused-planned j q (F.answer ∙ rw q) s'.route
+      cases (Ok dirs) q =
           let T = costs-then-finish w h map j.neighbourhood j.start j.end dirs q (cost_slices_of d work) costs s
           others in
           fit-planned j q

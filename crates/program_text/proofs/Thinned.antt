@@ -1,27 +1,25 @@
 -- The two lines of a route: what thinning leaves, and that the lines fit.
 --
 --   thinned        == `KeptOf` of what thinning a joined list answers and leaves
---   route-line-le  == a route line has at most 160 bytes
 --   route-written  == the two lines written one after the other are those of the route
-use Prim.Native.Nat.{ℕ, ◌^◌, ◌≤◌, ◌<◌}
+use Prim.Native.Nat.{ℕ, ◌≤◌, ◌<◌}
 use mathlib.Core.Path.{◌≡◌, sym, ap, ap₂, ◌∙◌}
 use mathlib.Core.List.{List, ◌++◌}
 use native.Mathlib.Omega.{arith}
-use lib.ListN.{length, get_or, length-append}
+use lib.ListN.{length, get_or}
 use lib.Seq.{get_or-take}
 use Rattle.basics.specs.Lists.{padded}
 use Rattle.basics.proofs.Lists.{tabulate-cong, length-padded}
 use Rattle.floor.specs.Floor.{Floor, floor_of}
-use Rattle.floor.specs.declared.Shape.TheVariants.{Good}
+use Rattle.floor.specs.declared.Refusal.{Refusal}
 use Rattle.thinning.specs.Thinning.{kept_positions}
-use Rattle.thinning.specs.Answer.{list_shape, thin_answer, thin_output, Thins, thin_kept}
-use Rattle.thinning.specs.declared.Thinned.{Thinned}
-use Rattle.thinning.specs.declared.Thinned.TheVariants.{Kept as KeptAnswer}
+use Rattle.thinning.specs.Answer.{list_shape, thin_answer, thin_output, Thins}
+use Rattle.std.specs.Prelude.{Result, Ok}
+use Rattle.std.specs.Result.{result_unwrap_or}
 use Rattle.thinning.proofs.Shapes.{shape_good}
 use Rattle.thinning.proofs.Answered.{Answered, answered}
 use Rattle.records.specs.Lines.{route_line, at_line, kept_of}
 use Rattle.records.specs.Known.{Kept, Written}
-use Rattle.records.proofs.Decimal.{decimal-u64}
 use Rattle.records.proofs.Writing.{written-more, written_as}
 use Rattle.program_text.specs.Contract.{Routable, RouteWritten}
 
@@ -37,10 +35,10 @@ module _ {w h : ℕ} {map points kept out : List ℕ} {n : ℕ} (r : Routable w 
   abbrev ps : List ℕ
   ps = kept_positions (floor_of w h map) points n
 
-  good : list_shape w h map points (length kept) n ≡ Good
+  good : list_shape w h map points (length kept) n ≡ Ok tt
   good = sym (shape_good w h map points (length kept) n r.floor.shape r.short r.kept_len r.joined)
 
-  kept-answer : thin_answer w h map points kept n ≡ KeptAnswer (length ps)
+  kept-answer : thin_answer w h map points kept n ≡ Ok (length ps)
   unfolding thin_answer
   kept-answer = rw good
 
@@ -48,10 +46,10 @@ module _ {w h : ℕ} {map points kept out : List ℕ} {n : ℕ} (r : Routable w 
   unfolding thin_output
   kept-output = rw good
 
-  pub thinned : {t : Thinned} {kept' : List ℕ} {k : ℕ} → Thins w h map points kept n t kept' → k ≡ thin_kept t
+  pub thinned : {t : Result ℕ Refusal} {kept' : List ℕ} {k : ℕ} → Thins w h map points kept n t kept' → k ≡ result_unwrap_or t 0
       → KeptOf (floor_of w h map) points n kept k kept'
   thinned {t} {kept'} {k} x e =
-      let count : k ≡ length ps = e ∙ ap thin_kept (x.answer ∙ kept-answer) in
+      let count : k ≡ length ps = e ∙ ap (λ (r : Result ℕ Refusal). result_unwrap_or r 0) (x.answer ∙ kept-answer) in
       let left : Answered w h map points kept n (length ps) kept' =
       rw x.output (answered w h map points kept n (length ps) kept-answer) in
       let few : length ps ≤ length points = omega (arith, left.laws.few, left.within) in
@@ -73,19 +71,6 @@ module _ {w h : ℕ} {map points kept out : List ℕ} {n : ℕ} (r : Routable w 
       }
 
 -- ---- the lines
-
-pub route-line-le : (n cost total count kept : ℕ) → n < 2 ^ 64 → cost < 2 ^ 64 → total < 2 ^ 64 → count < 2 ^ 64
-    → kept < 2 ^ 64 → length (route_line n cost total count kept) ≤ 160
-route-line-le n cost total count kept a b c d e =
-    simp length-append
-    (omega (
-      arith,
-      decimal-u64 n a,
-      decimal-u64 cost b,
-      decimal-u64 total c,
-      decimal-u64 count d,
-      decimal-u64 kept e,
-    ))
 
 pub route-written : {f : Floor} {number cost total n k next last : ℕ} {points kept kept' out out1 out2 : List ℕ}
     → KeptOf f points n kept k kept' → Written out 0 (route_line number cost total n k) out1 next

@@ -19,23 +19,23 @@
 --   CellsIn s m map           == the cells of the map m are within the input s, and the slice has the length of a
 --                                stored map of them
 --   text_from s w h map c     == what the program writes from the cursor c on, which is past the map
+--   and_from l o rest         == the text l, then `rest` of the cursor o, if there is one
 --   turn_text r out rest      == the text that the turn r wrote into `out`, then `rest` of the cursor that it answers
---   bytes_of r                == the number of bytes that the turn r wrote
---   Moves s c r, GoesOn s c r == the cursor that the turn r answers, if any, is further on than c and within the input
+--   Moves s c o, GoesOn s c r == the cursor o, or that of the turn r, if any, is further on than c and within the input
 --                                s, a job is due there, and it is `Reached` where c is
 --   TurnWritten ..            == the text of the turn r and the text from the cursor that it answers are the text from
 --                                c on, for every input with the same record at c; of the other slices nothing is said
 use Rattle.std.specs.Prelude.{ℕ, ◌+◌, ◌*◌, ◌≤◌, ◌<◌, ◌≡◌, true, List, ◌++◌, length, take}
+use Rattle.std.specs.Prelude.{Result, Ok, Err, Option, Some, None}
 use Rattle.basics.specs.Lists.{padded}
 use Rattle.floor.specs.Floor.{Floor, map_length, floor_of, vertices}
 use Rattle.floor.specs.Refusals.{floor_shape}
-use Rattle.floor.specs.declared.Shape.TheVariants.{Good}
+use Rattle.floor.specs.declared.Refusal.{Refusal}
+use Rattle.moves.specs.declared.Directions.{Directions}
 use Rattle.grid.specs.Grid.{job_shape}
-use Rattle.grid.specs.declared.JobShape.{JobShape}
 use Rattle.planner.specs.Parts.{FullSlices}
-use Rattle.planner.specs.Plan.{Slices}
-use Rattle.planner.specs.declared.Planned.{Planned}
-use Rattle.planner.specs.declared.Planned.TheVariants.{Found, Refused}
+use Rattle.planner.specs.Plan.{Slices, Planned}
+use Rattle.planner.specs.declared.Plan.{Plan}
 use Rattle.thinning.specs.Thinning.{kept_positions, joined_list}
 use Rattle.records.specs.Format.{record_at, stream_from}
 use Rattle.records.specs.Known.{Written}
@@ -45,10 +45,9 @@ use Rattle.records.specs.declared.stream.MapRecord.{MapRecord}
 use Rattle.records.specs.declared.stream.JobRecord.{JobRecord}
 use Rattle.program_text.specs.Text.{route_text, answer_of, points_of, job_text, rest_text}
 use Rattle.program_text.specs.declared.Turn.{Turn}
-use Rattle.program_text.specs.declared.Turn.TheVariants.{More, Last}
 
 pub record SmallFloor (w h : ℕ) (map : List ℕ) : Type 0 where
-  pub shape : floor_shape w h map ≡ Good
+  pub shape : floor_shape w h map ≡ Ok tt
   pub wide : w ≤ 31
   pub high : h ≤ 31
 
@@ -69,17 +68,17 @@ pub record Room (w h : ℕ) (map kept out : List ℕ) : Type 0 where
   pub kept_len : length kept ≡ vertices w h
   pub room : room_of (vertices w h) ≤ length out
 
-abbrev pub shape_of : ℕ → ℕ → List ℕ → JobRecord → JobShape
+abbrev pub shape_of : ℕ → ℕ → List ℕ → JobRecord → Result Directions Refusal
 shape_of w h map j = job_shape w h map j.neighbourhood j.start j.end
 
 pub record JobPlanned (w h : ℕ) (map : List ℕ) (j : JobRecord) (r : Planned) (route : List ℕ) : Type 0 where
   pub answer : r ≡ answer_of (floor_of w h map) j.start j.end (shape_of w h map j)
-  pub points : (c t n : ℕ) → r ≡ Found c t n
+  pub points : (p : Plan) → r ≡ Ok p
       → route ≡ padded (vertices w h) (points_of (floor_of w h map) j.start j.end (shape_of w h map j))
 
 abbrev pub answer_kept : Floor → List ℕ → List ℕ → Planned → List ℕ
-answer_kept f points kept (Found cost total count) = padded (length kept) (kept_positions f points count)
-answer_kept f points kept (Refused r) = kept
+answer_kept f points kept (Ok p) = padded (length kept) (kept_positions f points p.points)
+answer_kept f points kept (Err r) = kept
 
 unfoldable pub kept_left : ℕ → ℕ → List ℕ → JobRecord → List ℕ → List ℕ
 kept_left w h map j kept =
@@ -119,22 +118,21 @@ pub record CellsIn (s : List ℕ) (m : MapRecord) (map : List ℕ) : Type 0 wher
 unfoldable pub text_from : List ℕ → ℕ → ℕ → List ℕ → Cursor → List ℕ
 text_from s w h map c = rest_text w h map (stream_from s c)
 
-abbrev pub turn_text : Turn → List ℕ → (Cursor → List ℕ) → List ℕ
-turn_text (More n d) out rest = take n out ++ rest d
-turn_text (Last n) out rest = take n out
+abbrev pub and_from : List ℕ → Option Cursor → (Cursor → List ℕ) → List ℕ
+and_from l (Some d) rest = l ++ rest d
+and_from l None rest = l
 
-abbrev pub Moves : List ℕ → Cursor → Turn → Type 0
-Moves s c (More n d) = (c.at < d.at) × (d.at ≤ length s) × (1 ≤ d.due) × (Reached c → Reached d)
-Moves s c (Last n) = (0 ≤ n)
+abbrev pub turn_text : Turn → List ℕ → (Cursor → List ℕ) → List ℕ
+turn_text r out rest = and_from (take r.bytes out) r.next rest
+
+abbrev pub Moves : List ℕ → Cursor → Option Cursor → Type 0
+Moves s c (Some d) = (c.at < d.at) × (d.at ≤ length s) × (1 ≤ d.due) × (Reached c → Reached d)
+Moves s c None = (0 ≤ 0)
 
 pub record GoesOn (s : List ℕ) (c : Cursor) (r : Turn) : Type 0 where
-  pub moved : Moves s c r
-
-abbrev pub bytes_of : Turn → ℕ
-bytes_of (More n d) = n
-bytes_of (Last n) = n
+  pub moved : Moves s c r.next
 
 pub record TurnWritten (s : List ℕ) (w h : ℕ) (map : List ℕ) (c : Cursor) (r : Turn) (out : List ℕ) : Type 0 where
   pub text : (t : List ℕ) → record_at t c ≡ record_at s c → turn_text r out (text_from t w h map) ≡ text_from t w h map c
-  pub fits : bytes_of r ≤ length out
+  pub fits : r.bytes ≤ length out
   pub on : GoesOn s c r

@@ -15,16 +15,15 @@
 --                              there is no map
 --   program_text s           == all that the program writes for the input s
 use Rattle.std.specs.Prelude.{ℕ, List, [], ◌∷◌, ◌++◌, length}
+use Rattle.std.specs.Prelude.{Result, Ok, Err}
 use Rattle.std.proofs.Math.Option.{Option, some, none}
 use Rattle.floor.specs.Floor.{Floor, floor_of, stored_cells}
 use Rattle.floor.specs.Refusals.{refusal_number}
+use Rattle.floor.specs.declared.Refusal.{Refusal}
+use Rattle.moves.specs.declared.Directions.{Directions}
 use Rattle.paths.specs.Route.{central_route}
 use Rattle.grid.specs.Grid.{floor_graph, job_shape}
-use Rattle.grid.specs.declared.JobShape.{JobShape}
-use Rattle.grid.specs.declared.JobShape.TheVariants.{Fit, Refused as BadJob}
-use Rattle.planner.specs.Plan.{route_answer}
-use Rattle.planner.specs.declared.Planned.{Planned}
-use Rattle.planner.specs.declared.Planned.TheVariants.{Found, Refused}
+use Rattle.planner.specs.Plan.{Planned, route_answer}
 use Rattle.thinning.specs.Thinning.{kept_positions}
 use Rattle.records.specs.Format.{Stream, cells_of, stream_of}
 use Rattle.records.specs.Lines.{refused_line, route_line, at_line, bad_line, kept_of}
@@ -38,16 +37,16 @@ route_text n f points cost total count =
     route_line n cost total count (length kept) ++ at_line (kept_of (length kept) kept points)
 
 unfoldable pub answer_text : ℕ → Floor → List ℕ → Planned → List ℕ
-answer_text n f points (Found cost total count) = route_text n f points cost total count
-answer_text n f points (Refused r) = refused_line n (refusal_number r)
+answer_text n f points (Ok p) = route_text n f points p.cost p.total p.points
+answer_text n f points (Err r) = refused_line n (refusal_number r)
 
-unfoldable pub answer_of : Floor → ℕ → ℕ → JobShape → Planned
-answer_of f a b (Fit dirs) = route_answer (floor_graph f dirs) a b
-answer_of f a b (BadJob r) = Refused r
+unfoldable pub answer_of : Floor → ℕ → ℕ → Result Directions Refusal → Planned
+answer_of f a b (Ok dirs) = route_answer (floor_graph f dirs) a b
+answer_of f a b (Err r) = Err r
 
-unfoldable pub points_of : Floor → ℕ → ℕ → JobShape → List ℕ
-points_of f a b (Fit dirs) = central_route (floor_graph f dirs) a b
-points_of f a b (BadJob r) = []
+unfoldable pub points_of : Floor → ℕ → ℕ → Result Directions Refusal → List ℕ
+points_of f a b (Ok dirs) = central_route (floor_graph f dirs) a b
+points_of f a b (Err r) = []
 
 unfoldable pub job_text : ℕ → ℕ → List ℕ → JobRecord → List ℕ
 job_text w h map j =

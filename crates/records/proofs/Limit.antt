@@ -25,6 +25,12 @@ use Rattle.records.specs.Format.{
   past_job,
   job_at,
   record_at,
+  Step,
+  gives_map,
+  gives_job,
+  gives_end,
+  gives_bad,
+  found,
   start_cursor,
   cells_of,
   with_map,
@@ -38,8 +44,6 @@ use Rattle.records.specs.Settled.{Settled, longest, Reached}
 use Rattle.records.specs.declared.stream.Cursor.{Cursor}
 use Rattle.records.specs.declared.stream.MapRecord.{MapRecord}
 use Rattle.records.specs.declared.stream.JobRecord.{JobRecord}
-use Rattle.records.specs.declared.stream.Record.{Record}
-use Rattle.records.specs.declared.stream.Record.TheVariants.{Map, Job, End, Bad}
 use Rattle.records.proofs.Found.{
   Finding,
   found_map,
@@ -72,14 +76,15 @@ module _ {s t : List ℕ} (a : Agree longest s t) where
   unfolding record_at
   record_same c r = cases (eqb c.due 0) (leb c.due 1000) refl refl
     where
-      found : List ℕ → Bool → Bool → Record
-      found l m k =
-          pick m (map_at l c.at) (pick (leb (length l) c.at) End (pick k (job_at l c.at c.due) (Bad c.at)))
+      step : List ℕ → Bool → Bool → Step
+      step l m k =
+          pick m (found (map_at l c.at))
+          (pick (leb (length l) c.at) gives_end (pick k (found (job_at l c.at c.due)) (gives_bad c.at)))
 
-      cases : (m k : Bool) → eqb c.due 0 ≡ m → leb c.due 1000 ≡ k → found s m k ≡ found t m k
+      cases : (m k : Bool) → eqb c.due 0 ≡ m → leb c.due 1000 ≡ k → step s m k ≡ step t m k
       cases true k p q =
           let z : c.at ≡ 0 = r.start (eqb-true c.due 0 p) in
-          map_same c.at (omega arith)
+          ap found (map_same c.at (omega arith))
       cases false true p q =
           let l : c.due ≤ 1000 = leb-true c.due 1000 q in
           let h : c.at ≤ 958 + 7 * c.due = r.place in
@@ -92,9 +97,9 @@ module _ {s t : List ℕ} (a : Agree longest s t) where
   unfolding steps
   steps-same zero c r = refl
   steps-same (suc n) c r =
-      cases (record_at s c) (finding s c) (steps-same n) ∙ ap (λ (x : Record). and_rest x (steps n t)) (record_same c r)
+      cases (record_at s c) (finding s c) (steps-same n) ∙ ap (λ (x : Step). and_rest x (steps n t)) (record_same c r)
     where
-      cases : (x : Record) → Finding s c x → ((d : Cursor) → Reached d → steps n s d ≡ steps n t d)
+      cases : (x : Step) → Finding s c x → ((d : Cursor) → Reached d → steps n s d ≡ steps n t d)
           → and_rest x (steps n s) ≡ and_rest x (steps n t)
       cases _ (found_map z g) same =
           let b : c.at ≡ 0 = r.start z in
@@ -127,7 +132,7 @@ part-take (suc p) k zero s l = absurd (omega arith)
 part-take (suc p) k (suc n) [] l = refl
 part-take (suc p) k (suc n) (x ∷ s) l = part-take p k n s (omega arith)
 
-pub cells-limit : (s : List ℕ) (m : MapRecord) (d : Cursor) → record_at s start_cursor ≡ Map m d
+pub cells-limit : (s : List ℕ) (m : MapRecord) (d : Cursor) → record_at s start_cursor ≡ gives_map m d
     → cells_of s m ≡ cells_of (take longest s) m
 cells-limit s m d e =
     let f = map-step s start_cursor m d e in
@@ -139,7 +144,7 @@ cells-limit s m d e =
 pub reached-first : Reached start_cursor
 reached-first = record { start = λ e. refl; place = omega arith; number = omega arith }
 
-pub reached-map : (s : List ℕ) (m : MapRecord) (d : Cursor) → record_at s start_cursor ≡ Map m d → Reached d
+pub reached-map : (s : List ℕ) (m : MapRecord) (d : Cursor) → record_at s start_cursor ≡ gives_map m d → Reached d
 reached-map s m d e =
     let f = map-step s start_cursor m d e in
     let few : m.wide * m.high ≤ 961 = mul-le-mul {n₂ = 31} {m₂ = 31} f.wide f.high in
@@ -149,7 +154,7 @@ reached-map s m d e =
       number = omega (arith, f.moved.next);
     }
 
-pub reached-job : (s : List ℕ) (c : Cursor) (j : JobRecord) (d : Cursor) → record_at s c ≡ Job j d → Reached c
+pub reached-job : (s : List ℕ) (c : Cursor) (j : JobRecord) (d : Cursor) → record_at s c ≡ gives_job j d → Reached c
     → Reached d
 reached-job s c j d e r =
     let f = job-step s c j d e in

@@ -11,13 +11,12 @@ use native.Mathlib.Omega.{arith}
 use native.Mathlib.Nat.{mul-le-mul}
 use lib.ListN.{length}
 use Rattle.basics.specs.Bounded.{every}
-use Rattle.records.specs.Format.{wide_at, high_at, cell_byte, map_in, past_map, job_in, past_job, record_at}
+use Rattle.records.specs.Format.{wide_at, high_at, cell_byte, map_in, past_map, job_in, past_job, record_at, Step, gives_map, gives_job}
 use Rattle.records.specs.declared.stream.Cursor.{Cursor}
 use Rattle.records.specs.declared.stream.MapRecord.{MapRecord}
 use Rattle.records.specs.declared.stream.JobRecord.{JobRecord}
-use Rattle.records.specs.declared.stream.Record.{Record}
-use Rattle.records.specs.declared.stream.Record.TheVariants.{Map, Job}
 use Rattle.records.proofs.Found.{
+  same-found,
   side-pos,
   side-le,
   GoodMap,
@@ -84,28 +83,28 @@ module _ (s : List ℕ) (c : Cursor) where
     past = refl;
   }
 
-  pub map-step : (m : MapRecord) (d : Cursor) → record_at s c ≡ Map m d → MapFound s c m d
+  pub map-step : (m : MapRecord) (d : Cursor) → record_at s c ≡ gives_map m d → MapFound s c m d
   map-step m d e = cases (record_at s c) (finding s c) e
     where
-      cases : (r : Record) → Finding s c r → r ≡ Map m d → MapFound s c m d
+      cases : (r : Step) → Finding s c r → r ≡ gives_map m d → MapFound s c m d
       cases _ (found_map z g) x =
+          let e = same-found x in
           let p : map_in s c.at ≡ m = cc in
-          let q : past_map s c.at ≡ d = cc in
-          rw (← p, ← q) (this-map z g)
+          rw (← p, ← e.1) (this-map z g)
       cases _ (no-map z g) x = never (cc)
       cases _ (at-end a l) x = never (cc)
-      cases _ (found-job a b g) x = never (cc)
+      cases _ (found-job a b g) x = let e = same-found x in never (cc)
       cases _ (no-job a l g) x = never (cc)
 
-  pub job-step : (j : JobRecord) (d : Cursor) → record_at s c ≡ Job j d → JobFound s c j d
+  pub job-step : (j : JobRecord) (d : Cursor) → record_at s c ≡ gives_job j d → JobFound s c j d
   job-step j d e = cases (record_at s c) (finding s c) e
     where
-      cases : (r : Record) → Finding s c r → r ≡ Job j d → JobFound s c j d
-      cases _ (found_map z g) x = never (cc)
+      cases : (r : Step) → Finding s c r → r ≡ gives_job j d → JobFound s c j d
+      cases _ (found_map z g) x = let e = same-found x in never (cc)
       cases _ (no-map z g) x = never (cc)
       cases _ (at-end a l) x = never (cc)
       cases _ (found-job a b g) x =
+          let e = same-found x in
           let p : job_in s c.at c.due ≡ j = cc in
-          let q : past_job c.at c.due ≡ d = cc in
-          rw (← p, ← q) (this-job a b g)
+          rw (← p, ← e.1) (this-job a b g)
       cases _ (no-job a l g) x = never (cc)

@@ -21,6 +21,7 @@ use native.Mathlib.Omega.{arith}
 use native.Mathlib.Nat.{mul-le-mul}
 use borrow.Author.Tests.{le-leb, lt-leb, eq-eqb, ne_eqb}
 use lib.Dec.{leb, eqb}
+use Rattle.std.specs.Prelude.{Ok, Err}
 use lib.ListN.{length, get_or, length-append, get_or-append}
 use lib.Seq.{get_or-append-add}
 use Rattle.basics.specs.Bounded.{pick, every}
@@ -29,13 +30,14 @@ use Rattle.basics.proofs.Bools.{not-both, and_intro}
 use Rattle.basics.proofs.Bounded.{every-all, every-at}
 use Rattle.basics.proofs.Lists.{length-tabulate, get_d_tabulate}
 use Rattle.basics.proofs.Order.{le-or-lt}
-use Rattle.records.specs.Format.{wide_at, high_at, map_side, cell_byte, job_in, past_job, record_at}
+use Rattle.records.specs.Format.{wide_at, high_at, map_side, cell_byte, record_at, Step, gives_end, found}
 use Rattle.records.specs.Settled.{MapSettled, JobSettled, Settled, Decides}
 use Rattle.records.specs.declared.stream.Cursor.{Cursor}
 use Rattle.records.specs.declared.stream.Record.{Record}
-use Rattle.records.specs.declared.stream.Record.TheVariants.{Map, Job, End, Bad}
+use Rattle.records.specs.declared.stream.BadRecord.{BadRecord}
 use Rattle.records.proofs.Found.{
   side-le,
+  found-same,
   GoodMap,
   map_found,
   map-bad,
@@ -200,7 +202,7 @@ module _ (p : List ℕ) (a : ℕ) where
       } in
       differ (map_found s a refl refl good ∙ settled t ∙ sym (map-bad p a (λ g. omega (arith, g.whole))))
     where
-      differ : {w h c : ℕ} {d : Cursor} → Map (record { wide = w; high = h; cells = c }) d ≡ Bad a → ⊥
+      differ : {r : Record × Cursor} {b : BadRecord} → Ok r ≡ Err b → ⊥
       differ e = let q : ◌≡◌ {A = ℕ} 0 1 = cc in absurd (omega arith)
 
 -- ---- a job
@@ -235,7 +237,7 @@ module _ (p : List ℕ) (a k : ℕ) where
       } in
       differ (job-found s a k good ∙ settled t ∙ sym (job-bad p a k (λ g. omega (arith, g.whole))))
     where
-      differ : Job (job_in (p ++ follow p (a + 7) job_byte) a k) (past_job a k) ≡ Bad a → ⊥
+      differ : {r : Record × Cursor} {b : BadRecord} → Ok r ≡ Err b → ⊥
       differ e = let q : ◌≡◌ {A = ℕ} 0 1 = cc in absurd (omega arith)
 
 -- ---- a cursor
@@ -243,14 +245,14 @@ module _ (p : List ℕ) (a k : ℕ) where
 module _ (p : List ℕ) (c : Cursor) where
   pub settled-map : {b : Bool} → c.due ≡ 0 → Decides b (MapSettled p c.at) → Decides b (Settled p c)
   settled-map z d = record {
-    yes = λ e t. sym (map-due (p ++ t) c z) ∙ d.yes e t ∙ map-due p c z;
-    no = λ e s. d.no e (λ t. map-due (p ++ t) c z ∙ s t ∙ sym (map-due p c z));
+    yes = λ e t. sym (map-due (p ++ t) c z) ∙ ap found (d.yes e t) ∙ map-due p c z;
+    no = λ e s. d.no e (λ t. found-same _ _ (map-due (p ++ t) c z ∙ s t ∙ sym (map-due p c z)));
   }
 
-  ends-within : (s : List ℕ) → record_at s c ≡ End → length s ≤ c.at
+  ends-within : (s : List ℕ) → record_at s c ≡ gives_end → length s ≤ c.at
   ends-within s e = cases (record_at s c) (finding s c) e
     where
-      cases : (r : Record) → Finding s c r → r ≡ End → length s ≤ c.at
+      cases : (r : Step) → Finding s c r → r ≡ gives_end → length s ≤ c.at
       cases _ (found_map z g) x = let q : ◌≡◌ {A = ℕ} 0 1 = cc in absurd (omega arith)
       cases _ (no-map z g) x = let q : ◌≡◌ {A = ℕ} 0 1 = cc in absurd (omega arith)
       cases _ (at-end b l) x = l
@@ -272,7 +274,8 @@ module _ (p : List ℕ) (c : Cursor) where
 
       pub settled-job : {b : Bool} → c.due ≤ 1000 → Decides b (JobSettled p c.at c.due) → Decides b (Settled p c)
       settled-job l d = record {
-        yes = λ e t. sym (job-due (p ++ t) c job (there-too t) l) ∙ d.yes e t ∙ job-due p c job there l;
+        yes = λ e t. sym (job-due (p ++ t) c job (there-too t) l) ∙ ap found (d.yes e t) ∙ job-due p c job there l;
         no = λ e s.
-            d.no e (λ t. job-due (p ++ t) c job (there-too t) l ∙ s t ∙ sym (job-due p c job there l));
+            d.no e (λ t.
+            found-same _ _ (job-due (p ++ t) c job (there-too t) l ∙ s t ∙ sym (job-due p c job there l)));
       }

@@ -7,12 +7,11 @@ use mathlib.Core.Path.{◌≡◌, refl, ap, ◌∙◌}
 use mathlib.Core.List.{List}
 use native.Mathlib.Omega.{arith}
 use Rattle.records.specs.Format.{map_in, past_map, job_in, past_job, record_at, start_cursor}
+use Rattle.records.specs.Format.{Step, gives_map, gives_job, gives_end, gives_bad}
 use Rattle.records.specs.Format.{ended, bad_at, with_map, with_job, and_rest, steps, stream_from, stream_of}
 use Rattle.records.specs.declared.stream.Cursor.{Cursor}
 use Rattle.records.specs.declared.stream.MapRecord.{MapRecord}
 use Rattle.records.specs.declared.stream.JobRecord.{JobRecord}
-use Rattle.records.specs.declared.stream.Record.{Record}
-use Rattle.records.specs.declared.stream.Record.TheVariants.{Map, Job, End, Bad}
 use Rattle.records.proofs.Found.{Finding, found_map, no-map, at-end, found-job, no-job, finding}
 
 pub stream-first : (s : List ℕ) → stream_of s ≡ stream_from s start_cursor
@@ -23,7 +22,7 @@ pub stream-step : (s : List ℕ) (c : Cursor) → stream_from s c ≡ and_rest (
 unfolding stream_from steps
 stream-step s c = cases (record_at s c) (finding s c)
   where
-    cases : (r : Record) → Finding s c r
+    cases : (r : Step) → Finding s c r
         → and_rest r (steps (1001 - c.due) s) ≡ and_rest r (λ d. steps (suc (1001 - d.due)) s d)
     cases _ (found_map z g) =
         let e : 1001 - c.due ≡ suc (1001 - 1) = omega arith in
@@ -36,14 +35,14 @@ stream-step s c = cases (record_at s c) (finding s c)
     cases _ (no-job a l g) = refl
 
 module _ (s : List ℕ) (c : Cursor) where
-  pub stream-map : (m : MapRecord) (d : Cursor) → record_at s c ≡ Map m d → stream_from s c ≡ with_map m (stream_from s d)
+  pub stream-map : (m : MapRecord) (d : Cursor) → record_at s c ≡ gives_map m d → stream_from s c ≡ with_map m (stream_from s d)
   stream-map m d e = stream-step s c ∙ ap (λ r. and_rest r (stream_from s)) e
 
-  pub stream-job : (j : JobRecord) (d : Cursor) → record_at s c ≡ Job j d → stream_from s c ≡ with_job j (stream_from s d)
+  pub stream-job : (j : JobRecord) (d : Cursor) → record_at s c ≡ gives_job j d → stream_from s c ≡ with_job j (stream_from s d)
   stream-job j d e = stream-step s c ∙ ap (λ r. and_rest r (stream_from s)) e
 
-  pub stream_end : record_at s c ≡ End → stream_from s c ≡ ended
+  pub stream_end : record_at s c ≡ gives_end → stream_from s c ≡ ended
   stream_end e = stream-step s c ∙ ap (λ r. and_rest r (stream_from s)) e
 
-  pub stream-bad : (p : ℕ) → record_at s c ≡ Bad p → stream_from s c ≡ bad_at p
+  pub stream-bad : (p : ℕ) → record_at s c ≡ gives_bad p → stream_from s c ≡ bad_at p
   stream-bad p e = stream-step s c ∙ ap (λ r. and_rest r (stream_from s)) e

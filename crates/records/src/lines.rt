@@ -10,11 +10,9 @@ pub fn put_text(buf: &mut [u8], at: usize, text: &[u8]) -> usize
     requires { at + length text.now ≤ length buf.old }
     ensures { Written buf.old at text.now buf.new result }
 {
-    let n = text.len();
-    for k in 0..n {
-        buf[at + k] = text[k];
-    }
-    at + n
+    let next = at + text.len();
+    buf[at..next].copy_from_slice(text);
+    next
 }
 
 // Writes the digits of n: those of n / 10, then the last one.
@@ -22,12 +20,13 @@ fn put_digits(buf: &mut [u8], at: usize, n: u64) -> usize
     requires { at + length (decimal n) ≤ length buf.old }
     ensures { Written buf.old at (decimal n) buf.new result }
 {
+    // Kept: no plainer, since `u8::try_from` of a digit would answer a result that cannot fail.
     if n < 10 {
-        buf[at] = 48 + n as u8;
+        buf[at] = b'0' + n as u8;
         return at + 1;
     }
     let last = put_digits(buf, at, n / 10);
-    buf[last] = 48 + (n % 10) as u8;
+    buf[last] = b'0' + (n % 10) as u8;
     last + 1
 }
 
@@ -53,8 +52,9 @@ pub fn put_refused(buf: &mut [u8], at: usize, n: usize, r: u8) -> usize
     requires { at + 64 ≤ length buf.old }
     ensures { Written buf.old at (refused_line n r) buf.new result }
 {
+    // Kept: no plainer, since no `From` takes a usize to a u64.
     let p1 = put_field(buf, at, b"job ", n as u64);
-    let p2 = put_field(buf, p1, b": refused ", r as u64);
+    let p2 = put_field(buf, p1, b": refused ", u64::from(r));
     put_text(buf, p2, b"\n")
 }
 
@@ -63,6 +63,7 @@ pub fn put_bad(buf: &mut [u8], at: usize, k: usize) -> usize
     requires { at + 64 ≤ length buf.old }
     ensures { Written buf.old at (bad_line k) buf.new result }
 {
+    // Kept: no plainer, since no `From` takes a usize to a u64.
     let p1 = put_field(buf, at, b"bad record at ", k as u64);
     put_text(buf, p1, b"\n")
 }
@@ -78,10 +79,12 @@ pub fn put_route(
     kept: usize,
 ) -> usize
     requires { at + 160 ≤ length buf.old }
-    ensures { Written buf.old at (route_line n cost routes points kept) buf.new result }
+    ensures written { Written buf.old at (route_line n cost routes points kept) buf.new result }
+    ensures upper_bound { result ≤ at + 160 }
 {
+    // Kept: no plainer, since no `From` takes a usize to a u64.
     let p1 = put_field(buf, at, b"job ", n as u64);
-    let p2 = put_field(buf, p1, b": cost ", cost as u64);
+    let p2 = put_field(buf, p1, b": cost ", u64::from(cost));
     let p3 = put_field(buf, p2, b" routes ", routes);
     let p4 = put_field(buf, p3, b" points ", points as u64);
     let p5 = put_field(buf, p4, b" kept ", kept as u64);
@@ -93,7 +96,7 @@ fn put_vertex(buf: &mut [u8], at: usize, v: u16) -> usize
     requires { at + 6 ≤ length buf.old }
     ensures { Written buf.old at (field " " v) buf.new result }
 {
-    put_field(buf, at, b" ", v as u64)
+    put_field(buf, at, b" ", u64::from(v))
 }
 
 // Writes the vertices of `route` at the first k positions of `kept`, each after a space.
@@ -105,9 +108,8 @@ fn put_vertices(buf: &mut [u8], at: usize, route: &[u16], kept: &[u16], k: usize
     ensures upper_bound { result ≤ at + 6 * k }
 {
     let mut next = at;
-    for i in 0..k {
-        let p = kept[i] as usize;
-        next = put_vertex(buf, next, route[p]);
+    for p in &kept[..k] {
+        next = put_vertex(buf, next, route[usize::from(*p)]);
     }
     next
 }

@@ -29,13 +29,17 @@ pub struct JobRecord {
     pub end: usize,
 }
 
-// What a step finds. A map or a job comes with the cursor past it; a bad record is given by the place where it starts.
+// A record of the stream.
 #[derive(Clone, Copy)]
 pub enum Record {
-    Map(MapRecord, Cursor),
-    Job(JobRecord, Cursor),
-    End,
-    Bad(usize),
+    Map(MapRecord),
+    Job(JobRecord),
+}
+
+// A bad record, given by the place where it starts.
+#[derive(Clone, Copy)]
+pub struct BadRecord {
+    pub at: usize,
 }
 
 // Whether the two bytes at `at` are a and b.
@@ -43,10 +47,7 @@ pub fn marked(s: &[u8], at: usize, a: u8, b: u8) -> bool
     requires { at + 2 ≤ length s.now }
     ensures { result ≡ marked_at s.now at a b }
 {
-    if s[at] != a {
-        return false;
-    }
-    s[at + 1] == b
+    s[at] == a && s[at + 1] == b
 }
 
 // The byte at `at`.
@@ -54,7 +55,7 @@ pub fn byte(s: &[u8], at: usize) -> usize
     requires { at < length s.now }
     ensures { (result ≡ get_or s.now at 0) × (result < 256) }
 {
-    s[at] as usize
+    usize::from(s[at])
 }
 
 // The 16-bit little-endian number at `at`.
@@ -62,19 +63,14 @@ pub fn word(s: &[u8], at: usize) -> usize
     requires { at + 2 ≤ length s.now }
     ensures { (result ≡ word_at s.now at) × (result < 65536) }
 {
-    let low = byte(s, at);
-    let high = byte(s, at + 1);
-    low + 256 * high
+    byte(s, at) + 256 * byte(s, at + 1)
 }
 
 // Whether a side of the map is 1 to 31.
 fn side_good(n: usize) -> bool
     ensures { result ≡ map_side n }
 {
-    if n < 1 {
-        return false;
-    }
-    n <= 31
+    1 <= n && n <= 31
 }
 
 // Whether each of the `count` cells that start at `from` is 0 or 1.
@@ -82,84 +78,57 @@ fn cells_good(s: &[u8], from: usize, count: usize) -> bool
     requires { from + count ≤ length s.now }
     ensures { result ≡ every count (cell_byte s.now from) }
 {
-    let mut k: usize = 0;
-    while k < count {
-        if 1 < s[from + k] {
-            return false;
-        }
-        k += 1;
-    }
-    true
+    s[from..from + count].iter().all(|cell| *cell <= 1)
 }
 
-// The map record at `at`.
-fn read_map(s: &[u8], at: usize) -> Record
+// The map record at `at`, with the cursor past it.
+#[tactic(auto, unfolding(crate::specs::Format::map_at, crate::specs::Format::good_map))]
+fn read_map(s: &[u8], at: usize) -> Result<(Record, Cursor), BadRecord>
     ensures { result ≡ map_at s.now at }
 {
-    if s.len() < at {
-        return Record::Bad(at);
-    }
-    let left = s.len() - at;
-    if left < 4 {
-        return Record::Bad(at);
-    }
-    if !marked(s, at, b'M', b'P') {
-        return Record::Bad(at);
+    if s.len() < at || s.len() - at < 4 || !marked(s, at, b'M', b'P') {
+        return Err(BadRecord { at });
     }
     let wide = byte(s, at + 2);
-    if !side_good(wide) {
-        return Record::Bad(at);
-    }
     let high = byte(s, at + 3);
-    if !side_good(high) {
-        return Record::Bad(at);
+    if !side_good(wide) || !side_good(high) {
+        return Err(BadRecord { at });
     }
     let count = wide * high;
-    if left < 4 + count {
-        return Record::Bad(at);
-    }
     let cells = at + 4;
-    if !cells_good(s, cells, count) {
-        return Record::Bad(at);
+    if s.len() - cells < count || !cells_good(s, cells, count) {
+        return Err(BadRecord { at });
     }
-    Record::Map(
-        MapRecord { wide, high, cells },
+    Ok((
+        Record::Map(MapRecord { wide, high, cells }),
         Cursor {
             at: cells + count,
             due: 1,
         },
-    )
+    ))
 }
 
-// The record of job `number` at `at`.
-fn read_job(s: &[u8], at: usize, number: usize) -> Record
+// The record of job `number` at `at`, with the cursor past it.
+#[tactic(auto, unfolding(crate::specs::Format::job_at, crate::specs::Format::good_job))]
+fn read_job(s: &[u8], at: usize, number: usize) -> Result<(Record, Cursor), BadRecord>
     requires { number ≤ 1000 }
     ensures { result ≡ job_at s.now at number }
 {
-    if s.len() < at {
-        return Record::Bad(at);
+    if s.len() < at || s.len() - at < 7 || !marked(s, at, b'J', b'B') {
+        return Err(BadRecord { at });
     }
-    if s.len() - at < 7 {
-        return Record::Bad(at);
-    }
-    if !marked(s, at, b'J', b'B') {
-        return Record::Bad(at);
-    }
-    let neighbourhood = byte(s, at + 2);
-    let start = word(s, at + 3);
-    let end = word(s, at + 5);
-    Record::Job(
-        JobRecord {
+    Ok((
+        Record::Job(JobRecord {
             number,
-            neighbourhood,
-            start,
-            end,
-        },
+            neighbourhood: byte(s, at + 2),
+            start: word(s, at + 3),
+            end: word(s, at + 5),
+        }),
         Cursor {
             at: at + 7,
             due: number + 1,
         },
-    )
+    ))
 }
 
 // Whether the bytes s settle the record at `at`, where the map is due: whatever follows them, the answer of `read_map`
@@ -167,6 +136,7 @@ fn read_job(s: &[u8], at: usize, number: usize) -> Record
 fn map_settled(s: &[u8], at: usize) -> bool
     ensures { Decides result (MapSettled s.now at) }
 {
+    // Kept: no plainer, since the answers alternate: a missing byte settles nothing, and a wrong one settles the record.
     if s.len() <= at {
         return false;
     }
@@ -205,6 +175,7 @@ fn job_settled(s: &[u8], at: usize) -> bool
     requires { at < length s.now }
     ensures { (k : ℕ) → Decides result (JobSettled s.now at k) }
 {
+    // Kept: no plainer, since the answers alternate, as in `map_settled`.
     if s[at] != b'J' {
         return true;
     }
@@ -226,39 +197,32 @@ impl Cursor {
         Cursor { at: 0, due: 0 }
     }
 
-    // The record at the cursor, the end of the input, or a bad record.
-    pub fn step(self, s: &[u8]) -> Record
+    // The record at the cursor, with the cursor past it; none at the end of the input; or a bad record.
+    #[tactic(auto, unfolding(crate::specs::Format::record_at))]
+    pub fn step(self, s: &[u8]) -> Result<Option<(Record, Cursor)>, BadRecord>
         ensures { result ≡ record_at s.now self }
     {
-        let at = self.at;
-        let due = self.due;
+        let Cursor { at, due } = self;
         if due == 0 {
-            return read_map(s, at);
+            return Ok(Some(read_map(s, at)?));
         }
         if s.len() <= at {
-            return Record::End;
+            return Ok(None);
         }
         if 1000 < due {
-            return Record::Bad(at);
+            return Err(BadRecord { at });
         }
-        read_job(s, at, due)
+        Ok(Some(read_job(s, at, due)?))
     }
 
     // Whether the bytes s settle the record at the cursor: a step finds the same whatever follows them.
     pub fn is_settled(self, s: &[u8]) -> bool
         ensures { Decides result (Settled s.now self) }
     {
-        let at = self.at;
-        let due = self.due;
+        let Cursor { at, due } = self;
         if due == 0 {
             return map_settled(s, at);
         }
-        if s.len() <= at {
-            return false;
-        }
-        if due > 1000 {
-            return true;
-        }
-        job_settled(s, at)
+        at < s.len() && (1000 < due || job_settled(s, at))
     }
 }

@@ -1,6 +1,5 @@
 pub mod Moving
 pub mod Taken
-pub mod Following
 pub mod Reached
 pub mod Shaped
 pub mod Walked

@@ -12,17 +12,16 @@ use mathlib.Core.Bool.{Bool, true, false}
 use mathlib.Core.List.{List}
 use native.Mathlib.Omega.{arith}
 use lib.ListN.{length}
+use Rattle.std.proofs.Common.{Ok, Err, Some, None}
 use Rattle.floor.specs.Floor.{floor_of, vertices}
-use Rattle.floor.proofs.Numbers.{vertices-pos}
 use Rattle.moves.specs.declared.Directions.{Directions}
 use Rattle.moves.proofs.Table.{listed-lawful}
 use Rattle.paths.specs.Graph.{Graph}
 use Rattle.grid.specs.Grid.{floor_graph}
 use Rattle.grid.proofs.Lawful.{floor-lawful}
-use Rattle.logs.specs.Log.{cursor_at, closed, with_stop, and_rest, stop_at, log_from, log_of}
+use Rattle.logs.specs.Log.{LogStep, cursor_at, closed, with_stop, and_rest, stop_at, log_from, log_of}
 use Rattle.logs.specs.declared.LogCursor.{LogCursor}
-use Rattle.logs.specs.declared.LogStep.{LogStep}
-use Rattle.logs.specs.declared.LogStep.TheVariants.{Stop, End, Bad}
+use Rattle.logs.specs.declared.BadStop.{BadStop}
 use Rattle.logs.proofs.Steps.{log-step, Stopped, stop-found}
 use Rattle.replay.specs.Replay.{pinch_at}
 use Rattle.replay.specs.Known.{Drivable, after_stop, after_stops, start_progress, Bounded, Taking, LogRead}
@@ -54,7 +53,7 @@ module _ (w h : ℕ) (map : List ℕ) (dirs : Directions) (log : List ℕ) where
   starts c e = rw e (record {
     rest = refl;
     broken = refl;
-    bounded = record { first = vertices-pos w h; last = vertices-pos w h; cost = omega arith };
+    bounded = record { ends = tt; cost = omega arith };
     place = refl;
     inside = omega arith;
   })
@@ -67,9 +66,9 @@ module _ (w h : ℕ) (map : List ℕ) (dirs : Directions) (log : List ℕ) where
     log_is : (t : LogStep) → r ≡ t → log_from log size c ≡ and_rest t (log_from log size)
     log_is t e = log-step log size c ∙ ap (λ t. and_rest t (log_from log size)) (found t e)
 
-    module _ (v : ℕ) (d : LogCursor) (stop : r ≡ Stop v d) where
+    module _ (v : ℕ) (d : LogCursor) (stop : r ≡ Ok (Some (v, d))) where
       stopped : Stopped log size c v d
-      stopped = stop-found log size c v d (found (Stop v d) stop)
+      stopped = stop-found log size c v d (found (Ok (Some (v, d))) stop)
 
       pub takes : Drivable w h map dirs → length log ≤ 16384 → Taking w h map dirs s v
       takes D l =
@@ -80,7 +79,7 @@ module _ (w h : ℕ) (map : List ℕ) (dirs : Directions) (log : List ℕ) where
       unfolding after_stops after_stop
       goes_on D s' e =
           let t = stopped in
-          let q : log_from log size c ≡ with_stop v (log_from log size d) = log_is (Stop v d) stop in
+          let q : log_from log size c ≡ with_stop v (log_from log size d) = log_is (Ok (Some (v, d))) stop in
           let lawful = floor-lawful (floor_of w h map) dirs (listed-lawful D.listed) in
           rw e (record {
             rest = sym (ap (λ l. after_stops g p s l.stops) q) ∙ R.rest;
@@ -106,8 +105,8 @@ module _ (w h : ℕ) (map : List ℕ) (dirs : Directions) (log : List ℕ) where
             few = omega (arith, R.place, R.inside);
           }
 
-    pub ends : length log ≤ 16384 → r ≡ End → LogRead w h map dirs log (record { drive = s; broken = false })
-    ends l e = closes l false End e refl
+    pub ends : length log ≤ 16384 → r ≡ Ok None → LogRead w h map dirs log (record { drive = s; broken = false })
+    ends l e = closes l false (Ok None) e refl
 
-    pub breaks : length log ≤ 16384 → r ≡ Bad → LogRead w h map dirs log (record { drive = s; broken = true })
-    breaks l e = closes l true Bad e refl
+    pub breaks : (x : BadStop) → length log ≤ 16384 → r ≡ Err x → LogRead w h map dirs log (record { drive = s; broken = true })
+    breaks x l e = closes l true (Err x) e refl

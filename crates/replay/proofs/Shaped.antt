@@ -1,42 +1,38 @@
 -- The tests of the shape of a replay, and the answer for the reading of a log.
 --
---   log-long, -costs, -work, -fits == `log_shape` by the lengths: refusals 16 and 6, and a good shape
 --   replay-refused, replay-rest    == the shape, once floor and neighbourhood are tested
 --   refused-floor, -neighbourhood, -log, fit-log == the shape by the tests in order
 --   job-replayable                 == `Replayable` where the shape is fit
---   replays-refused, replays-fit   == `Replays` where the shape is refused, and where it is fit
---   faultless-is                   == `faultless_in` of the reading is `faultless` of the log
---   faulty-judged, start-good, faultless-judged == `Judged` of a log with a fault and of a faultless one, whose first
---                                           record is a good start for the costs
+--   replays-fit                    == `Replays` where the shape is fit
+--   faulty-judged, start-good, last-inside, faultless-judged == `Judged` of a log with a fault and of a faultless one,
+--                                     whose first record is a good start for the costs
 --   answered                       == `ReplaysLog` of the answer `answer_in` of the reading
 use Prim.Native.Nat.{ℕ, ◌+◌, ◌*◌, ◌≤◌, ◌<◌}
 use mathlib.Core.Path.{◌≡◌, refl, sym, ap, ap₂, ◌∙◌}
-use mathlib.Core.Bool.{Bool, true, false, ◌&&◌, not}
+use mathlib.Core.Bool.{Bool, true, false, ◌&&◌, not, and-false}
 use mathlib.Core.List.{List, [], ◌∷◌}
-use mathlib.Core.Option.{none, some}
 use native.Mathlib.Omega.{arith}
-use borrow.Author.Tests.{eqb-true, eq-eqb, ne_eqb, leb-true, le-leb, lt-leb, not-true, not-false}
+use borrow.Author.Tests.{eqb-true, leb-true, le-leb}
 use lib.Dec.{leb, eqb}
 use lib.ListN.{length, get_or}
+use Rattle.std.proofs.lemmas.Option.{same_Some}
+use Rattle.std.proofs.Common.{Option, None, Some, Ok, Err}
 use Rattle.basics.specs.Bounded.{pick}
 use Rattle.basics.specs.Lists.{tabulate, zeros}
 use Rattle.basics.proofs.Bools.{and_left, and_right, eqb-sym}
 use Rattle.basics.proofs.Lists.{get_d_tabulate}
 use Rattle.floor.specs.Floor.{floor_of, vertices}
+use Rattle.floor.specs.declared.Vertex.{Vertex}
 use Rattle.floor.specs.declared.Refusal.{Refusal}
-use Rattle.floor.specs.declared.Refusal.TheVariants.{Neighbourhood as BadNeighbourhood, SliceLength, LogLength}
-use Rattle.floor.specs.Refusals.{floor_shape}
-use Rattle.floor.specs.declared.Shape.TheVariants.{Good, Refused as BadShape}
+use Rattle.floor.specs.declared.Refusal.TheVariants.{Neighbourhood, SliceLength, LogLength}
+use Rattle.floor.specs.Refusals.{floor_shape, and_then}
 use Rattle.floor.proofs.Shapes.{good-floor, good-first, good-second, good-pick}
 use Rattle.moves.specs.declared.Directions.{Directions}
-use Rattle.moves.specs.declared.Neighbourhood.TheVariants.{Known, Refused as NotKnown}
 use Rattle.moves.specs.Moves.{neighbourhood_of}
 use Rattle.paths.specs.Graph.{Graph}
 use Rattle.paths.specs.Distance.{distance}
-use Rattle.grid.specs.Grid.{floor_graph, or_refused}
+use Rattle.grid.specs.Grid.{floor_graph}
 use Rattle.grid.specs.Known.{dirs_shape, GoodJob}
-use Rattle.grid.specs.declared.JobShape.{JobShape}
-use Rattle.grid.specs.declared.JobShape.TheVariants.{Fit, Refused as BadJob}
 use Rattle.grid.proofs.Jobs.{with-passed, with-refused, with_rest}
 use Rattle.distances.specs.Costs.{FilledCosts}
 use Rattle.logs.specs.Log.{Log, log_of}
@@ -50,9 +46,9 @@ use Rattle.replay.specs.Replay.{
   throughout,
   faultless,
   first_stop,
+  last_of,
   last_stop,
   cheapest,
-  log_drive,
   log_answer,
   log_costs,
   ReplaySlices,
@@ -68,49 +64,31 @@ use Rattle.replay.specs.Known.{
   Drivable,
   start_progress,
   LogRead,
-  faultless_in,
+  vertex_of,
+  sound_ends,
+  EndsIn,
   answer_in,
   Replayable,
   Judged,
   ReplaysLog,
 }
-use Rattle.replay.specs.declared.Followed.TheVariants.{Not}
 use Rattle.replay.specs.declared.Reading.{Reading}
 use Rattle.replay.specs.declared.Replayed.{Replayed}
-use Rattle.replay.specs.declared.Replayed.TheVariants.{Refused}
-use Rattle.replay.proofs.Taken.{after_read, after_first, after_last, after-driven}
+use Rattle.replay.proofs.Taken.{ends_of, after_read, after_ends, after-driven}
 
--- ---- the lengths
+-- ---- the shape
 
 module _ (v n c k : ℕ) where
-  pub log-long : 16384 < n → BadShape LogLength ≡ log_shape v n c k
-  unfolding log_shape
-  log-long l = rw (lt-leb n 16384 l)
-
-  module _ (short : n ≤ 16384) where
-    pub log-costs : (c ≡ v → ⊥) → BadShape SliceLength ≡ log_shape v n c k
-    unfolding log_shape
-    log-costs e = rw (le-leb n 16384 short, ne_eqb c v e)
-
-    module _ (costs : c ≡ v) where
-      pub log-work : (k ≡ 4 * v → ⊥) → BadShape SliceLength ≡ log_shape v n c k
-      unfolding log_shape
-      log-work e = rw (le-leb n 16384 short, eq-eqb c v costs, ne_eqb k (4 * v) e)
-
-      pub log-fits : k ≡ 4 * v → Good ≡ log_shape v n c k
-      unfolding log_shape
-      log-fits e = rw (le-leb n 16384 short, eq-eqb c v costs, eq-eqb k (4 * v) e)
-
   -- Lengths of good shape.
   record Fitting : Type 0 where
     short : n ≤ 16384
     costs : c ≡ v
     work : k ≡ 4 * v
 
-  log-fitting : log_shape v n c k ≡ Good → Fitting
+  log-fitting : log_shape v n c k ≡ Ok tt → Fitting
   unfolding log_shape
   log-fitting e =
-      let first = pick (leb n 16384) Good (BadShape LogLength) in
+      let first = pick (leb n 16384) (Ok tt) (Err LogLength) in
       let s = good-pick LogLength (leb n 16384) (good-first first _ e) in
       let t = good-pick SliceLength (eqb c v && eqb k (4 * v)) (good-second first _ e) in
       record {
@@ -119,41 +97,42 @@ module _ (v n c k : ℕ) where
         work = eqb-true k (4 * v) (and_right (eqb c v) (eqb k (4 * v)) t);
       }
 
--- ---- the shape
-
-module _ (w h : ℕ) (map : List ℕ) (nb n c k : ℕ) {j : JobShape} (told : j ≡ dirs_shape w h map nb) where
-  pub replay-refused : {z : Refusal} → j ≡ BadJob z → j ≡ replay_shape w h map nb n c k
-  unfolding replay_shape
-  replay-refused e = with-refused w h map nb (log_shape (vertices w h) n c k) told e
-
-  pub replay-rest : {dirs : Directions} → j ≡ Fit dirs
-      → or_refused (log_shape (vertices w h) n c k) (Fit dirs) ≡ replay_shape w h map nb n c k
-  unfolding replay_shape
-  replay-rest e = with_rest w h map nb told e (log_shape (vertices w h) n c k)
-
--- The whole shape, test by test.
 module _ (w h : ℕ) (map : List ℕ) (nb n c k : ℕ) where
-  pub refused-floor : (s : Refusal) → floor_shape w h map ≡ BadShape s → BadJob s ≡ replay_shape w h map nb n c k
+  pub replay-refused : {z : Refusal} → dirs_shape w h map nb ≡ Err z → Err z ≡ replay_shape w h map nb n c k
+  unfolding replay_shape
+  replay-refused e = sym e ∙ with-refused w h map nb (log_shape (vertices w h) n c k) refl e
+
+  pub replay-rest : {dirs : Directions} → dirs_shape w h map nb ≡ Ok dirs
+      → and_then (log_shape (vertices w h) n c k) (Ok dirs) ≡ replay_shape w h map nb n c k
+  unfolding replay_shape
+  replay-rest e = with_rest w h map nb refl e (log_shape (vertices w h) n c k)
+
+-- The whole shape, test by test. The proofs go without these four; docs name them.
+module _ (w h : ℕ) (map : List ℕ) (nb n c k : ℕ) where
+  -- A bad floor is the answer.
+  pub refused-floor : (s : Refusal) → floor_shape w h map ≡ Err s → Err s ≡ replay_shape w h map nb n c k
   unfolding replay_shape
   refused-floor s e = rw e
 
-  module _ (f : floor_shape w h map ≡ Good) where
-    pub refused-neighbourhood : neighbourhood_of nb ≡ NotKnown → BadJob BadNeighbourhood ≡ replay_shape w h map nb n c k
+  module _ (f : floor_shape w h map ≡ Ok tt) where
+    -- On a good floor a number that names no neighbourhood is.
+    pub refused-neighbourhood : neighbourhood_of nb ≡ None → Err Neighbourhood ≡ replay_shape w h map nb n c k
     unfolding replay_shape
     refused-neighbourhood e = rw (f, e)
 
-    module _ (dirs : Directions) (known : neighbourhood_of nb ≡ Known dirs) where
-      pub refused-log : (s : Refusal) → log_shape (vertices w h) n c k ≡ BadShape s
-          → BadJob s ≡ replay_shape w h map nb n c k
+    module _ (dirs : Directions) (known : neighbourhood_of nb ≡ Some dirs) where
+      -- With both good, a bad length of log, costs or working slice is.
+      pub refused-log : (s : Refusal) → log_shape (vertices w h) n c k ≡ Err s → Err s ≡ replay_shape w h map nb n c k
       unfolding replay_shape
       refused-log s e = rw (f, known, e)
 
-      pub fit-log : log_shape (vertices w h) n c k ≡ Good → Fit dirs ≡ replay_shape w h map nb n c k
+      -- With all three good, the directions are.
+      pub fit-log : log_shape (vertices w h) n c k ≡ Ok tt → Ok dirs ≡ replay_shape w h map nb n c k
       unfolding replay_shape
       fit-log e = rw (f, known, e)
 
 pub job-replayable : (w h : ℕ) (map : List ℕ) (nb : ℕ) (log costs work : List ℕ) (dirs : Directions)
-    → replay_shape w h map nb (length log) (length costs) (length work) ≡ Fit dirs
+    → replay_shape w h map nb (length log) (length costs) (length work) ≡ Ok dirs
     → Replayable w h map dirs log costs work
 unfolding replay_shape
 job-replayable w h map nb log costs work dirs e =
@@ -169,37 +148,66 @@ job-replayable w h map nb log costs work dirs e =
       work_len = t.work;
     }
 
-module _ {w h : ℕ} {map : List ℕ} {nb : ℕ} {log : List ℕ} {s : ReplaySlices} {j : JobShape}
-    (told : j ≡ replay_shape w h map nb (length log) (length s.costs) (length s.work)) where
-  pub replays-refused : {z : Refusal} {s' : ReplaySlices} → j ≡ BadJob z → s' ≡ s
-      → Replays w h map nb log s (Refused z) s'
-  unfolding replay_answer replay_left
-  replays-refused t q = let e = sym told ∙ t in record { answer = rw e; left = rw e q }
-
-  pub replays-fit : {dirs : Directions} {r : Replayed} {costs work : List ℕ} → j ≡ Fit dirs
-      → let f = floor_of w h map in
-      ReplaysLog (floor_graph f dirs) (pinch_at f) (log_of log (vertices w h)) r costs work
-      → Replays w h map nb log s r (replay_slices_of costs work)
-  unfolding replay_answer replay_left
-  replays-fit t P =
-      let e = sym told ∙ t in
-      record { answer = rw e P.answer; left = rw e (ap₂ replay_slices_of P.costs P.work) }
+pub replays-fit : {w h : ℕ} {map : List ℕ} {nb : ℕ} {log : List ℕ} {s : ReplaySlices} {dirs : Directions} {r : Replayed}
+    {costs work : List ℕ}
+    → replay_shape w h map nb (length log) (length s.costs) (length s.work) ≡ Ok dirs
+    → let f = floor_of w h map in
+    ReplaysLog (floor_graph f dirs) (pinch_at f) (log_of log (vertices w h)) r costs work
+    → Replays w h map nb log s (Ok r) (replay_slices_of costs work)
+unfolding replay_answer replay_left
+replays-fit e P =
+    record { answer = rw e (ap Ok P.answer); left = rw e (ap₂ replay_slices_of P.costs P.work) }
 
 -- ---- from the reading to the answer
 
 -- A log that has a record and can be followed throughout does not start on a pinch.
-first-free : (g : Graph) (p : ℕ → Bool) (l : List ℕ) → 1 ≤ length l → throughout (drive g p 1 none 0 l).followed ≡ true
+first-free : (g : Graph) (p : ℕ → Bool) (l : List ℕ) → 1 ≤ length l → throughout (drive g p 1 None 0 l).unfollowed ≡ true
     → p (get_or l 0 0) ≡ false
 unfolding drive follow_cost
 first-free g p [] n t = absurd (omega arith)
 first-free g p (v ∷ l) n t = cases (p v) t
   where
     on : Bool → Driven
-    on b = if_follows (pick b none (some 0)) (λ x. drive g p 2 (some v) (0 + x) l) (driven_of 0 (Not 1))
+    on b = if_follows (pick b None (Some 0)) (λ x. drive g p 2 (Some v) (0 + x) l) (driven_of 0 (Some 1))
 
-    cases : (b : Bool) → throughout (on b).followed ≡ true → b ≡ false
+    cases : (b : Bool) → throughout (on b).unfollowed ≡ true → b ≡ false
     cases true t = let z : ◌≡◌ {A = ℕ} 0 1 = cc in absurd (omega arith)
     cases false t = refl
+
+no-ends : (l : List ℕ) (b : Bool) → ◌≡◌ {A = Option (Vertex × Vertex)} (pick b (ends_of l) None) None
+    → (leb 1 (length l) && b) ≡ false
+no-ends [] b e = refl
+no-ends (v ∷ l) true e = cc
+no-ends (v ∷ l) false e = and-false (leb 1 (length (v ∷ l)))
+
+-- The first stop a and the last stop b of the log l, which has a record; it is sound where s says so.
+record Ended (l : List ℕ) (s : Bool) (a b : Vertex) : Type 0 where
+  sound : s ≡ true
+  some : 1 ≤ length l
+  first : a.0 ≡ get_or l 0 0
+  last : b.0 ≡ last_of 0 l
+
+some-ends : (l : List ℕ) (s : Bool) {a b : Vertex} → pick s (ends_of l) None ≡ Some (a, b) → Ended l s a b
+unfolding last_of
+some-ends [] true e = cc
+some-ends [] false e = cc
+some-ends (v ∷ l) false e = cc
+some-ends (v ∷ l) true {a} {b} e =
+    let q : ◌≡◌ {A = Vertex × Vertex} (vertex_of v, vertex_of (last_of v l)) (a, b) = same_Some _ _ e in
+    record {
+      sound = refl;
+      some = omega arith;
+      first = sym (ap (λ (z : Vertex × Vertex). z.0.0) q);
+      last = sym (ap (λ (z : Vertex × Vertex). z.1.0) q);
+    }
+
+ends-inside : {n : ℕ} {a b : Vertex} (x : Bool) (f : Option ℕ) (e : Option (Vertex × Vertex))
+    → pick (not x && throughout f) e None ≡ Some (a, b) → EndsIn n e → (a.0 < n) × (b.0 < n)
+ends-inside {n} {a} {b} x f e q i = cases (not x && throughout f) q
+  where
+    cases : (s : Bool) → pick s e None ≡ Some (a, b) → (a.0 < n) × (b.0 < n)
+    cases true q = rw q at i
+    cases false q = cc
 
 module _ {w h : ℕ} {map : List ℕ} {dirs : Directions} {log : List ℕ} {r : Reading}
     (R : LogRead w h map dirs log r) where
@@ -218,72 +226,75 @@ module _ {w h : ℕ} {map : List ℕ} {dirs : Directions} {log : List ℕ} {r : 
   cost-is : r.drive.cost ≡ (driven g p l).cost
   cost-is = ap (λ s. s.cost) R.drive ∙ sym (ap (λ d. d.cost) (after-driven g p l.stops))
 
-  followed-is : r.drive.followed ≡ (driven g p l).followed
-  followed-is = ap (λ s. s.followed) R.drive ∙ sym (ap (λ d. d.followed) (after-driven g p l.stops))
+  unfollowed-is : r.drive.unfollowed ≡ (driven g p l).unfollowed
+  unfollowed-is = ap (λ s. s.unfollowed) R.drive ∙ sym (ap (λ d. d.unfollowed) (after-driven g p l.stops))
 
-  first-stop : r.drive.first ≡ first_stop l
-  first-stop = ap (λ s. s.first) R.drive ∙ after_first g p l.stops
+  -- Whether neither fault was found.
+  abbrev sound : Bool
+  sound = not l.broken && throughout (driven g p l).unfollowed
 
-  last-stop : r.drive.last ≡ last_stop l
-  last-stop = ap (λ s. s.last) R.drive ∙ after_last g p l.stops start_progress
+  ends-is : sound_ends r ≡ pick sound (ends_of l.stops) None
+  ends-is = rw (ap (λ s. s.ends) R.drive, after_ends g p l.stops, R.broken, unfollowed-is) refl
 
-  pub faultless-is : faultless_in r ≡ faultless g p l
-  unfolding faultless
-  faultless-is = rw (read_is, R.broken, followed-is)
-
-  pub faulty-judged : (costs work : List ℕ) {b : Bool} {costs' work' : List ℕ} → b ≡ faultless_in r → not b ≡ true
+  pub faulty-judged : (costs work : List ℕ) {costs' work' : List ℕ} → sound_ends r ≡ None
       → Replayable w h map dirs log costs work → costs' ≡ zeros (length costs) → work' ≡ zeros (length work)
       → Judged g p l false costs' work'
-  unfolding cheapest log_costs
-  faulty-judged costs work {b} e t L c k =
-      let z : faultless g p l ≡ false = sym faultless-is ∙ sym e ∙ not-true b t in
+  unfolding faultless cheapest log_costs
+  faulty-judged costs work e L c k =
+      let z : (leb 1 (length l.stops) && sound) ≡ false = no-ends l.stops sound (sym ends-is ∙ e) in
       record { answer = rw z; costs = rw z (c ∙ ap zeros L.costs_len); work = k ∙ ap zeros L.work_len }
 
-  module _ {b : Bool} (tested : b ≡ faultless_in r) (passed : not b ≡ false) where
+  module _ {a b : Vertex} (found : sound_ends r ≡ Some (a, b)) where
+    these : Ended l.stops sound a b
+    these = some-ends l.stops sound (sym ends-is ∙ found)
+
     is-faultless : faultless g p l ≡ true
-    is-faultless = sym faultless-is ∙ sym tested ∙ not-false b passed
-
-    free : p r.drive.first ≡ false
     unfolding faultless
-    free =
-        let some_read = leb 1 (length l.stops) in
-        let sound = not l.broken in
-        let on = throughout (driven g p l).followed in
-        ap p first-stop
-        ∙ first-free g p l.stops (leb-true 1 (length l.stops) (and_left some_read (sound && on) is-faultless))
-        (and_right sound on (and_right some_read (sound && on) is-faultless))
+    is-faultless = rw (le-leb 1 (length l.stops) these.some, these.sound)
 
-    pub start-good : Drivable w h map dirs → GoodJob w h map dirs r.drive.first r.drive.first
+    free : p a.0 ≡ false
+    free =
+        let on = throughout (driven g p l).unfollowed in
+        ap p these.first
+        ∙ first-free g p l.stops these.some (and_right (not l.broken) on these.sound)
+
+    inside : (a.0 < vertices w h) × (b.0 < vertices w h)
+    inside = ends-inside r.broken r.drive.unfollowed r.drive.ends found R.bounded.ends
+
+    pub start-good : Drivable w h map dirs → GoodJob w h map dirs a.0 a.0
     unfolding pinch_at
     start-good D = record {
       sized = D.sized;
       listed = D.listed;
-      start_in = R.bounded.first;
-      goal_in = R.bounded.first;
+      start_in = inside.0;
+      goal_in = inside.0;
       start_free = free;
       goal_free = free;
     }
 
-    pub faultless-judged : {costs work : List ℕ} → FilledCosts g r.drive.first costs work
-        → Judged g p l (eqb (get_or costs r.drive.last 0) r.drive.cost) costs work
+    pub last-inside : {n : ℕ} → n ≡ vertices w h → b.0 < n
+    last-inside e = omega (arith, inside.1)
+
+    pub faultless-judged : {costs work : List ℕ} → FilledCosts g a.0 costs work
+        → Judged g p l (eqb (get_or costs b.0 0) r.drive.cost) costs work
     unfolding cheapest log_costs
     faultless-judged {costs} {work} F =
         let d = distance g (first_stop l) in
-        let there : get_or costs r.drive.last 0 ≡ d (last_stop l) =
-        ap (λ c. get_or c r.drive.last 0) F.costs
-        ∙ get_d_tabulate (vertices w h) r.drive.last (distance g r.drive.first) R.bounded.last
-        ∙ ap₂ (distance g) first-stop last-stop in
+        let there : get_or costs b.0 0 ≡ d (last_stop l) =
+        ap (λ c. get_or c b.0 0) F.costs
+        ∙ get_d_tabulate (vertices w h) b.0 (distance g a.0) inside.1
+        ∙ ap₂ (distance g) these.first these.last in
         record {
           answer = ap₂ eqb there cost-is ∙ eqb-sym (d (last_stop l)) (driven g p l).cost ∙ sym (rw is-faultless);
-          costs = F.costs ∙ ap (λ a. tabulate (vertices w h) (distance g a)) first-stop ∙ sym (rw is-faultless);
+          costs = F.costs ∙ ap (λ z. tabulate (vertices w h) (distance g z)) these.first ∙ sym (rw is-faultless);
           work = F.clear;
         }
 
   pub answered : {b : Bool} {a : Replayed} {costs work : List ℕ} → Judged g p l b costs work → a ≡ answer_in r b
       → ReplaysLog g p l a costs work
-  unfolding answer_in log_answer log_drive
+  unfolding answer_in log_answer
   answered J e = record {
-    answer = e ∙ rw (R.broken, read_is, cost-is, followed-is, J.answer);
+    answer = e ∙ rw (R.broken, read_is, cost-is, unfollowed-is, J.answer);
     costs = J.costs;
     work = J.work;
   }

@@ -11,10 +11,10 @@ use mathlib.Core.Bool.{Bool, true, false}
 use mathlib.Core.List.{List, [], ◌∷◌}
 use mathlib.Core.Option.{Option, none, some}
 use lib.Dec.{eqb}
+use Rattle.std.proofs.Common.{Some, None}
 use Rattle.basics.specs.Bounded.{bounded-opened}
 use Rattle.paths.specs.Graph.{Graph}
 use Rattle.replay.specs.Replay.{move_cost, follow_cost, Driven, driven_of, drive}
-use Rattle.replay.specs.declared.Followed.TheVariants.{Throughout, Not}
 
 abbrev after : ℕ → Option ℕ
 after zero = some 1
@@ -34,24 +34,24 @@ abbrev apart : ℕ → Bool
 apart v = eqb v 3
 
 abbrev run : List ℕ → Driven
-run l = drive row apart 1 none 0 l
+run l = drive row apart 1 None 0 l
 
-empty : run [] ≡ driven_of 0 Throughout
+empty : run [] ≡ driven_of 0 None
 unfolding drive
 empty = refl
 
-there_and_back : run (0 ∷ 1 ∷ 1 ∷ 2 ∷ 1 ∷ []) ≡ driven_of 30 Throughout
+there_and_back : run (0 ∷ 1 ∷ 1 ∷ 2 ∷ 1 ∷ []) ≡ driven_of 30 None
 unfolding bounded-opened move_cost follow_cost drive
 there_and_back = refl
 
-jumped : run (0 ∷ 1 ∷ 0 ∷ 2 ∷ 1 ∷ 0 ∷ []) ≡ driven_of 20 (Not 4)
+jumped : run (0 ∷ 1 ∷ 0 ∷ 2 ∷ 1 ∷ 0 ∷ []) ≡ driven_of 20 (Some 4)
 unfolding bounded-opened move_cost follow_cost drive
 jumped = refl
 
-on-a-pinch : run (3 ∷ 3 ∷ []) ≡ driven_of 0 (Not 1)
+on-a-pinch : run (3 ∷ 3 ∷ []) ≡ driven_of 0 (Some 1)
 unfolding bounded-opened move_cost follow_cost drive
 on-a-pinch = refl
 
-onto-a-pinch : run (2 ∷ 1 ∷ 3 ∷ 3 ∷ []) ≡ driven_of 10 (Not 3)
+onto-a-pinch : run (2 ∷ 1 ∷ 3 ∷ 3 ∷ []) ≡ driven_of 10 (Some 3)
 unfolding bounded-opened move_cost follow_cost drive
 onto-a-pinch = refl

@@ -1,10 +1,9 @@
 // The replay of a cart's log: its records one by one, the cost driven, the faults, and whether the log is cheapest.
 #![tactic(auto)]
 
-ghost use Rattle.std.specs.Prelude.{◌≡◌, ◌*◌, ◌<◌, ◌≤◌, eqb, length};
-ghost use Rattle.basics.specs.Bounded.{pick};
-ghost use Rattle.floor.specs.Floor.{floor_of, vertices};
-ghost use Rattle.floor.specs.Known.{Sized};
+ghost use Rattle.std.specs.Prelude.{◌≡◌, ◌*◌, ◌<◌, ◌≤◌, length};
+ghost use Rattle.floor.specs.Floor.{vertices};
+ghost use Rattle.floor.specs.Plan.{floor_on};
 ghost use Rattle.moves.specs.Steps.{far_end_at};
 ghost use Rattle.moves.specs.Table.{Short, OnFloor};
 ghost use Rattle.grid.specs.Grid.{floor_graph};
@@ -17,58 +16,35 @@ ghost use Rattle.replay.specs.Replay.{
   replay_slices_of,
   log_shape,
   replay_shape,
+  replay_number,
+  Replays,
 };
-ghost use Rattle.replay.specs.Replay.{Replays, replay_number, replay_read, replay_cost, unfollowed_number};
-ghost use Rattle.replay.specs.Replay.{replay_unfollowed, replay_bad, replay_cheapest};
-ghost use Rattle.replay.specs.Known.{leg_of, Drivable, before, after_stop, Taking, LogRead, faultless_in};
-ghost use Rattle.replay.specs.Known.{answer_in, Replayable, Judged, ReplaysLog};
+ghost use Rattle.replay.specs.Known.{Drivable, before, first_with, after_stop, Taking, LogRead, sound_ends, answer_in};
+ghost use Rattle.replay.specs.Known.{Replayable, Judged, ReplaysLog};
 
-use floor::{Refusal, Shape, Vertex};
-use grid::JobShape;
-use logs::{LogCursor, LogStep};
-use moves::{Directions, Move, Step};
+use floor::{FloorPlan, Refusal, Vertex};
+use logs::LogCursor;
+use moves::{Directions, Move};
 
-// Every record can follow the one before; or the number of the first that cannot.
+// What is answered of a log: how many records were read, the cost driven, the number of the first record that cannot
+// follow, that of the bad record that ended the reading, and whether the log is cheapest.
 #[derive(Clone, Copy)]
-pub enum Followed {
-    Throughout,
-    Not(usize),
-}
-
-// What is answered of a log: the number of records read, the cost driven, the first record that cannot follow, and
-// whether the log is cheapest.
-#[derive(Clone, Copy)]
-pub struct Drive {
+pub struct Replayed {
     pub read: usize,
     pub cost: u32,
-    pub followed: Followed,
+    pub unfollowed: Option<usize>,
+    pub bad: Option<usize>,
     pub cheapest: bool,
 }
 
-// The answer: a log read to its end; a log with a bad record, and the number of that record; or a refusal.
-#[derive(Clone, Copy)]
-pub enum Replayed {
-    Whole(Drive),
-    Broken(usize, Drive),
-    Refused(Refusal),
-}
-
-// The cost at which a record follows the one before, or shut where it cannot follow.
-#[derive(Clone, Copy)]
-enum Leg {
-    At(u32),
-    Shut,
-}
-
-// What was driven by the records read so far, and the vertices of the first and the last of them, 0 where none was
-// read.
+// What was driven by the records read so far: how many, their cost, the number of the first that cannot follow, and the
+// vertices of the first and the last of them.
 #[derive(Clone, Copy)]
 struct Progress {
     read: usize,
     cost: u32,
-    followed: Followed,
-    first: usize,
-    last: usize,
+    unfollowed: Option<usize>,
+    ends: Option<(Vertex, Vertex)>,
 }
 
 // What was driven by the whole log, and whether a bad record ended the reading.
@@ -79,84 +55,12 @@ struct Reading {
 }
 
 // The number of an answer (rule 6.1).
-pub fn replay_number(r: Replayed) -> u8
+pub fn replay_number(r: Result<Replayed, Refusal>) -> u8
     ensures { result ≡ replay_number r }
 {
     match r {
-        Replayed::Whole(_) => 0,
-        Replayed::Broken(_, _) => floor::refusal_number(Refusal::BadLogRecord),
-        Replayed::Refused(x) => floor::refusal_number(x),
-    }
-}
-
-// The number of records read; 0 on a refusal.
-pub fn replay_read(r: Replayed) -> usize
-    ensures { result ≡ replay_read r }
-{
-    match r {
-        Replayed::Whole(d) => d.read,
-        Replayed::Broken(_, d) => d.read,
-        Replayed::Refused(_) => 0,
-    }
-}
-
-// The cost driven; 0 on a refusal.
-pub fn replay_cost(r: Replayed) -> u32
-    ensures { result ≡ replay_cost r }
-{
-    match r {
-        Replayed::Whole(d) => d.cost,
-        Replayed::Broken(_, d) => d.cost,
-        Replayed::Refused(_) => 0,
-    }
-}
-
-// The number of the first record that cannot follow; 0 where there is none.
-fn unfollowed_number(f: Followed) -> usize
-    ensures { result ≡ unfollowed_number f }
-{
-    match f {
-        Followed::Throughout => 0,
-        Followed::Not(k) => k,
-    }
-}
-
-// The number of the first record that cannot follow; 0 where there is none, and on a refusal.
-pub fn replay_unfollowed(r: Replayed) -> usize
-    ensures { result ≡ replay_unfollowed r }
-{
-    match r {
-        Replayed::Whole(d) => {
-            let f = d.followed;
-            unfollowed_number(f)
-        }
-        Replayed::Broken(_, d) => {
-            let f = d.followed;
-            unfollowed_number(f)
-        }
-        Replayed::Refused(_) => 0,
-    }
-}
-
-// The number of the bad record; 0 where there is none, and on a refusal.
-pub fn replay_bad(r: Replayed) -> usize
-    ensures { result ≡ replay_bad r }
-{
-    match r {
-        Replayed::Whole(_) => 0,
-        Replayed::Broken(k, _) => k,
-        Replayed::Refused(_) => 0,
-    }
-}
-
-// Whether the log is cheapest.
-pub fn replay_cheapest(r: Replayed) -> bool
-    ensures { result ≡ replay_cheapest r }
-{
-    match r {
-        Replayed::Whole(d) => d.cheapest,
-        Replayed::Broken(_, d) => d.cheapest,
-        Replayed::Refused(_) => false,
+        Ok(d) if d.bad.is_some() => u8::from(Refusal::BadLogRecord),
+        _ => floor::answer_number(r),
     }
 }
 
@@ -165,249 +69,216 @@ fn leads_to(w: usize, h: usize, x: usize, y: usize, m: Move, v: Vertex) -> bool
     requires { OnFloor w h x y × Short m }
     ensures { result ≡ goes_to (far_end_at w h m x y) v.0 }
 {
-    let Step::To(t) = moves::step_from(w, h, x, y, m.dx, m.dy) else {
-        return false;
-    };
-    t.0 == v.0
+    moves::step_from(w, h, x, y, m.dx, m.dy) == Some(v)
 }
 
-// The cost of the open move from u to v. Where the two see each other, it is the move that leads from u to v.
-fn move_cost(w: usize, h: usize, map: &[u8], dirs: Directions, u: Vertex, v: Vertex) -> Leg
-    requires { Drivable w h map.now dirs × (u.0 < vertices w h) × (v.0 < vertices w h) }
-    ensures { result ≡ leg_of (move_cost (floor_graph (floor_of w h map.now) dirs) u.0 v.0) }
+// The cost of the open move from u to v, if there is one. Where the two see each other, it is the move that leads from
+// u to v.
+fn move_cost(floor: FloorPlan<'_>, dirs: Directions, u: Vertex, v: Vertex) -> Option<u32>
+    requires { Drivable floor.w floor.h floor.map.now dirs × (u.0 < vertices floor.w floor.h)
+        × (v.0 < vertices floor.w floor.h) }
+    ensures { result ≡ move_cost (floor_graph (floor_on floor.entry) dirs) u.0 v.0 }
 {
-    if !sight::in_sight(w, h, map, u, v) {
-        return Leg::Shut;
+    if !sight::in_sight(floor, u, v) {
+        return None;
     }
-    let x = floor::column_of(w, u);
-    let y = floor::row_of(w, h, u);
-    let count = dirs.count;
-    let mut m: usize = 0;
-    while m < count {
+    let x = floor::column_of(floor.w, u);
+    let y = floor::row_of(floor.w, floor.h, u);
+    for m in 0..dirs.count {
         let step = moves::move_at(dirs, m);
-        if leads_to(w, h, x, y, step, v) {
-            return Leg::At(step.cost);
+        if leads_to(floor.w, floor.h, x, y, step, v) {
+            return Some(step.cost);
         }
-        m += 1;
     }
-    Leg::Shut
+    None
 }
 
 // Whether the vertex v is a pinch.
-fn on_pinch(w: usize, h: usize, map: &[u8], v: Vertex) -> bool
-    requires { Sized w h map.now × (v.0 < vertices w h) }
-    ensures { result ≡ pinch_at (floor_of w h map.now) v.0 }
+#[tactic(auto, unfolding(crate::specs::Replay::pinch_at))]
+fn on_pinch(floor: FloorPlan<'_>, v: Vertex) -> bool
+    requires { v.0 < vertices floor.w floor.h }
+    ensures { result ≡ pinch_at (floor_on floor.entry) v.0 }
 {
-    sight::is_pinch(w, h, map, floor::column_of(w, v), floor::row_of(w, h, v))
+    sight::is_pinch(
+        floor,
+        floor::column_of(floor.w, v),
+        floor::row_of(floor.w, floor.h, v),
+    )
 }
 
-// The cost at which a record of vertex v follows those read so far.
-fn follow_cost(w: usize, h: usize, map: &[u8], dirs: Directions, s: Progress, v: Vertex) -> Leg
-    requires { Taking w h map.now dirs s v.0 }
-    ensures { result ≡ leg_of (follow_cost (floor_graph (floor_of w h map.now) dirs)
-        (pinch_at (floor_of w h map.now)) (before s) v.0) }
+// The cost at which a record of vertex v follows those read so far, if it can.
+#[tactic(auto, unfolding(crate::specs::Replay::follow_cost))]
+fn follow_cost(floor: FloorPlan<'_>, dirs: Directions, s: Progress, v: Vertex) -> Option<u32>
+    requires { Taking floor.w floor.h floor.map.now dirs s v.0 }
+    ensures { result ≡ follow_cost (floor_graph (floor_on floor.entry) dirs) (pinch_at (floor_on floor.entry))
+        (before s) v.0 }
 {
-    if on_pinch(w, h, map, v) {
-        return Leg::Shut;
+    if on_pinch(floor, v) {
+        return None;
     }
-    if s.read == 0 {
-        return Leg::At(0);
+    match s.ends {
+        Some((_, last)) if last != v => move_cost(floor, dirs, last, v),
+        _ => Some(0),
     }
-    if s.last == v.0 {
-        return Leg::At(0);
-    }
-    move_cost(w, h, map, dirs, Vertex(s.last), v)
 }
 
 // The vertex of the first record, after one of vertex v is read.
-fn first_with(s: Progress, v: Vertex) -> usize
-    ensures { result ≡ pick (eqb s.read 0) v.0 s.first }
+fn first_with(s: Progress, v: Vertex) -> Vertex
+    ensures { result ≡ first_with s.ends v.0 }
 {
-    if s.read == 0 {
-        return v.0;
+    match s.ends {
+        Some((first, _)) => first,
+        None => v,
     }
-    s.first
 }
 
 // The progress after one more record, of vertex v. From the first record that cannot follow on, the cost stops growing.
-fn take_stop(w: usize, h: usize, map: &[u8], dirs: Directions, s: Progress, v: Vertex) -> Progress
-    requires { Taking w h map.now dirs s v.0 }
-    ensures { result ≡ after_stop (floor_graph (floor_of w h map.now) dirs)
-        (pinch_at (floor_of w h map.now)) s v.0 }
+#[tactic(auto, unfolding(crate::specs::Known::after_stop))]
+fn take_stop(floor: FloorPlan<'_>, dirs: Directions, s: Progress, v: Vertex) -> Progress
+    requires { Taking floor.w floor.h floor.map.now dirs s v.0 }
+    ensures { result ≡ after_stop (floor_graph (floor_on floor.entry) dirs) (pinch_at (floor_on floor.entry)) s v.0 }
 {
-    let read = s.read + 1;
-    let cost = s.cost;
-    let first = first_with(s, v);
-    let last = v.0;
-    let followed = s.followed;
-    let Followed::Throughout = followed else {
-        return Progress {
-            read,
-            cost,
-            followed,
-            first,
-            last,
-        };
+    let next = Progress {
+        read: s.read + 1,
+        ends: Some((first_with(s, v), v)),
+        ..s
     };
-    match follow_cost(w, h, map, dirs, s, v) {
-        Leg::Shut => Progress {
-            read,
-            cost,
-            followed: Followed::Not(read),
-            first,
-            last,
+    if s.unfollowed.is_some() {
+        return next;
+    }
+    match follow_cost(floor, dirs, s, v) {
+        Some(x) => Progress {
+            cost: s.cost + x,
+            ..next
         },
-        Leg::At(x) => Progress {
-            read,
-            cost: cost + x,
-            followed: Followed::Throughout,
-            first,
-            last,
+        None => Progress {
+            unfollowed: Some(next.read),
+            ..next
         },
     }
 }
 
 // Reads the log from its start to its end or to a bad record.
-fn read_log(w: usize, h: usize, map: &[u8], dirs: Directions, log: &[u8]) -> Reading
-    requires { Drivable w h map.now dirs × (length log.now ≤ 16384) }
-    ensures { LogRead w h map.now dirs log.now result }
+fn read_log(floor: FloorPlan<'_>, dirs: Directions, log: &[u8]) -> Reading
+    requires { Drivable floor.w floor.h floor.map.now dirs × (length log.now ≤ 16384) }
+    ensures { LogRead floor.entry.w floor.entry.h floor.entry.map.now dirs log.now result }
 {
-    let count = floor::vertex_count(w, h);
+    let count = floor::vertex_count(floor.w, floor.h);
     let mut drive = Progress {
         read: 0,
         cost: 0,
-        followed: Followed::Throughout,
-        first: 0,
-        last: 0,
+        unfollowed: None,
+        ends: None,
     };
     let mut cursor = LogCursor::new();
     loop {
         match cursor.step(log, count) {
-            LogStep::End => {
+            Ok(Some((v, next))) => {
+                drive = take_stop(floor, dirs, drive, Vertex(v));
+                cursor = next;
+            }
+            Ok(None) => {
                 return Reading {
                     drive,
                     broken: false,
                 };
             }
-            LogStep::Bad => {
+            Err(_) => {
                 return Reading {
                     drive,
                     broken: true,
                 };
             }
-            LogStep::Stop(v, next) => {
-                drive = take_stop(w, h, map, dirs, drive, Vertex(v));
-                cursor = next;
-            }
         }
     }
 }
 
-// Whether a log has a record and neither fault.
-fn is_faultless(r: Reading) -> bool
-    ensures { result ≡ faultless_in r }
+// The first and the last stop of a log with a record and neither fault.
+fn sound_ends(r: Reading) -> Option<(Vertex, Vertex)>
+    ensures { result ≡ sound_ends r }
 {
-    let d = r.drive;
-    if d.read < 1 {
-        return false;
-    }
-    if r.broken {
-        return false;
-    }
-    let followed = d.followed;
-    match followed {
-        Followed::Throughout => true,
-        Followed::Not(_) => false,
+    if r.broken || r.drive.unfollowed.is_some() {
+        None
+    } else {
+        r.drive.ends
     }
 }
 
-// Whether the log is cheapest. Fills the cost slice with the true costs from the first record where the log is
-// faultless, and else with 0, and the working slice with 0.
+// Whether the log is cheapest. Fills the cost slice with the true costs from the first record where the log has a
+// record and neither fault, and else with 0, and the working slice with 0.
 fn judge(
-    w: usize,
-    h: usize,
-    map: &[u8],
+    floor: FloorPlan<'_>,
     dirs: Directions,
     log: &[u8],
     r: Reading,
     costs: &mut [u32],
     work: &mut [u32],
 ) -> bool
-    requires replayable { Replayable w h map.now dirs log.now costs.old work.old }
-    requires log_read { LogRead w h map.now dirs log.now r }
-    ensures { Judged (floor_graph (floor_of w h map.now) dirs)
-        (pinch_at (floor_of w h map.now)) (log_of log.now (vertices w h)) result
-        costs.new work.new }
+    requires replayable { Replayable floor.w floor.h floor.map.now dirs log.now costs.old work.old }
+    requires log_read { LogRead floor.w floor.h floor.map.now dirs log.now r }
+    ensures { Judged (floor_graph (floor_on floor.entry) dirs) (pinch_at (floor_on floor.entry))
+        (log_of log.now (vertices floor.entry.w floor.entry.h)) result costs.new work.new }
 {
-    if !is_faultless(r) {
-        basics::fill_u32(costs, 0);
-        basics::fill_u32(work, 0);
+    let Some((first, last)) = sound_ends(r) else {
+        costs.fill(0);
+        work.fill(0);
         return false;
-    }
-    let d = r.drive;
-    let last = d.last;
-    distances::costs_from(w, h, map, dirs, Vertex(d.first), costs, work);
-    costs[last] == d.cost
+    };
+    distances::costs_from(floor, dirs, first, costs, work);
+    costs[last.0] == r.drive.cost
 }
 
 // The answer for a reading; `cheapest` says whether its log is cheapest.
+#[tactic(auto, unfolding(crate::specs::Known::answer_in))]
 fn answer_with(r: Reading, cheapest: bool) -> Replayed
     requires { r.drive.read ≤ 4096 }
     ensures { result ≡ answer_in r cheapest }
 {
     let d = r.drive;
-    let followed = d.followed;
-    let drive = Drive {
+    Replayed {
         read: d.read,
         cost: d.cost,
-        followed,
+        unfollowed: d.unfollowed,
+        bad: if r.broken { Some(d.read + 1) } else { None },
         cheapest,
-    };
-    if r.broken {
-        return Replayed::Broken(d.read + 1, drive);
     }
-    Replayed::Whole(drive)
 }
 
 // The replay of a log where floor, neighbourhood, log and slices have a good shape.
 fn replay_log(
-    w: usize,
-    h: usize,
-    map: &[u8],
+    floor: FloorPlan<'_>,
     dirs: Directions,
     log: &[u8],
     costs: &mut [u32],
     work: &mut [u32],
 ) -> Replayed
-    requires { Replayable w h map.now dirs log.now costs.old work.old }
-    ensures { ReplaysLog (floor_graph (floor_of w h map.now) dirs)
-        (pinch_at (floor_of w h map.now)) (log_of log.now (vertices w h)) result
-        costs.new work.new }
+    requires { Replayable floor.w floor.h floor.map.now dirs log.now costs.old work.old }
+    ensures { ReplaysLog (floor_graph (floor_on floor.entry) dirs) (pinch_at (floor_on floor.entry))
+        (log_of log.now (vertices floor.entry.w floor.entry.h)) result costs.new work.new }
 {
-    let r = read_log(w, h, map, dirs, log);
-    let cheapest = judge(w, h, map, dirs, log, r, costs, work);
+    let r = read_log(floor, dirs, log);
+    let cheapest = judge(floor, dirs, log, r, costs, work);
     answer_with(r, cheapest)
 }
 
 // Refusals 16 and then 6, for a log of `log` bytes and slices of `costs` and `work` places on a floor of v vertices.
-fn log_shape(v: usize, log: usize, costs: usize, work: usize) -> Shape
+#[tactic(auto, unfolding(crate::specs::Replay::log_shape))]
+fn log_shape(v: usize, log: usize, costs: usize, work: usize) -> Result<(), Refusal>
     requires { v ≤ 16384 }
     ensures { result ≡ log_shape v log costs work }
 {
     if 16384 < log {
-        return Shape::Refused(Refusal::LogLength);
+        return Err(Refusal::LogLength);
     }
-    if costs != v {
-        return Shape::Refused(Refusal::SliceLength);
+    if costs != v || work != 4 * v {
+        return Err(Refusal::SliceLength);
     }
-    if work != 4 * v {
-        return Shape::Refused(Refusal::SliceLength);
-    }
-    Shape::Good
+    Ok(())
 }
 
 // The directions of the neighbourhood, or the first refusal of 1, 2, 3, 4, 16 and 6, for a log and slices of these
 // lengths.
+#[tactic(auto, unfolding(crate::specs::Replay::replay_shape))]
 fn replay_shape(
     w: usize,
     h: usize,
@@ -416,20 +287,19 @@ fn replay_shape(
     log: usize,
     costs: usize,
     work: usize,
-) -> JobShape
+) -> Result<Directions, Refusal>
     ensures { result ≡ replay_shape w h map.now nb log costs work }
 {
-    let known = grid::dirs_shape(w, h, map, nb);
-    let JobShape::Fit(dirs) = known else {
-        return known;
-    };
-    grid::or_refused(log_shape(floor::vertex_count(w, h), log, costs, work), dirs)
+    let dirs = grid::dirs_shape(w, h, map, nb)?;
+    log_shape(floor::vertex_count(w, h), log, costs, work)?;
+    Ok(dirs)
 }
 
 // The replay of a log. For every input it gives the answer and leaves the two lent slices as rules 12.9 and 6.4 say:
 // refusals 1, 2, 3, 4, 16 and 6 change nothing.
 //
 // Lent are a slice for the costs, of V places, and a working slice of 4 * V.
+#[tactic(auto, unfolding(crate::specs::Replay::replay_answer, crate::specs::Replay::replay_left))]
 pub fn replay(
     w: usize,
     h: usize,
@@ -438,14 +308,11 @@ pub fn replay(
     log: &[u8],
     costs: &mut [u32],
     work: &mut [u32],
-) -> Replayed
+) -> Result<Replayed, Refusal>
     ensures { Replays w h map.now nb log.now
         (replay_slices_of costs.old work.old) result
         (replay_slices_of costs.new work.new) }
 {
-    let shape = replay_shape(w, h, map, nb, log.len(), costs.len(), work.len());
-    match shape {
-        JobShape::Refused(r) => Replayed::Refused(r),
-        JobShape::Fit(dirs) => replay_log(w, h, map, dirs, log, costs, work),
-    }
+    let dirs = replay_shape(w, h, map, nb, log.len(), costs.len(), work.len())?;
+    Ok(replay_log(FloorPlan { w, h, map }, dirs, log, costs, work))
 }

@@ -1,4 +1,3 @@
-pub mod Sizes
 pub mod Settling
 pub mod Sending
 pub mod Running

@@ -7,10 +7,8 @@
 --   jobs-small    == the cells that were stored are a small floor
 --   jobs-due      == past the map nothing is written, and the text from there on is due
 --   due-on        == while more is read, what is due stays so
---   first_step    == what the first step found stands at the start of the input
---   first-sure    == what the first step found is sure
 --   first-reached == stepping comes to the first cursor
---   sent-more, sent-last == what a turn leaves, by its answer
+--   sent-more     == what a turn that is not the last leaves
 use Prim.Native.Nat.{ℕ, ◌*◌, ◌≤◌, ◌<◌}
 use mathlib.Core.Path.{◌≡◌, sym, ap, ◌∙◌, subst}
 use mathlib.Core.Bool.{Bool}
@@ -20,26 +18,25 @@ use native.Mathlib.Nat.{mul-le-mul}
 use lib.ListN.{length, take, drop, length-take, length-drop}
 use lib.Seq.{length-take-le, take-append-le, drop-append-le}
 use Rattle.floor.specs.Floor.{map_length, stored_cells, vertices}
-use Rattle.records.specs.Format.{record_at, start_cursor, cells_of}
+use Rattle.records.specs.Format.{gives_map, record_at, start_cursor, cells_of}
 use Rattle.records.specs.Settled.{longest, Reached}
 use Rattle.records.specs.declared.stream.Cursor.{Cursor}
 use Rattle.records.specs.declared.stream.MapRecord.{MapRecord}
-use Rattle.records.specs.declared.stream.Record.{Record}
-use Rattle.records.specs.declared.stream.Record.TheVariants.{Map}
+use Rattle.std.specs.Prelude.{Result, Ok, Some}
 use Rattle.records.proofs.Moved.{map-step}
 use Rattle.records.proofs.Limit.{reached-first, reached-map}
 use Rattle.program_text.specs.Text.{program_text}
 use Rattle.program_text.specs.Contract.{SmallFloor, CellsIn, text_from}
 use Rattle.program_text.proofs.Cells.{map-small}
 use Rattle.program_text.proofs.Program.{program-map}
-use Rattle.route.specs.Sent.{Input, Sure, Left, Due, AllSent, Follows, SentTurn}
+use Rattle.route.specs.Sent.{Input, Sure, Left, Due, GoesOn, Follows, SentTurn}
 use Rattle.route.specs.Reads.{bytes_read, ReadFor}
 use Rattle.route.specs.declared.Reading.{Reading}
 use Rattle.route.specs.declared.Sent.{Sent}
-use Rattle.route.specs.declared.Sent.TheVariants.{More, Last}
+use Rattle.route.specs.declared.Cut.{Cut}
 use Rattle.route.proofs.Sending.{left-first}
 
-module _ (s : List ℕ) (m : MapRecord) (c : Cursor) (e : record_at s start_cursor ≡ Map m c) where
+module _ (s : List ℕ) (m : MapRecord) (c : Cursor) (e : record_at s start_cursor ≡ gives_map m c) where
   pub cells-lent : (map : List ℕ) → length map ≡ map_length (m.wide * m.high) → CellsIn s m map
   cells-lent map size =
       let f = map-step s start_cursor m c e in
@@ -105,21 +102,13 @@ due-on {input} {input'} {q} {r} x f short =
       few = x.few;
     }
 
--- The first step.
-pub first_step : (s : List ℕ) {c : Cursor} {r x : Record} → c ≡ start_cursor → r ≡ record_at s c → r ≡ x
-    → record_at s start_cursor ≡ x
-first_step s p q t = ap (record_at s) (sym p) ∙ sym q ∙ t
-
 pub first-reached : {c : Cursor} → c ≡ start_cursor → Reached c
 first-reached e = rw e reached-first
 
-pub first-sure : {p : List ℕ} {over : Bool} {c : Cursor} → c ≡ start_cursor → Sure p over c → Sure p over start_cursor
-first-sure {p} {over} e sure = subst (Sure p over) e sure
+module _ {p : List ℕ} {over : Bool} {w h : ℕ} {map : List ℕ} {c : Cursor} {r : Result Sent Cut} {x : Sent}
+    (t : SentTurn p over w h map c r) (e : r ≡ Ok x) where
+  gone-on : GoesOn p over w h map c x.written x.next
+  gone-on = subst (Follows p over w h map c) e t.follows
 
-module _ {p : List ℕ} {over : Bool} {w h : ℕ} {map : List ℕ} {c : Cursor} {r : Sent}
-    (t : SentTurn p over w h map c r) where
-  pub sent-more : {k : ℕ} {d : Cursor} → r ≡ More k d → (c.at < d.at) × Due p over w h map d k
-  sent-more e = subst (Follows p over w h map c) e t.follows
-
-  pub sent-last : {k : ℕ} → r ≡ Last k → AllSent p over k
-  sent-last e = subst (Follows p over w h map c) e t.follows
+  pub sent-more : {d : Cursor} → x.next ≡ Some d → (c.at < d.at) × Due p over w h map d x.written
+  sent-more q = subst (GoesOn p over w h map c x.written) q gone-on

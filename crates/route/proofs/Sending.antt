@@ -5,9 +5,7 @@
 --   left-stands       == the part stands at the place that it is written to
 --   next-rest         == what is left of a part stands at the place that it is written to
 --   left-all          == where nothing is left all is written
---   turn-next         == the text of a turn stands at the place that it is written to
---   turn_more         == past it the text from the turn's cursor on is due
---   turn_last         == past the last turn all is written
+--   turn-sent         == past the text of a turn the text from the turn's cursor on is due, or all is written
 --   bad-next, bad-all == the line of a bad record where the map is due is all of the text
 --   never-end, never-job == what stands where the map is due is a map or a bad record
 use Prim.Native.Nat.{ℕ, zero, suc, ◌+◌, ◌-◌, ◌≤◌, ◌<◌}
@@ -17,22 +15,20 @@ use mathlib.Core.List.{List, [], ◌∷◌, ◌++◌}
 use native.Mathlib.Omega.{arith}
 use lib.ListN.{length, take, drop, length-append, length-drop}
 use lib.Seq.{length-take-le, take_all, take-nil, take-append_seam, drop-append_seam, drop-drop}
-use Rattle.records.specs.Format.{record_at, start_cursor}
+use Rattle.records.specs.Format.{Step, gives_job, gives_end, gives_bad, record_at, start_cursor}
 use Rattle.records.specs.Lines.{bad_line}
 use Rattle.records.specs.Known.{Written}
 use Rattle.records.specs.declared.stream.Cursor.{Cursor}
 use Rattle.records.specs.declared.stream.JobRecord.{JobRecord}
-use Rattle.records.specs.declared.stream.Record.{Record}
-use Rattle.records.specs.declared.stream.Record.TheVariants.{Job, End, Bad}
+use Rattle.std.specs.Prelude.{Option, Some, None}
 use Rattle.records.proofs.Moved.{job-step}
 use Rattle.records.proofs.Found.{Finding, found_map, no-map, at-end, found-job, no-job, finding}
 use Rattle.program_text.specs.Text.{program_text}
-use Rattle.program_text.specs.Contract.{text_from, turn_text, bytes_of, Moves, TurnWritten}
+use Rattle.program_text.specs.Contract.{text_from, and_from, Moves, TurnWritten}
 use Rattle.program_text.specs.declared.Turn.{Turn}
-use Rattle.program_text.specs.declared.Turn.TheVariants.{More as MoreTurn, Last as LastTurn}
 use Rattle.program_text.proofs.Start.{written-take, written-size}
 use Rattle.program_text.proofs.Program.{program-bad}
-use Rattle.route.specs.Sent.{Input, Sure, Left, Next, turn_room, Due, AllSent}
+use Rattle.route.specs.Sent.{Input, Sure, Left, Next, turn_room, Due, AllSent, GoesOn}
 
 -- ---- a text and its parts
 
@@ -80,44 +76,37 @@ append-none [] = refl
 append-none (x ∷ l) = ap (λ m. x ∷ m) (append-none l)
 
 -- The text from the cursor that a turn hands back on; none past the last.
-after : Turn → (Cursor → List ℕ) → List ℕ
-after (MoreTurn n d) rest = rest d
-after (LastTurn n) rest = []
+after : Option Cursor → (Cursor → List ℕ) → List ℕ
+after (Some d) rest = rest d
+after None rest = []
 
-turn-parts : (r : Turn) (out : List ℕ) (rest : Cursor → List ℕ)
-    → turn_text r out rest ≡ take (bytes_of r) out ++ after r rest
+turn-parts : (o : Option Cursor) (l : List ℕ) (rest : Cursor → List ℕ) → and_from l o rest ≡ l ++ after o rest
 unfolding after
-turn-parts (MoreTurn n d) out rest = refl
-turn-parts (LastTurn n) out rest = append-none (take n out)
+turn-parts (Some d) l rest = refl
+turn-parts None l rest = append-none l
 
 module _ {p : List ℕ} {over : Bool} {w h : ℕ} {map : List ℕ} {c : Cursor} {k : ℕ} {r : Turn} {out : List ℕ} {n : ℕ}
     (due : Due p over w h map c k) (sure : Sure p over c) (told : TurnWritten p w h map c r out)
-    (e : n ≡ bytes_of r) where
-  left-turn : (s : List ℕ) → Input p over s → Left (program_text s) k (take n out ++ after r (text_from s w h map))
+    (e : n ≡ r.bytes) where
+  left-turn : (s : List ℕ) → Input p over s → Left (program_text s) k (take n out ++ after r.next (text_from s w h map))
   left-turn s i =
-      let same : text_from s w h map c ≡ take n out ++ after r (text_from s w h map) =
-      sym (told.text s (sure.same s i)) ∙ turn-parts r out (text_from s w h map)
-      ∙ ap (λ m. take m out ++ after r (text_from s w h map)) (sym e) in
+      let same : text_from s w h map c ≡ take n out ++ after r.next (text_from s w h map) =
+      sym (told.text s (sure.same s i)) ∙ turn-parts r.next (take r.bytes out) (text_from s w h map)
+      ∙ ap (λ m. take m out ++ after r.next (text_from s w h map)) (sym e) in
       subst (λ z. Left (program_text s) k z) same (due.left s i)
 
   part-size : length (take n out) ≡ n
   part-size = length-take-le n out (omega (arith, told.fits))
 
-  past : (s : List ℕ) → Input p over s → Left (program_text s) (k + n) (after r (text_from s w h map))
+  past : (s : List ℕ) → Input p over s → Left (program_text s) (k + n) (after r.next (text_from s w h map))
   past s i =
-      subst (λ m. Left (program_text s) (k + m) (after r (text_from s w h map))) part-size
-      (left-more (take n out) (after r (text_from s w h map)) (left-turn s i))
+      subst (λ m. Left (program_text s) (k + m) (after r.next (text_from s w h map))) part-size
+      (left-more (take n out) (after r.next (text_from s w h map)) (left-turn s i))
 
   module _ (room : length out ≤ turn_room) where
-    pub turn-next : Next p over k (take n out)
-    turn-next = record {
-      stands = λ s i. left-stands (take n out) (after r (text_from s w h map)) (left-turn s i);
-      few = omega (arith, part-size, due.few, due.place, due.short, told.fits);
-    }
-
-    pub turn_more : {m : ℕ} {d : Cursor} → r ≡ MoreTurn m d → (c.at < d.at) × Due p over w h map d (k + n)
+    turn_more : {d : Cursor} → r.next ≡ Some d → (c.at < d.at) × Due p over w h map d (k + n)
     unfolding after
-    turn_more {m} {d} x =
+    turn_more {d} x =
         let g = subst (Moves p c) x told.on.moved in (
           g.0,
           record {
@@ -130,16 +119,23 @@ module _ {p : List ℕ} {over : Bool} {w h : ℕ} {map : List ℕ} {c : Cursor} 
           },
         )
 
-  pub turn_last : {m : ℕ} → r ≡ LastTurn m → AllSent p over (k + n)
-  unfolding after
-  turn_last x = record {
-    all = λ s i. left-all (subst (λ z. Left (program_text s) (k + n) (after z (text_from s w h map))) x (past s i));
-  }
+    turn_last : r.next ≡ None → AllSent p over (k + n)
+    unfolding after
+    turn_last x = record {
+      all = λ s i. left-all (subst (λ z. Left (program_text s) (k + n) (after z (text_from s w h map))) x (past s i));
+    }
+
+    pub turn-sent : GoesOn p over w h map c (k + n) r.next
+    turn-sent = cases r.next refl
+      where
+        cases : (o : Option Cursor) → r.next ≡ o → GoesOn p over w h map c (k + n) o
+        cases (Some d) x = turn_more x
+        cases None x = turn_last x
 
 -- ---- a bad record where the map is due
 
 module _ {p : List ℕ} {over : Bool} {k : ℕ} {line line' : List ℕ} {n : ℕ} (sure : Sure p over start_cursor)
-    (bad : record_at p start_cursor ≡ Bad k) (t : Written line 0 (bad_line k) line' n) where
+    (bad : record_at p start_cursor ≡ gives_bad k) (t : Written line 0 (bad_line k) line' n) where
   bad-text : (s : List ℕ) → Input p over s → program_text s ≡ take n line'
   bad-text s i = program-bad s k (sure.same s i ∙ bad) ∙ sym (written-take t)
 
@@ -156,17 +152,17 @@ module _ {p : List ℕ} {over : Bool} {k : ℕ} {line line' : List ℕ} {n : ℕ
   pub bad-all : AllSent p over n
   bad-all = record { all = λ s i. sym (ap length (bad-text s i) ∙ bad-size) }
 
-pub never-end : {P : Type 0} (s : List ℕ) → record_at s start_cursor ≡ End → P
+pub never-end : {P : Type 0} (s : List ℕ) → record_at s start_cursor ≡ gives_end → P
 never-end {P} s e = cases (record_at s start_cursor) (finding s start_cursor) e
   where
-    cases : (r : Record) → Finding s start_cursor r → r ≡ End → P
+    cases : (r : Step) → Finding s start_cursor r → r ≡ gives_end → P
     cases _ (found_map z g) x = let q : ◌≡◌ {A = ℕ} 0 1 = cc in absurd (omega arith)
     cases _ (no-map z g) x = let q : ◌≡◌ {A = ℕ} 0 1 = cc in absurd (omega arith)
     cases _ (at-end a l) x = absurd (omega arith)
     cases _ (found-job a b g) x = absurd (omega arith)
     cases _ (no-job a l g) x = absurd (omega arith)
 
-pub never-job : {P : Type 0} (s : List ℕ) {j : JobRecord} {d : Cursor} → record_at s start_cursor ≡ Job j d → P
+pub never-job : {P : Type 0} (s : List ℕ) {j : JobRecord} {d : Cursor} → record_at s start_cursor ≡ gives_job j d → P
 never-job s {j} {d} e =
     let f = job-step s start_cursor j d e in
     absurd (omega (arith, f.number, f.number_pos))

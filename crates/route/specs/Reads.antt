@@ -10,15 +10,14 @@
 --                         holds all that can matter
 --   BadRead i r k      == what stands first is a bad record at place k, and that is sure
 --   Ended i r          == at the end of a run all of the text is written, or a part could not be written
-use Rattle.std.specs.Prelude.{ℕ, ◌≤◌, ◌<◌, ◌≡◌, false, List, length, take}
-use Rattle.records.specs.Format.{record_at, start_cursor}
+use Rattle.std.specs.Prelude.{ℕ, ◌≤◌, ◌<◌, ◌≡◌, false, List, length, take, Result, Ok, Err}
+use Rattle.records.specs.Format.{gives_map, gives_bad, record_at, start_cursor}
 use Rattle.records.specs.Settled.{longest}
 use Rattle.records.specs.declared.stream.Cursor.{Cursor}
 use Rattle.records.specs.declared.stream.MapRecord.{MapRecord}
-use Rattle.records.specs.declared.stream.Record.TheVariants.{Map, Bad}
 use Rattle.route.specs.declared.Reading.{Reading}
-use Rattle.route.specs.declared.Ending.{Ending}
-use Rattle.route.specs.declared.Ending.TheVariants.{Whole, Broken}
+use Rattle.route.specs.declared.Whole.{Whole}
+use Rattle.route.specs.declared.Cut.{Cut}
 use Rattle.route.specs.Sent.{Input, Sure, AllSent}
 
 abbrev pub bytes_read : List ℕ → Reading → List ℕ
@@ -39,17 +38,17 @@ pub record ReadFor (input : List ℕ) (q : Reading) (input' : List ℕ) (r : Rea
 pub record MapRead (input : List ℕ) (r : Reading) (m : MapRecord) (c : Cursor) : Type 0 where
   pub room : length input ≡ longest
   pub within : r.count ≤ length input
-  pub found : record_at (bytes_read input r) start_cursor ≡ Map m c
+  pub found : record_at (bytes_read input r) start_cursor ≡ gives_map m c
   pub sure : Sure (bytes_read input r) r.over start_cursor
 
 pub record BadRead (input : List ℕ) (r : Reading) (k : ℕ) : Type 0 where
   pub within : r.count ≤ length input
-  pub found : record_at (bytes_read input r) start_cursor ≡ Bad k
+  pub found : record_at (bytes_read input r) start_cursor ≡ gives_bad k
   pub sure : Sure (bytes_read input r) r.over start_cursor
 
-abbrev pub EndsBy : List ℕ → Ending → Type 0
-EndsBy input (Whole r k) = AllSent (bytes_read input r) r.over k
-EndsBy input Broken = 0 ≤ 0
+abbrev pub EndsBy : List ℕ → Result Whole Cut → Type 0
+EndsBy input (Ok t) = AllSent (bytes_read input t.reading) t.reading.over t.written
+EndsBy input (Err e) = 0 ≤ 0
 
-pub record Ended (input : List ℕ) (r : Ending) : Type 0 where
+pub record Ended (input : List ℕ) (r : Result Whole Cut) : Type 0 where
   pub ends : EndsBy input r

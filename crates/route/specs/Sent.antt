@@ -9,16 +9,19 @@
 --   AllSent p over k       == the program's text has k bytes, whatever the whole input is
 --   turn_room              == the bytes that the text of one turn may take
 --   most_sent              == no more bytes are written than that: turn_room * (longest + 1)
+--   GoesOn .. c k o        == k bytes are written, and more is due from the cursor o on, which is later than c; all is
+--                             written where there is none
 --   SentTurn .. c r        == after the turn at the cursor c: more is due from a later cursor on, all is written, or a
 --                             part could not be written
 use Rattle.std.specs.Prelude.{ℕ, ◌+◌, ◌*◌, ◌≤◌, ◌<◌, ◌≡◌, Bool, true, List, [], ◌++◌, length, take, drop}
+use Rattle.std.specs.Prelude.{Result, Ok, Err, Option, Some, None}
 use Rattle.records.specs.Format.{record_at}
 use Rattle.records.specs.Settled.{longest, Reached}
 use Rattle.records.specs.declared.stream.Cursor.{Cursor}
 use Rattle.program_text.specs.Text.{program_text}
 use Rattle.program_text.specs.Contract.{text_from}
 use Rattle.route.specs.declared.Sent.{Sent}
-use Rattle.route.specs.declared.Sent.TheVariants.{More, Last, Cut}
+use Rattle.route.specs.declared.Cut.{Cut}
 
 pub record Input (p : List ℕ) (over : Bool) (s : List ℕ) : Type 0 where
   pub rest : List ℕ
@@ -53,10 +56,13 @@ pub record Due (p : List ℕ) (over : Bool) (w h : ℕ) (map : List ℕ) (c : Cu
 pub record AllSent (p : List ℕ) (over : Bool) (k : ℕ) : Type 0 where
   pub all : (s : List ℕ) → Input p over s → k ≡ length (program_text s)
 
-abbrev pub Follows : List ℕ → Bool → ℕ → ℕ → List ℕ → Cursor → Sent → Type 0
-Follows p over w h map c (More k d) = (c.at < d.at) × Due p over w h map d k
-Follows p over w h map c (Last k) = AllSent p over k
-Follows p over w h map c Cut = 0 ≤ 0
+abbrev pub GoesOn : List ℕ → Bool → ℕ → ℕ → List ℕ → Cursor → ℕ → Option Cursor → Type 0
+GoesOn p over w h map c k (Some d) = (c.at < d.at) × Due p over w h map d k
+GoesOn p over w h map c k None = AllSent p over k
 
-pub record SentTurn (p : List ℕ) (over : Bool) (w h : ℕ) (map : List ℕ) (c : Cursor) (r : Sent) : Type 0 where
+abbrev pub Follows : List ℕ → Bool → ℕ → ℕ → List ℕ → Cursor → Result Sent Cut → Type 0
+Follows p over w h map c (Ok t) = GoesOn p over w h map c t.written t.next
+Follows p over w h map c (Err e) = 0 ≤ 0
+
+pub record SentTurn (p : List ℕ) (over : Bool) (w h : ℕ) (map : List ℕ) (c : Cursor) (r : Result Sent Cut) : Type 0 where
   pub follows : Follows p over w h map c r

@@ -1,7 +1,7 @@
 // The program: reads a stream of records from standard input, plans the jobs on its floor and writes their lines
 // to standard output, each job's as soon as its record is read.
 //
-// What it writes is `program_text` of the crate jobs. The bytes read so far, the number of bytes written so far and the
+// What it writes is `program_text` of the crate of that name. The bytes read so far, the number of bytes written so far and the
 // cursor go from function to function. `write_some`, the only function that writes, asks that its bytes are what stands
 // at that place of the text, whatever the rest of the input is, and a run ends with all of the text written. So nothing
 // is written before it is sure, and `Cursor::is_settled` says where it is: the program reads on only where some byte to
@@ -19,11 +19,12 @@ ghost use Rattle.records.specs.Settled.{longest, Reached};
 ghost use Rattle.route.specs.Sent.{Sure, Next, Due, turn_room, SentTurn};
 ghost use Rattle.route.specs.Reads.{ReadMore, ReadFor, MapRead, BadRead, Ended};
 
+use floor::FloorPlan;
 use program_text::Turn;
 use records::lines;
 use records::stream::{Cursor, MapRecord, Record};
-use std::io::{Error, ErrorKind, Read, Result, Stdin, Stdout, Write};
-use std::thread;
+use std::io::{Error, ErrorKind, Read, Stdin, Stdout, Write};
+use std::{io, thread};
 
 // How often a read or a write is tried again before it counts as failed: for years, at a microsecond each.
 const MOST_TRIES: usize = 1000000000000000;
@@ -36,21 +37,31 @@ struct Reading {
     over: bool,
 }
 
-// After a turn: so many bytes of the program's text are written, and where it goes on, or that they are all; or a part
-// could not be written, which ends the run.
+// How far the program is: the bytes read of the input, whether they are all of it, and how many bytes of the program's
+// text are written.
 #[derive(Clone, Copy)]
-enum Sent {
-    More(usize, Cursor),
-    Last(usize),
-    Cut,
+struct Spot<'a> {
+    s: &'a [u8],
+    over: bool,
+    written: usize,
 }
 
-// The end of a run: what is read of the input, and all of the text is written, so many bytes; or a part of it could
-// not be written.
+// A part of the text could not be written, which ends the run.
 #[derive(Clone, Copy)]
-enum Ending {
-    Whole(Reading, usize),
-    Broken,
+struct Cut;
+
+// After a turn: so many bytes of the program's text are written, and where it goes on; nowhere where they are all.
+#[derive(Clone, Copy)]
+struct Sent {
+    written: usize,
+    next: Option<Cursor>,
+}
+
+// The end of a run: what is read of the input, and all of the text is written, so many bytes.
+#[derive(Clone, Copy)]
+struct Whole {
+    reading: Reading,
+    written: usize,
 }
 
 // Whether a read or a write that failed is to be tried again: a signal came, or the descriptor is one that does not
@@ -66,38 +77,40 @@ fn tries_again(error: &Error) -> bool {
     }
 }
 
-// Writes some of `part`, which stands at place `written` of the program's text for an input that begins with s, and
-// answers how many bytes the system took. No other function writes.
-fn write_some(stdout: Stdout, s: &[u8], over: bool, written: usize, part: &[u8]) -> Result<usize>
-    requires { Next s.now over written part.now }
+// Writes some of `part`, which stands at the spot in the program's text, whatever follows the bytes read, and answers
+// how many bytes the system took. No other function writes.
+fn write_some(stdout: Stdout, spot: Spot<'_>, part: &[u8]) -> io::Result<usize>
+    requires { Next spot.s.now spot.over spot.written part.now }
     ensures { IfOk result (λ n. n ≤ length part.now) }
 {
     let mut to = stdout;
     to.write(part)
 }
 
-// Writes all of `part`, and answers whether that could be done.
-fn write_next(stdout: Stdout, s: &[u8], over: bool, written: usize, part: &[u8]) -> bool
-    requires { Next s.now over written part.now }
+// Writes all of `part`.
+fn write_next(stdout: Stdout, spot: Spot<'_>, part: &[u8]) -> Result<(), Cut>
+    requires { Next spot.s.now spot.over spot.written part.now }
 {
+    // Kept: no plainer, since a write takes as many bytes as it likes, and only a failed one counts as a try.
     let mut done: usize = 0;
     let mut tries: usize = 0;
     while done < part.len() {
-        match write_some(stdout, s, over, written + done, &part[done..]) {
-            Ok(0) => return false,
+        let at = Spot {
+            written: spot.written + done,
+            ..spot
+        };
+        match write_some(stdout, at, &part[done..]) {
+            Ok(0) => return Err(Cut),
             Ok(put) => done += put,
             Err(error) => {
-                if MOST_TRIES <= tries {
-                    return false;
-                }
-                if !tries_again(&error) {
-                    return false;
+                if MOST_TRIES <= tries || !tries_again(&error) {
+                    return Err(Cut);
                 }
                 tries += 1;
             }
         }
     }
-    true
+    Ok(())
 }
 
 // Reads what there is of the input into `buf`, and answers how many bytes, 0 at its end. A read that fails ends the
@@ -106,8 +119,7 @@ fn read_some(stdin: Stdin, buf: &mut [u8]) -> usize
     ensures { result ≤ length buf.new }
 {
     let mut from = stdin;
-    let mut tries: usize = 0;
-    while tries < MOST_TRIES {
+    for _ in 0..MOST_TRIES {
         match from.read(buf) {
             Ok(got) => return got,
             Err(error) => {
@@ -116,7 +128,6 @@ fn read_some(stdin: Stdin, buf: &mut [u8]) -> usize
                 }
             }
         }
-        tries += 1;
     }
     0
 }
@@ -154,40 +165,32 @@ fn read_for(stdin: Stdin, input: &mut [u8], first: Reading, c: Cursor) -> Readin
 // Writes the text of the turn t, which stands at the start of `out`.
 fn send_turn(
     stdout: Stdout,
-    s: &[u8],
-    over: bool,
-    written: usize,
+    spot: Spot<'_>,
     c: Cursor,
-    w: usize,
-    h: usize,
-    map: &[u8],
+    floor: FloorPlan<'_>,
     t: Turn,
     out: &[u8],
-) -> Sent
-    requires { Due s.now over w h map.now c written × Sure s.now over c
-        × TurnWritten s.now w h map.now c t out.now × (length out.now ≤ turn_room) }
-    ensures { SentTurn s.now over w h map.now c result }
+) -> Result<Sent, Cut>
+    requires { Due spot.s.now spot.over floor.w floor.h floor.map.now c spot.written × Sure spot.s.now spot.over c
+        × TurnWritten spot.s.now floor.w floor.h floor.map.now c t out.now × (length out.now ≤ turn_room) }
+    ensures { SentTurn spot.entry.s.now spot.entry.over
+        floor.entry.w floor.entry.h floor.entry.map.now c result }
 {
-    let n = program_text::bytes_of(t);
-    if !write_next(stdout, s, over, written, &out[..n]) {
-        return Sent::Cut;
-    }
-    match t {
-        Turn::More(_, past) => Sent::More(written + n, past),
-        Turn::Last(_) => Sent::Last(written + n),
-    }
+    let n = t.bytes;
+    write_next(stdout, spot, &out[..n])?;
+    Ok(Sent {
+        written: spot.written + n,
+        next: t.next,
+    })
 }
 
 // Takes one turn and writes its text.
+// Kept: no plainer, since planner::finish takes the slices one by one.
 fn write_turn(
     stdout: Stdout,
-    s: &[u8],
-    over: bool,
-    written: usize,
+    spot: Spot<'_>,
     c: Cursor,
-    w: usize,
-    h: usize,
-    map: &[u8],
+    floor: FloorPlan<'_>,
     d: &mut [u32],
     e: &mut [u32],
     f: &mut [u64],
@@ -197,34 +200,35 @@ fn write_turn(
     work: &mut [u32],
     kept: &mut [u16],
     out: &mut [u8],
-) -> Sent
-    requires { Due s.now over w h map.now c written × Sure s.now over c × Ready w h map.now d.old
+) -> Result<Sent, Cut>
+    requires { Due spot.s.now spot.over floor.w floor.h floor.map.now c spot.written × Sure spot.s.now spot.over c
+        × Ready floor.w floor.h floor.map.now d.old
         (slices_of e.old f.old back.old route.old next.old work.old) kept.old out.old
         × (length out.old ≤ turn_room) }
-    ensures { SentTurn s.now over w h map.now c result }
+    ensures { SentTurn spot.entry.s.now spot.entry.over
+        floor.entry.w floor.entry.h floor.entry.map.now c result }
 {
-    let t = program_text::take_turn(s, c, w, h, map, d, e, f, back, route, next, work, kept, out);
-    send_turn(stdout, s, over, written, c, w, h, map, t, out)
+    let t = program_text::take_turn(
+        spot.s, c, floor, d, e, f, back, route, next, work, kept, out,
+    );
+    send_turn(stdout, spot, c, floor, t, out)
 }
 
 // Lends the arrays for one turn: a place for each of the at most 32 * 32 vertices, and room for the lines of a job. The
 // costs d are the caller's: they are kept from turn to turn.
 fn lend_turn(
     stdout: Stdout,
-    s: &[u8],
-    over: bool,
-    written: usize,
+    spot: Spot<'_>,
     c: Cursor,
-    w: usize,
-    h: usize,
-    map: &[u8],
+    floor: FloorPlan<'_>,
     d: &mut [u32],
-) -> Sent
-    requires { Due s.now over w h map.now c written × Sure s.now over c × SmallFloor w h map.now
-        × (length d.old ≡ vertices w h) }
-    ensures { SentTurn s.now over w h map.now c result }
+) -> Result<Sent, Cut>
+    requires { Due spot.s.now spot.over floor.w floor.h floor.map.now c spot.written × Sure spot.s.now spot.over c
+        × SmallFloor floor.w floor.h floor.map.now × (length d.old ≡ vertices floor.w floor.h) }
+    ensures { SentTurn spot.entry.s.now spot.entry.over
+        floor.entry.w floor.entry.h floor.entry.map.now c result }
 {
-    let v = floor::vertex_count(w, h);
+    let v = floor::vertex_count(floor.w, floor.h);
     let z = 4 * v;
     let mut e = [0u32; 1024];
     let mut f = [0u64; 1024];
@@ -236,13 +240,9 @@ fn lend_turn(
     let mut out = [0u8; 6307];
     write_turn(
         stdout,
-        s,
-        over,
-        written,
+        spot,
         c,
-        w,
-        h,
-        map,
+        floor,
         d,
         &mut e[..v],
         &mut f[..v],
@@ -266,30 +266,38 @@ fn run_jobs(
     past: Cursor,
     map: &mut [u8],
     d: &mut [u32],
-) -> Ending
+) -> Result<Whole, Cut>
     requires { MapRead input.old first m past × (length map.old ≡ map_length (m.wide * m.high))
         × (length d.old ≡ vertices m.wide m.high) }
     ensures { Ended input.new result }
 {
     let n = first.count;
     program_text::copy_cells(&input[..n], m, map);
-    let w = m.wide;
-    let h = m.high;
+    let floor = FloorPlan {
+        w: m.wide,
+        h: m.high,
+        map,
+    };
     let mut r = first;
     let mut c = past;
     let mut written: usize = 0;
     loop {
         r = read_for(stdin, input, r, c);
         let k = r.count;
-        let over = r.over;
-        match lend_turn(stdout, &input[..k], over, written, c, w, h, map, d) {
-            Sent::More(next_place, next) => {
-                written = next_place;
-                c = next;
-            }
-            Sent::Last(size) => return Ending::Whole(r, size),
-            Sent::Cut => return Ending::Broken,
-        }
+        let spot = Spot {
+            s: &input[..k],
+            over: r.over,
+            written,
+        };
+        let sent = lend_turn(stdout, spot, c, floor, d)?;
+        written = sent.written;
+        let Some(next) = sent.next else {
+            return Ok(Whole {
+                reading: r,
+                written,
+            });
+        };
+        c = next;
     }
 }
 
@@ -302,7 +310,7 @@ fn lend_map(
     first: Reading,
     m: MapRecord,
     past: Cursor,
-) -> Ending
+) -> Result<Whole, Cut>
     requires { MapRead input.old first m past }
     ensures { Ended input.new result }
 {
@@ -323,20 +331,32 @@ fn lend_map(
 }
 
 // Writes the line of a bad record at place k, where the map is due.
-fn write_bad(stdout: Stdout, input: &[u8], first: Reading, k: usize, line: &mut [u8]) -> Ending
+fn write_bad(
+    stdout: Stdout,
+    input: &[u8],
+    first: Reading,
+    k: usize,
+    line: &mut [u8],
+) -> Result<Whole, Cut>
     requires { BadRead input.now first k × (64 ≡ length line.old) }
     ensures { Ended input.now result }
 {
     let n = lines::put_bad(line, 0, k);
     let count = first.count;
-    if !write_next(stdout, &input[..count], first.over, 0, &line[..n]) {
-        return Ending::Broken;
-    }
-    Ending::Whole(first, n)
+    let spot = Spot {
+        s: &input[..count],
+        over: first.over,
+        written: 0,
+    };
+    write_next(stdout, spot, &line[..n])?;
+    Ok(Whole {
+        reading: first,
+        written: n,
+    })
 }
 
 // The whole run, with a buffer for the input. What stands first is a map or a bad record.
-fn run(stdin: Stdin, stdout: Stdout, input: &mut [u8]) -> Ending
+fn run(stdin: Stdin, stdout: Stdout, input: &mut [u8]) -> Result<Whole, Cut>
     requires { length input.old ≡ longest }
     ensures { Ended input.new result }
 {
@@ -352,18 +372,24 @@ fn run(stdin: Stdin, stdout: Stdout, input: &mut [u8]) -> Ending
     );
     let n = first.count;
     match c.step(&input[..n]) {
-        Record::Map(m, past) => lend_map(stdin, stdout, input, first, m, past),
-        Record::Bad(k) => {
+        Ok(Some((Record::Map(m), past))) => lend_map(stdin, stdout, input, first, m, past),
+        Ok(None) => Ok(Whole {
+            reading: first,
+            written: 0,
+        }),
+        Ok(Some((Record::Job(_), _))) => Ok(Whole {
+            reading: first,
+            written: 0,
+        }),
+        Err(bad) => {
             let mut line = [0u8; 64];
-            write_bad(stdout, input, first, k, &mut line)
+            write_bad(stdout, input, first, bad.at, &mut line)
         }
-        Record::End => Ending::Whole(first, 0),
-        Record::Job(_, _) => Ending::Whole(first, 0),
     }
 }
 
 // The buffer holds as much of the input as can matter: the longest map, 1,000 jobs and one byte more.
 fn main(rt: HostRuntime) {
     let mut input = [0u8; 7966];
-    run(rt.stdin(), rt.stdout(), &mut input);
+    let _ = run(rt.stdin(), rt.stdout(), &mut input);
 }

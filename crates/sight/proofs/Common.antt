@@ -3,16 +3,15 @@
 --   divides-..     == what divides two numbers divides their sums, differences and multiples
 --   Euclid a b n m == the invariant of Euclid's algorithm for a and b: what divides n and m divides a and b, and what
 --                     divides r * a and r * b divides r * n and r * m
---   euclid-..      == `Euclid` at the start of the loop, after one turn, and at its end
+--   euclid-..      == `Euclid` after one turn of the loop, and at its end
 --   common-one, one-common == 1 is the greatest common divisor of any number and 1
 --   common-some, common-le == the greatest common divisor is not 0 where one of the numbers is not, and is at most
 --                     their sum
---   parts-le       == k * (d / n) ≤ d, where k ≤ n
 use Prim.Native.Nat.{ℕ, ◌+◌, ◌-◌, ◌*◌, ◌/◌, ◌%◌, ◌≤◌, ◌<◌}
 use mathlib.Core.Path.{◌≡◌, refl, sym, ap, ◌∙◌}
 use mathlib.Core.Logic.{⊎_elim}
 use native.Mathlib.Omega.{arith}
-use native.Mathlib.Nat.{div-add-mod', mul-div-le, mul-le-mul, mul-sub}
+use native.Mathlib.Nat.{div-add-mod', mul-le-mul, mul-sub}
 use Rattle.basics.proofs.Order.{le-or-lt, eq-or-ne}
 use Rattle.sight.specs.Travel.{Divides, Common}
 
@@ -44,9 +43,6 @@ module _ {m b : ℕ} (q : ℕ) (d : Divides m b) where
 pub record Euclid (a b n m : ℕ) : Type 0 where
   pub both : (k : ℕ) → Divides k n → Divides k m → Divides k a × Divides k b
   pub each : (k r : ℕ) → Divides k (a * r) → Divides k (b * r) → Divides k (n * r) × Divides k (m * r)
-
-pub euclid-start : (a b : ℕ) → Euclid a b a b
-euclid-start a b = record { both = λ k d e. (d, e); each = λ k r d e. (d, e) }
 
 -- n is the sum of n / m times m and n % m.
 module _ (n m : ℕ) where
@@ -109,6 +105,3 @@ common-le {a} {b} {n} C l =
 -- ---- parts
 
 -- k of n equal parts of d are no more than d.
-pub parts-le : (k n d : ℕ) → k ≤ n → k * (d / n) ≤ d
-parts-le k n d l =
-    omega (arith, mul-div-le d n, mul-le-mul {n₁ = k} {m₁ = d / n} {n₂ = n} {m₂ = d / n} l (omega arith))

@@ -5,6 +5,8 @@ pub mod Sees
 pub mod Symmetry
 pub mod Corners
 pub mod First
+mod Found
+mod Drawn
 pub mod Obstacles
 pub mod Runs
 pub mod Rows

@@ -19,6 +19,7 @@ use mathlib.Core.Bool.{Bool, true, false, ◌&&◌, true≢false}
 use mathlib.Core.Logic.{◌⊎◌, inl, inr, ⊎_elim}
 use native.Mathlib.Omega.{arith}
 use lib.Dec.{eqb}
+use Rattle.std.specs.Prelude.{Option, Some, None}
 use Rattle.basics.specs.Bounded.{pick}
 use Rattle.basics.proofs.Order.{le-or-lt, eq-or-ne}
 use Rattle.basics.proofs.Bools.{and_intro, and_left, and_right}
@@ -108,130 +109,124 @@ pub record NamesStep (n : ℕ) (p : ℕ → Bool) (q : ℕ → ℕ) (v : ℕ) : 
 
 -- ---- which answer it is
 
-abbrev is_cell : Obstacle → Bool
-is_cell found.Clear = false
-is_cell (found.Cell c) = true
-is_cell (found.Step v) = false
-is_cell (found.Pinch v) = false
+abbrev is_cell : Option Obstacle → Bool
+is_cell None = false
+is_cell (Some (found.Cell c)) = true
+is_cell (Some (found.Step v)) = false
+is_cell (Some (found.Pinch v)) = false
 
 -- The number that an answer holds.
-abbrev held : Obstacle → ℕ
-held found.Clear = 0
-held (found.Cell c) = c.0
-held (found.Step v) = v.0
-held (found.Pinch v) = v.0
+abbrev held : Option Obstacle → ℕ
+held None = 0
+held (Some (found.Cell c)) = c.0
+held (Some (found.Step v)) = v.0
+held (Some (found.Pinch v)) = v.0
 
-abbrev step_for : ℕ → Obstacle
-step_for v = found.Step (record { 0 = v })
+abbrev step_for : ℕ → Option Obstacle
+step_for v = Some (found.Step (record { 0 = v }))
 
-no_cell : (t : Bool) (v : ℕ) → is_cell (pick t found.Clear (step_for v)) ≡ false
+no_cell : (t : Bool) (v : ℕ) → is_cell (pick t None (step_for v)) ≡ false
 no_cell true v = refl
 no_cell false v = refl
 
--- An answer that is not Clear was found at the first hit.
-found_at : {n : ℕ} {F : ℕ → Obstacle} {o : Obstacle} → first n F ≡ o → is_clear o ≡ false → Hit n F
+-- An answer that is not None was found at the first hit.
+found_at : {n : ℕ} {F : ℕ → Option Obstacle} {o : Option Obstacle} → first n F ≡ o → is_clear o ≡ false → Hit n F
 found_at {n} {F} {o} e d = first_found n F (ap is_clear e ∙ d)
 
 -- ---- cells and steps, then pinches
 
--- The obstacle after a clear `blockage` is a pinch or Clear, and `blockage` names no pinch.
-abbrev only_pinch : Obstacle → Bool
-only_pinch found.Clear = true
-only_pinch (found.Cell c) = false
-only_pinch (found.Step v) = false
-only_pinch (found.Pinch v) = true
+-- The obstacle after a clear `blockage` is a pinch or None, and `blockage` names no pinch.
+abbrev only_pinch : Option Obstacle → Bool
+only_pinch None = true
+only_pinch (Some (found.Cell c)) = false
+only_pinch (Some (found.Step v)) = false
+only_pinch (Some (found.Pinch v)) = true
 
-abbrev no_pinch : Obstacle → Bool
-no_pinch found.Clear = true
-no_pinch (found.Cell c) = true
-no_pinch (found.Step v) = true
-no_pinch (found.Pinch v) = false
+abbrev no_pinch : Option Obstacle → Bool
+no_pinch None = true
+no_pinch (Some (found.Cell c)) = true
+no_pinch (Some (found.Step v)) = true
+no_pinch (Some (found.Pinch v)) = false
 
-else-keeps : (T : Obstacle → Bool) (a b : Obstacle) → T a ≡ true → T b ≡ true → T (or_else a b) ≡ true
-else-keeps T found.Clear b p q = q
-else-keeps T (found.Cell c) b p q = p
-else-keeps T (found.Step v) b p q = p
-else-keeps T (found.Pinch v) b p q = p
+else-keeps : (T : Option Obstacle → Bool) (a b : Option Obstacle) → T a ≡ true → T b ≡ true → T (or_else a b) ≡ true
+else-keeps T None b p q = q
+else-keeps T (Some o) b p q = p
 
-first-keeps : (T : Obstacle → Bool) → T found.Clear ≡ true → (n : ℕ) (F : ℕ → Obstacle)
+first-keeps : (T : Option Obstacle → Bool) → T None ≡ true → (n : ℕ) (F : ℕ → Option Obstacle)
     → ((k : ℕ) → T (F k) ≡ true) → T (first n F) ≡ true
 unfolding first
 first-keeps T z zero F h = z
 first-keeps T z (suc n) F h = else-keeps T (first n F) (F n) (first-keeps T z n F h) (h n)
 
-pick-keeps : (T : Obstacle → Bool) (b : Bool) (o p : Obstacle) → T o ≡ true → T p ≡ true → T (pick b o p) ≡ true
+pick-keeps : (T : Option Obstacle → Bool) (b : Bool) (o p : Option Obstacle) → T o ≡ true → T p ≡ true → T (pick b o p) ≡ true
 pick-keeps T true o p i j = i
 pick-keeps T false o p i j = j
 
-abbrev later : Floor → Segment → Obstacle
-later f s = pick (still s) found.Clear (nearest_pinch f s)
+abbrev later : Floor → Segment → Option Obstacle
+later f s = pick (still s) None (nearest_pinch f s)
 
 passed-pinch : (f : Floor) (s : Segment) (c r : ℕ) → only_pinch (passed_pinch f s c r) ≡ true
 unfolding passed_pinch
 passed-pinch f s c r =
     let x = start_on s.x0 s.x1 c in
     let y = start_on s.y0 s.y1 r in
-    pick-keeps only_pinch (pinch f x y && passes s x y) (pinch_at f x y) found.Clear refl refl
+    pick-keeps only_pinch (pinch f x y && passes s x y) (pinch_at f x y) None refl refl
 
 later-pinch : (f : Floor) (s : Segment) → only_pinch (later f s) ≡ true
 unfolding nearest_pinch
 later-pinch f s =
-    pick-keeps only_pinch (still s) found.Clear (nearest_pinch f s) refl
+    pick-keeps only_pinch (still s) None (nearest_pinch f s) refl
     (first-keeps only_pinch refl (suc (span s.x0 s.x1)) _ (λ c.
     first-keeps only_pinch refl (suc (span s.y0 s.y1)) (passed_pinch f s c) (passed-pinch f s c)))
 
-else-cell : (o p : Obstacle) {c : Cell} → only_pinch p ≡ true → or_else o p ≡ found.Cell c → o ≡ found.Cell c
-else-cell found.Clear p h e = absurd (true≢false (sym h ∙ ap only_pinch e))
-else-cell (found.Cell d) p h e = e
-else-cell (found.Step v) p h e = e
-else-cell (found.Pinch v) p h e = e
+else-cell : (o p : Option Obstacle) {c : Cell} → only_pinch p ≡ true → or_else o p ≡ Some (found.Cell c) → o ≡ Some (found.Cell c)
+else-cell None p h e = absurd (true≢false (sym h ∙ ap only_pinch e))
+else-cell (Some o) p h e = e
 
-else-step : (o p : Obstacle) {v : Vertex} → only_pinch p ≡ true → or_else o p ≡ found.Step v → o ≡ found.Step v
-else-step found.Clear p h e = absurd (true≢false (sym h ∙ ap only_pinch e))
-else-step (found.Cell d) p h e = e
-else-step (found.Step v) p h e = e
-else-step (found.Pinch v) p h e = e
+else-step : (o p : Option Obstacle) {v : Vertex} → only_pinch p ≡ true → or_else o p ≡ Some (found.Step v) → o ≡ Some (found.Step v)
+else-step None p h e = absurd (true≢false (sym h ∙ ap only_pinch e))
+else-step (Some o) p h e = e
 
-else-pinch : (o p : Obstacle) {v : Vertex} → no_pinch o ≡ true → or_else o p ≡ found.Pinch v
-    → (o ≡ found.Clear) × (p ≡ found.Pinch v)
-else-pinch found.Clear p h e = (refl, e)
-else-pinch (found.Cell c) p h e = absurd (true≢false (ap no_pinch e))
-else-pinch (found.Step v) p h e = absurd (true≢false (ap no_pinch e))
-else-pinch (found.Pinch v) p h e = absurd (true≢false (sym h))
+else-pinch : (o p : Option Obstacle) {v : Vertex} → no_pinch o ≡ true → or_else o p ≡ Some (found.Pinch v)
+    → (o ≡ None) × (p ≡ Some (found.Pinch v))
+else-pinch None p h e = (refl, e)
+else-pinch (Some (found.Cell c)) p h e = absurd (true≢false (ap no_pinch e))
+else-pinch (Some (found.Step v)) p h e = absurd (true≢false (ap no_pinch e))
+else-pinch (Some (found.Pinch v)) p h e = absurd (true≢false (sym h))
 
-later-named : (b : Bool) (o : Obstacle) {v : Vertex} → pick b found.Clear o ≡ found.Pinch v
-    → (b ≡ false) × (o ≡ found.Pinch v)
+later-named : (b : Bool) (o : Option Obstacle) {v : Vertex} → pick b None o ≡ Some (found.Pinch v)
+    → (b ≡ false) × (o ≡ Some (found.Pinch v))
 later-named true o e = absurd (true≢false (ap is_clear e))
 later-named false o e = (refl, e)
 
--- Where a choice between o and Clear is not Clear, the test holds and the choice is o.
-picked : (t : Bool) (o : Obstacle) → is_clear (pick t o found.Clear) ≡ false
-    → (t ≡ true) × (pick t o found.Clear ≡ o)
+-- Where a choice between o and None is not None, the test holds and the choice is o.
+picked : (t : Bool) (o : Option Obstacle) → is_clear (pick t o None) ≡ false
+    → (t ≡ true) × (pick t o None ≡ o)
 picked true o d = (refl, refl)
 picked false o d = absurd (true≢false d)
 
-clear-not : {P : Type 0} {o : Obstacle} → o ≡ found.Clear → is_clear o ≡ false → P
+clear-not : {P : Type 0} {o : Option Obstacle} → o ≡ None → is_clear o ≡ false → P
 clear-not d e = absurd (true≢false (sym (ap is_clear d) ∙ e))
 
 -- ---- the named step
 
 module _ (n : ℕ) (p : ℕ → Bool) (q : ℕ → ℕ) where
-  abbrev answer : ℕ → Obstacle
-  answer k = pick (p k) found.Clear (step_for (q k))
+  abbrev answer : ℕ → Option Obstacle
+  answer k = pick (p k) None (step_for (q k))
 
-  open-clear : (k : ℕ) → answer k ≡ found.Clear → p k ≡ true
+  open-clear : (k : ℕ) → answer k ≡ None → p k ≡ true
   open-clear k e = cases (p k) (ap is_clear e)
     where
-      cases : (t : Bool) → is_clear (pick t found.Clear (step_for (q k))) ≡ true → t ≡ true
+      cases : (t : Bool) → is_clear (pick t None (step_for (q k))) ≡ true → t ≡ true
       cases true d = refl
       cases false d = d
 
-  shut-held : (t : Bool) (k : ℕ) → is_clear (pick t found.Clear (step_for (q k))) ≡ false
-      → (t ≡ false) × (held (pick t found.Clear (step_for (q k))) ≡ q k)
+  shut-held : (t : Bool) (k : ℕ) → is_clear (pick t None (step_for (q k))) ≡ false
+      → (t ≡ false) × (held (pick t None (step_for (q k))) ≡ q k)
   shut-held true k e = absurd (true≢false e)
   shut-held false k e = (refl, refl)
 
-  first-shut : {v : Vertex} → first n answer ≡ found.Step v → NamesStep n p q v.0
+  first-shut : {v : Vertex} → first n answer ≡ Some (found.Step v) → NamesStep n p q v.0
   first-shut {v} e =
       let H : Hit n answer = found_at e refl in
       let h = shut-held (p H.at) H.at H.hit in
@@ -243,7 +238,7 @@ module _ (n : ℕ) (p : ℕ → Bool) (q : ℕ → ℕ) where
         begins = ap held (sym e ∙ hit-first H) ∙ h.1;
       }
 
-  no-first-cell : {c : Cell} → first n answer ≡ found.Cell c → ⊥
+  no-first-cell : {c : Cell} → first n answer ≡ Some (found.Cell c) → ⊥
   no-first-cell {c} e =
       let H : Hit n answer = found_at e refl in
       true≢false (ap is_cell (sym e ∙ hit-first H) ∙ no_cell (p H.at) (q H.at))
@@ -254,7 +249,7 @@ module _ (f : Floor) (x0 y0 x1 y1 : ℕ) where
   abbrev s : Segment
   s = segment_of x0 y0 x1 y1
 
-  abbrev column : ℕ → Obstacle
+  abbrev column : ℕ → Option Obstacle
   column c = first (span y0 y1) (blocked_cell f s c)
 
   -- A blocked cell that is entered is a hit at its place from the first end.
@@ -264,7 +259,7 @@ module _ (f : Floor) (x0 y0 x1 y1 : ℕ) where
   answers k l b e =
       rw (cell_on-index_on x0 x1 k (entered-column s k l e), cell_on-index_on y0 y1 l (entered-row s k l e))
       (ap is_clear
-      (pick_yes (blocked f (suc k) (suc l) && enters s k l) (cell_at f k l) found.Clear
+      (pick_yes (blocked f (suc k) (suc l) && enters s k l) (cell_at f k l) None
       (and_intro (blocked f (suc k) (suc l)) (enters s k l) b e)))
 
   -- A hit is a blocked cell that is entered.
@@ -326,7 +321,7 @@ module _ (f : Floor) (x0 y0 x1 y1 : ℕ) where
     hit-held = hit-first C ∙ hit-first R ∙ (answered C.at R.at R.hit).1
 
   module _ (e : Ends f.wide f.high x0 y0 x1 y1) where
-    slanted-named : {c : Cell} → first (span x0 x1) column ≡ found.Cell c → NamesCell f s c.0
+    slanted-named : {c : Cell} → first (span x0 x1) column ≡ Some (found.Cell c) → NamesCell f s c.0
     slanted-named {c} h =
         let C : Hit (span x0 x1) column = found_at h refl in
         let R = first_found (span y0 y1) (blocked_cell f s C.at) C.hit in
@@ -339,7 +334,7 @@ module _ (f : Floor) (x0 y0 x1 y1 : ℕ) where
           nearest = hit-nearest C R;
         }
 
-    blockage-cell : {c : Cell} → blockage f s ≡ found.Cell c → NamesCell f s c.0
+    blockage-cell : {c : Cell} → blockage f s ≡ Some (found.Cell c) → NamesCell f s c.0
     unfolding upright_step level_step
     blockage-cell {c} h =
         ⊎_elim
@@ -352,7 +347,7 @@ module _ (f : Floor) (x0 y0 x1 y1 : ℕ) where
         (λ k. number f.wide (start_on x0 x1 k) y0) (sym (level-obstacle f x0 y0 x1 y1 n q) ∙ h)))
         (λ m. slanted-named (sym (columns-obstacle f x0 y0 x1 y1 n m) ∙ h)) (eq-or-ne y0 y1)) (eq-or-ne x0 x1)
 
-    pub cell-named : {c : Cell} → obstacle f s ≡ found.Cell c → NamesCell f s c.0
+    pub cell-named : {c : Cell} → obstacle f s ≡ Some (found.Cell c) → NamesCell f s c.0
     unfolding obstacle
     cell-named {c} h = blockage-cell (else-cell (blockage f s) (later f s) (later-pinch f s) h)
 
@@ -364,13 +359,13 @@ module _ (f : Floor) (x0 y0 x1 y1 : ℕ) where
   NamesLevel v =
       NamesStep (span x0 x1) (λ k. level_open f (cell_on x0 x1 k) y0) (λ k. number f.wide (start_on x0 x1 k) y0) v
 
-  no-slanted-step : {v : Vertex} → first (span x0 x1) column ≡ found.Step v → ⊥
+  no-slanted-step : {v : Vertex} → first (span x0 x1) column ≡ Some (found.Step v) → ⊥
   no-slanted-step {v} h =
       let C : Hit (span x0 x1) column = found_at h refl in
       let R = first_found (span y0 y1) (blocked_cell f s C.at) C.hit in
       true≢false (sym (ap is_cell (sym h ∙ hit-held C R)))
 
-  blockage-step : {v : Vertex} → blockage f s ≡ found.Step v
+  blockage-step : {v : Vertex} → blockage f s ≡ Some (found.Step v)
       → ((x0 ≡ x1) × NamesUpright v.0) ⊎ ((y0 ≡ y1) × NamesLevel v.0)
   unfolding upright_step level_step
   blockage-step {v} h =
@@ -388,7 +383,7 @@ module _ (f : Floor) (x0 y0 x1 y1 : ℕ) where
       ))
       (λ m. absurd (no-slanted-step (sym (columns-obstacle f x0 y0 x1 y1 n m) ∙ h))) (eq-or-ne y0 y1)) (eq-or-ne x0 x1)
 
-  pub step-named : {v : Vertex} → obstacle f s ≡ found.Step v
+  pub step-named : {v : Vertex} → obstacle f s ≡ Some (found.Step v)
       → ((x0 ≡ x1) × NamesUpright v.0) ⊎ ((y0 ≡ y1) × NamesLevel v.0)
   unfolding obstacle
   step-named {v} h = blockage-step (else-step (blockage f s) (later f s) (later-pinch f s) h)
@@ -416,7 +411,7 @@ module _ (f : Floor) (x0 y0 x1 y1 : ℕ) where
   abbrev t : Segment
   t = segment_of x0 y0 x1 y1
 
-  abbrev column_pinch : ℕ → Obstacle
+  abbrev column_pinch : ℕ → Option Obstacle
   column_pinch c = first (suc (span y0 y1)) (passed_pinch f t c)
 
   -- A pinch that is passed is a hit at its place from the first end, and a hit is a pinch that is passed.
@@ -426,7 +421,7 @@ module _ (f : Floor) (x0 y0 x1 y1 : ℕ) where
   pinch-answers p q b e =
       rw (point-away x0 x1 p (passed-column t p q e), point-away y0 y1 q (passed-row t p q e))
       (ap is_clear
-      (pick_yes (pinch f p q && passes t p q) (pinch_at f p q) found.Clear (and_intro (pinch f p q) (passes t p q) b e)))
+      (pick_yes (pinch f p q && passes t p q) (pinch_at f p q) None (and_intro (pinch f p q) (passes t p q) b e)))
 
   pinch-answered : (c r : ℕ) → is_clear (passed_pinch f t c r) ≡ false
       → let x = start_on x0 x1 c in
@@ -483,19 +478,19 @@ module _ (f : Floor) (x0 y0 x1 y1 : ℕ) where
   upright-no-pinch : (k : ℕ) → no_pinch (upright_step f x0 y0 y1 k) ≡ true
   unfolding upright_step
   upright-no-pinch k =
-      pick-keeps no_pinch (upright_open f x0 (cell_on y0 y1 k)) found.Clear (step_at f x0 (start_on y0 y1 k)) refl refl
+      pick-keeps no_pinch (upright_open f x0 (cell_on y0 y1 k)) None (step_at f x0 (start_on y0 y1 k)) refl refl
 
   level-no-pinch : (k : ℕ) → no_pinch (level_step f y0 x0 x1 k) ≡ true
   unfolding level_step
   level-no-pinch k =
-      pick-keeps no_pinch (level_open f (cell_on x0 x1 k) y0) found.Clear (step_at f (start_on x0 x1 k) y0) refl refl
+      pick-keeps no_pinch (level_open f (cell_on x0 x1 k) y0) None (step_at f (start_on x0 x1 k) y0) refl refl
 
   cell-no-pinch : (c r : ℕ) → no_pinch (blocked_cell f t c r) ≡ true
   unfolding blocked_cell
   cell-no-pinch c r =
       let i = cell_on x0 x1 c in
       let j = cell_on y0 y1 r in
-      pick-keeps no_pinch (blocked f (suc i) (suc j) && enters t i j) (cell_at f i j) found.Clear refl refl
+      pick-keeps no_pinch (blocked f (suc i) (suc j) && enters t i j) (cell_at f i j) None refl refl
 
   blockage-no-pinch : no_pinch (blockage f t) ≡ true
   unfolding blockage
@@ -506,7 +501,7 @@ module _ (f : Floor) (x0 y0 x1 y1 : ℕ) where
       first-keeps no_pinch refl (span y0 y1) (blocked_cell f t c) (cell-no-pinch c))))
 
   module _ (e : Ends f.wide f.high x0 y0 x1 y1) where
-    nearest-named : {v : Vertex} → unblocked f t ≡ true → still t ≡ false → nearest_pinch f t ≡ found.Pinch v
+    nearest-named : {v : Vertex} → unblocked f t ≡ true → still t ≡ false → nearest_pinch f t ≡ Some (found.Pinch v)
         → NamesPinch f t v.0
     unfolding nearest_pinch
     nearest-named {v} free long h =
@@ -523,7 +518,7 @@ module _ (f : Floor) (x0 y0 x1 y1 : ℕ) where
           nearest = hit-pinch C R;
         }
 
-    pub pinch-named : {v : Vertex} → obstacle f t ≡ found.Pinch v → NamesPinch f t v.0
+    pub pinch-named : {v : Vertex} → obstacle f t ≡ Some (found.Pinch v) → NamesPinch f t v.0
     unfolding obstacle
     pinch-named {v} h =
         let o = else-pinch (blockage f t) (later f t) blockage-no-pinch h in

@@ -1,7 +1,7 @@
--- The nearest pinch of those passed (rule 2.8). It is Clear exactly when no pinch is passed. The vertices passed are at
+-- The nearest pinch of those passed (rule 2.8). It is None exactly when no pinch is passed. The vertices passed are at
 -- equal distances, so that testing these alone finds it.
 --
---   nearest-clear  == `nearest_pinch f s` is Clear exactly when s passes no pinch
+--   nearest-clear  == `nearest_pinch f s` is None exactly when s passes no pinch
 --   common-nearest == `nearest_pinch` as the code finds it: the first pinch of the n + 1 vertices passed, where n is the
 --                     greatest common divisor of the spans
 --   ends-nearest   == `nearest_pinch` where the greatest common divisor of the spans is 1: the first end, or else the
@@ -13,6 +13,7 @@ use mathlib.Core.Logic.{⊎_elim}
 use native.Mathlib.Omega.{arith}
 use native.Mathlib.Nat.{mul-le-mul, eq_of_mul-eq-mul_left, div-eq_of_eq-mul_right}
 use borrow.Author.Tests.{eq-eqb, ne_eqb}
+use Rattle.std.specs.Prelude.{Option, None}
 use Rattle.basics.specs.Bounded.{pick, every}
 use Rattle.basics.proofs.Order.{le-or-lt, eq-or-ne}
 use Rattle.basics.proofs.Bools.{iff-eq, not-and}
@@ -22,7 +23,6 @@ use Rattle.sight.specs.Sight.{Segment, segment_of, pinch, spans, passes, no_pinc
 use Rattle.sight.specs.Obstacle.{is_clear, or_else, span, start_on, first, pinch_at, passed_pinch, nearest_pinch}
 use Rattle.sight.specs.Travel.{Ends, pinch_here, pinch_there, Common}
 use Rattle.sight.specs.declared.Obstacle.{Obstacle}
-use Rattle.sight.specs.declared.Obstacle.TheVariants.{Clear}
 use Rattle.sight.proofs.Travel.{start_first}
 use Rattle.sight.proofs.First.{Hit, hit-first, first-look, first-every, first-none, first-hit}
 use Rattle.sight.proofs.Common.{divides-multiple, common-some}
@@ -38,8 +38,8 @@ use Rattle.sight.proofs.Vertices.{
 
 -- ---- no pinch is named exactly when none is passed
 
--- A choice between an obstacle o and Clear is Clear exactly where the test fails.
-pub clear-unless : (t : Bool) (o : Obstacle) → is_clear o ≡ false → is_clear (pick t o Clear) ≡ not t
+-- A choice between an obstacle o and None is None exactly where the test fails.
+pub clear-unless : (t : Bool) (o : Option Obstacle) → is_clear o ≡ false → is_clear (pick t o None) ≡ not t
 clear-unless true o e = e
 clear-unless false o e = refl
 
@@ -102,19 +102,19 @@ module _ (f : Floor) (x0 y0 x1 y1 : ℕ) (e : Ends f.wide f.high x0 y0 x1 y1) wh
   passed-if c r lc lr q =
       let x = start_on x0 x1 c in
       let y = start_on y0 y1 r in
-      ap (λ b. pick (pinch f x y && b) (pinch_at f x y) Clear)
+      ap (λ b. pick (pinch f x y && b) (pinch_at f x y) None)
       (passes_on x0 y0 x1 y1 c r lc lr ∙ eq-eqb (span y0 y1 * c) (span x0 x1 * r) q)
-      ∙ ap (λ b. pick b (pinch_at f x y) Clear) (and-true (pinch f x y))
+      ∙ ap (λ b. pick b (pinch_at f x y) None) (and-true (pinch f x y))
 
   passed_none : (c r : ℕ) → c ≤ span x0 x1 → r ≤ span y0 y1 → (span y0 y1 * c ≡ span x0 x1 * r → ⊥)
-      → passed_pinch f t c r ≡ Clear
+      → passed_pinch f t c r ≡ None
   unfolding passed_pinch
   passed_none c r lc lr q =
       let x = start_on x0 x1 c in
       let y = start_on y0 y1 r in
-      ap (λ b. pick (pinch f x y && b) (pinch_at f x y) Clear)
+      ap (λ b. pick (pinch f x y && b) (pinch_at f x y) None)
       (passes_on x0 y0 x1 y1 c r lc lr ∙ ne_eqb (span y0 y1 * c) (span x0 x1 * r) q)
-      ∙ ap (λ b. pick b (pinch_at f x y) Clear) (and-false (pinch f x y))
+      ∙ ap (λ b. pick b (pinch_at f x y) None) (and-false (pinch f x y))
 
   abbrev d_x : ℕ
   d_x = span x0 x1
@@ -191,7 +191,7 @@ module _ (f : Floor) (x0 y0 x1 y1 : ℕ) (e : Ends f.wide f.high x0 y0 x1 y1) wh
             let z : a ≡ 0 = omega (arith, times-le a (suc g) k l) in
             e ∙ ap (λ x. g * x) z ∙ omega arith
 
-    abbrev at : ℕ → Obstacle
+    abbrev at : ℕ → Option Obstacle
     at k = pinch_there f t (k * across) (k * down)
 
     at-passed : (k : ℕ) → k ≤ N → passed_pinch f t (k * across) (k * down) ≡ at k
@@ -199,9 +199,9 @@ module _ (f : Floor) (x0 y0 x1 y1 : ℕ) (e : Ends f.wide f.high x0 y0 x1 y1) wh
         passed-if (k * across) (k * down) (omega (arith, C.first.is, times-le across k N l))
         (omega (arith, C.second.is, times-le down k N l)) (on_line k)
 
-    -- The answer at (c, r) is Clear where no multiple k that is passed there is a pinch.
+    -- The answer at (c, r) is None where no multiple k that is passed there is a pinch.
     passed-clear : (c r : ℕ) → c < m → r < n
-        → ((k : ℕ) → k ≤ N → c ≡ k * across → r ≡ k * down → at k ≡ Clear) → passed_pinch f t c r ≡ Clear
+        → ((k : ℕ) → k ≤ N → c ≡ k * across → r ≡ k * down → at k ≡ None) → passed_pinch f t c r ≡ None
     passed-clear c r lc lr h =
         ⊎_elim
         (λ (q : d_y * c ≡ d_x * r).
@@ -216,10 +216,10 @@ module _ (f : Floor) (x0 y0 x1 y1 : ℕ) (e : Ends f.wide f.high x0 y0 x1 y1) wh
     before a j k l =
         ⊎_elim (λ h. absurd (omega (arith, times-le a k j h))) (λ h. h) (le-or-lt k j)
 
-    abbrev column_pinch : ℕ → Obstacle
+    abbrev column_pinch : ℕ → Option Obstacle
     column_pinch c = first n (passed_pinch f t c)
 
-    none_passed : ((k : ℕ) → k < suc N → at k ≡ Clear) → first m column_pinch ≡ first (suc N) at
+    none_passed : ((k : ℕ) → k < suc N → at k ≡ None) → first m column_pinch ≡ first (suc N) at
     none_passed h =
         first-none m column_pinch (λ c lc. first-none n (passed_pinch f t c) (λ r lr.
         passed-clear c r lc lr (λ k l p q. h k (omega arith))))

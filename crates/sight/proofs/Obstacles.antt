@@ -3,8 +3,8 @@
 --   upright-obstacle, level-obstacle == `blockage` of a segment along a grid line: the first shut step
 --   slanted-obstacle  == `blockage` of a slanted segment: the first blocked cell entered by columns, as the rule has
 --                        it, is the first by rows
---   blockage-clear    == `blockage f s` is Clear exactly when `unblocked f s`
---   upright-tested, level-tested, cell-past, cell-met == one answer of a scan, from the cells that the code reads
+--   blockage-clear    == `blockage f s` is None exactly when `unblocked f s`
+--   cell-past, cell-met == one answer of a scan, from the cells that the code reads
 use Prim.Native.Nat.{ℕ, suc, ◌*◌, ◌≤◌, ◌<◌}
 use mathlib.Core.Path.{◌≡◌, refl, sym, ap, ◌∙◌}
 use mathlib.Core.Bool.{Bool, true, false, ◌&&◌, not}
@@ -13,6 +13,7 @@ use native.Mathlib.Omega.{arith}
 use native.Mathlib.Nat.{lt_of_mul-lt-mul_left, mul-le-mul}
 use borrow.Author.Tests.{eq-eqb, ne_eqb, ltb-true, not-false}
 use lib.Dec.{ltb, eqb}
+use Rattle.std.specs.Prelude.{Option, None}
 use Rattle.basics.specs.Bounded.{pick, every}
 use Rattle.basics.proofs.Order.{eq-or-ne}
 use Rattle.basics.proofs.Bools.{and_left, and_right}
@@ -32,71 +33,34 @@ use Rattle.sight.specs.Obstacle.{
   level_step,
   blockage,
 }
-use Rattle.sight.specs.Travel.{
-  Ends,
-  line_step,
-  upright_to,
-  level_to,
-  upright_free,
-  level_free,
-  touches,
-  cell_free,
-  row_free,
-  row_cell,
-  row_obstacle,
-}
+use Rattle.sight.specs.Travel.{Ends, upright_free, level_free, touches, cell_free, row_free, row_cell, row_obstacle}
 use Rattle.sight.specs.declared.Obstacle.{Obstacle}
-use Rattle.sight.specs.declared.Obstacle.TheVariants.{Clear}
 use Rattle.sight.proofs.Enters.{enters_on}
 use Rattle.sight.proofs.Sees.{upright-sees, level-sees, slanted-sees}
 use Rattle.sight.proofs.First.{first-every, first_cong, stairs-first}
 
--- A choice between Clear and an obstacle is Clear exactly where the test holds.
-clear-pick : (t : Bool) (o : Obstacle) → is_clear o ≡ false → is_clear (pick t Clear o) ≡ t
+-- A choice between None and an obstacle is None exactly where the test holds.
+clear-pick : (t : Bool) (o : Option Obstacle) → is_clear o ≡ false → is_clear (pick t None o) ≡ t
 clear-pick true o e = refl
 clear-pick false o e = e
 
-pub pick-not : (t : Bool) (a b : Obstacle) → pick t a b ≡ pick (not t) b a
+pub pick-not : (t : Bool) (a b : Option Obstacle) → pick t a b ≡ pick (not t) b a
 pick-not true a b = refl
 pick-not false a b = refl
 
 -- ---- one answer of a scan
 
--- The k-th step from a towards b along line p, by its end and its start, and by the test t of the cells beside it.
-module _ (f : Floor) (p a b k end start : ℕ) (ends : end ≡ suc (cell_on a b k)) (starts : start ≡ start_on a b k)
-    (u t : Bool) where
-  abbrev step : Obstacle
-  step = line_step f u p a b k
-
-  -- The answer by one test of the step.
-  tested : (x : Bool) (o : Obstacle) → t ≡ x → step ≡ pick x Clear o
-      → (t ≡ true → Clear ≡ step) × (t ≡ false → o ≡ step)
-  tested x o e q = (
-    λ y. sym (q ∙ pick_yes x Clear o (sym e ∙ y)),
-    λ n. sym (q ∙ pick_no x Clear o (sym e ∙ n)),
-  )
-
-  pub upright-tested : u ≡ true → t ≡ upright_to f p end
-      → (t ≡ true → Clear ≡ step) × (t ≡ false → step_at f p start ≡ step)
-  unfolding upright_step upright_open
-  upright-tested y e = tested (upright_to f p end) (step_at f p start) e (rw (y, ends, starts))
-
-  pub level-tested : u ≡ false → t ≡ level_to f end p
-      → (t ≡ true → Clear ≡ step) × (t ≡ false → step_at f start p ≡ step)
-  unfolding level_step level_open
-  level-tested n e = tested (level_to f end p) (step_at f start p) e (rw (n, ends, starts))
-
 module _ (f : Floor) (s : Segment) (r c : ℕ) where
-  abbrev named : Obstacle
+  abbrev named : Option Obstacle
   named = cell_at f (cell_on s.x0 s.x1 c) (cell_on s.y0 s.y1 r)
 
-  pub cell-past : cell_free f s r c ≡ true → row_cell f s r c ≡ Clear
+  pub cell-past : cell_free f s r c ≡ true → row_cell f s r c ≡ None
   unfolding row_cell
-  cell-past e = pick_yes (cell_free f s r c) Clear named e
+  cell-past e = pick_yes (cell_free f s r c) None named e
 
   pub cell-met : cell_free f s r c ≡ false → row_cell f s r c ≡ named
   unfolding row_cell
-  cell-met e = pick_no (cell_free f s r c) Clear named e
+  cell-met e = pick_no (cell_free f s r c) None named e
 
   cell-clear : is_clear (row_cell f s r c) ≡ cell_free f s r c
   unfolding row_cell
@@ -127,13 +91,13 @@ module _ (f : Floor) (x0 y0 x1 y1 : ℕ) where
   abbrev s : Segment
   s = segment_of x0 y0 x1 y1
 
-  abbrev upright : Obstacle
+  abbrev upright : Option Obstacle
   upright = first (span y0 y1) (upright_step f x0 y0 y1)
 
-  abbrev level : Obstacle
+  abbrev level : Option Obstacle
   level = first (span x0 x1) (level_step f y0 x0 x1)
 
-  abbrev slanted : Obstacle
+  abbrev slanted : Option Obstacle
   slanted = first (span x0 x1) (λ c. first (span y0 y1) (blocked_cell f s c))
 
   pub upright-obstacle : x0 ≡ x1 → blockage f s ≡ upright
@@ -158,8 +122,8 @@ module _ (f : Floor) (x0 y0 x1 y1 : ℕ) where
       let i = cell_on x0 x1 c in
       let j = cell_on y0 y1 r in
       let b = blocked f (suc i) (suc j) in
-      ap (λ t. pick (b && t) (cell_at f i j) Clear) (enters_on x0 y0 x1 y1 c r lc lr)
-      ∙ pick-not (b && touches (span x0 x1) (span y0 y1) c r) (cell_at f i j) Clear
+      ap (λ t. pick (b && t) (cell_at f i j) None) (enters_on x0 y0 x1 y1 c r lc lr)
+      ∙ pick-not (b && touches (span x0 x1) (span y0 y1) c r) (cell_at f i j) None
 
   touched : (c r : ℕ) → is_clear (row_cell f s r c) ≡ false → touches (span x0 x1) (span y0 y1) c r ≡ true
   unfolding cell_free
@@ -185,9 +149,9 @@ module _ (f : Floor) (x0 y0 x1 y1 : ℕ) (e : Ends f.wide f.high x0 y0 x1 y1) wh
   abbrev t : Segment
   t = segment_of x0 y0 x1 y1
 
-  -- `blockage` is Clear exactly when `unblocked`, where each answer of the scan is Clear exactly where its test holds,
+  -- `blockage` is None exactly when `unblocked`, where each answer of the scan is None exactly where its test holds,
   -- and the tests together are `unblocked`.
-  scanned : (n : ℕ) (F : ℕ → Obstacle) (p : ℕ → Bool) → blockage f t ≡ first n F → unblocked f t ≡ every n p
+  scanned : (n : ℕ) (F : ℕ → Option Obstacle) (p : ℕ → Bool) → blockage f t ≡ first n F → unblocked f t ≡ every n p
       → ((k : ℕ) → is_clear (F k) ≡ p k) → is_clear (blockage f t) ≡ unblocked f t
   scanned n F p o q h =
       ap is_clear o ∙ first-every n F ∙ every-cong n (λ k. is_clear (F k)) p (λ k l. h k) ∙ sym q

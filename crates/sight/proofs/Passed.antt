@@ -1,13 +1,11 @@
 -- Sight with the pinches counted (rules 2.4 to 2.7).
 --
 --   edge-no-pinch == no vertex on the edge of the floor is a pinch; edge-left, -above, -right, -below for each side
---   first-differ, last-differ, pairs-differ == `pinch_of` of four cells by the comparisons that the code makes
+--   pinch-tests    == `pinch_of` of four cells by the comparisons that the code makes
 --   pinch-read    == `pinch` from the four cells that the code reads
 --   obstacle-sees == nothing is in the way exactly when the ends see each other; obstacle-sees-segment for two vertices
 --                    by their numbers
---   obstacle-back == the obstacle of a segment is Clear exactly when that of the segment turned round is
---   obstacle-blocked, -still, -pinch == `obstacle` by what the code finds first: a cell or a step, no length, or
---                      pinches
+--   obstacle-back == the obstacle of a segment is None exactly when that of the segment turned round is
 --   still-..      == `still` of a segment by its spans
 --   unit-nearest  == the nearest pinch of a segment of at most one column and one row is one of its ends
 --   one-row, one-level, two-rows == a segment of one row, of one column and no row, or of one column and two rows
@@ -20,19 +18,18 @@ use native.Mathlib.Omega.{arith}
 use native.Mathlib.Numerals.{add-one}
 use borrow.Author.Tests.{eq-eqb, ne_eqb}
 use lib.Dec.{eqb}
+use Rattle.std.specs.Prelude.{None}
 use Rattle.basics.specs.Bounded.{pick}
 use Rattle.basics.proofs.Order.{le-or-lt}
 use Rattle.basics.proofs.Bools.{and_intro, or_left, or_right}
-use Rattle.basics.proofs.Bounded.{pick_yes, pick_no}
 use Rattle.floor.specs.Floor.{Floor, blocked, vertices, column, row}
 use Rattle.floor.proofs.Numbers.{column-le, row-le}
 use Rattle.floor.proofs.Cells.{blocked-left, blocked-above, blocked-right, blocked-below}
 use Rattle.sight.specs.Sight.{Segment, segment_of, segment, pinch, no_pinch_passed, still, sees}
 use Rattle.sight.specs.Obstacle.{is_clear, or_else, span, blockage, pinch_at, nearest_pinch, obstacle}
 use Rattle.sight.specs.Travel.{Ends, pinch_here, Common}
-use Rattle.sight.specs.declared.Obstacle.TheVariants.{Clear}
 use Rattle.sight.proofs.Symmetry.{back, sees_back}
-use Rattle.sight.proofs.First.{clear-is, else-clear, else-next, else-stay}
+use Rattle.sight.proofs.First.{else-clear}
 use Rattle.sight.proofs.Obstacles.{blockage-clear}
 use Rattle.sight.proofs.Common.{common-one, one-common}
 pub use Rattle.sight.proofs.Vertices.{point-le}
@@ -56,41 +53,24 @@ side_by_side false false c d p q = absurd (true≢false (sym p))
 neither-pair : (a b : Bool) → ((a && b && false) || (not a && not b && false)) ≡ false
 neither-pair a b = rw (and-false (a && b), and-false (not a && not b))
 
--- A pinch has the first two the same, the last two the same, and the pairs different.
-module _ (a b c d : Bool) where
-  pub first-differ : not (beq a b) ≡ true → false ≡ pinch_of a b c d
-  first-differ = cases a b c d
-    where
-      cases : (a b c d : Bool) → not (beq a b) ≡ true → false ≡ pinch_of a b c d
-      cases true true c d e = absurd (true≢false (sym e))
-      cases true false c d e = refl
-      cases false true c d e = refl
-      cases false false c d e = absurd (true≢false (sym e))
-
-  pub last-differ : not (beq c d) ≡ true → false ≡ pinch_of a b c d
-  last-differ = cases a b c d
-    where
-      cases : (a b c d : Bool) → not (beq c d) ≡ true → false ≡ pinch_of a b c d
-      cases a b true true e = absurd (true≢false (sym e))
-      cases a b false false e = absurd (true≢false (sym e))
-      cases a b true false e = sym (neither-pair a b)
-      cases a b false true e = sym (neither-pair a b)
-
-  pub pairs-differ : not (beq a b) ≡ false → not (beq c d) ≡ false → not (beq a c) ≡ pinch_of a b c d
-  pairs-differ = cases a b c d
-    where
-      cases : (a b c d : Bool) → not (beq a b) ≡ false → not (beq c d) ≡ false
-          → not (beq a c) ≡ pinch_of a b c d
-      cases true false c d e g = absurd (true≢false e)
-      cases false true c d e g = absurd (true≢false e)
-      cases true true true true e g = refl
-      cases true true true false e g = absurd (true≢false g)
-      cases true true false true e g = absurd (true≢false g)
-      cases true true false false e g = refl
-      cases false false true true e g = refl
-      cases false false true false e g = absurd (true≢false g)
-      cases false false false true e g = absurd (true≢false g)
-      cases false false false false e g = refl
+-- A pinch has the pairs different, the first two the same, and the last two the same.
+pub pinch-tests : (a b c d : Bool) → (not (beq a c) && (beq a b && beq c d)) ≡ pinch_of a b c d
+pinch-tests true true true true = refl
+pinch-tests true true true false = refl
+pinch-tests true true false true = refl
+pinch-tests true true false false = refl
+pinch-tests true false true true = refl
+pinch-tests true false true false = refl
+pinch-tests true false false true = refl
+pinch-tests true false false false = refl
+pinch-tests false true true true = refl
+pinch-tests false true true false = refl
+pinch-tests false true false true = refl
+pinch-tests false true false false = refl
+pinch-tests false false true true = refl
+pinch-tests false false true false = refl
+pinch-tests false false false true = refl
+pinch-tests false false false false = refl
 
 module _ (f : Floor) (x y : ℕ) where
   sides : (blocked f x y || blocked f (suc x) (suc y)) ≡ true → (blocked f (suc x) y || blocked f x (suc y)) ≡ true
@@ -138,11 +118,11 @@ module _ (f : Floor) (x0 y0 x1 y1 : ℕ) (e : Ends f.wide f.high x0 y0 x1 y1) wh
   pub obstacle-sees : is_clear (obstacle f t) ≡ sees f t
   unfolding obstacle sees
   obstacle-sees =
-      else-clear (blockage f t) (pick (still t) Clear (nearest_pinch f t))
+      else-clear (blockage f t) (pick (still t) None (nearest_pinch f t))
       ∙ ap₂ ◌&&◌ (blockage-clear f x0 y0 x1 y1 e)
       (or-clear (still t) ∙ ap (λ b. still t || b) (nearest-clear f x0 y0 x1 y1 e))
     where
-      or-clear : (b : Bool) → is_clear (pick b Clear (nearest_pinch f t)) ≡ (b || is_clear (nearest_pinch f t))
+      or-clear : (b : Bool) → is_clear (pick b None (nearest_pinch f t)) ≡ (b || is_clear (nearest_pinch f t))
       or-clear true = refl
       or-clear false = refl
 
@@ -167,23 +147,6 @@ module _ (f : Floor) (a b : ℕ) (la : a < vertices f.wide f.high) (lb : b < ver
   unfolding segment
   obstacle-sees-segment =
       obstacle-sees f (column f.wide a) (row f.wide a) (column f.wide b) (row f.wide b) on-floor
-
--- `obstacle` by what the code finds first.
-module _ (f : Floor) (s : Segment) where
-  pub obstacle-blocked : is_clear (blockage f s) ≡ false → blockage f s ≡ obstacle f s
-  unfolding obstacle
-  obstacle-blocked h = sym (else-stay (blockage f s) (pick (still s) Clear (nearest_pinch f s)) h)
-
-  module _ (h : is_clear (blockage f s) ≡ true) where
-    else-pinch : obstacle f s ≡ pick (still s) Clear (nearest_pinch f s)
-    unfolding obstacle
-    else-pinch = else-next (blockage f s) (pick (still s) Clear (nearest_pinch f s)) (clear-is (blockage f s) h)
-
-    pub obstacle-still : still s ≡ true → Clear ≡ obstacle f s
-    obstacle-still e = sym (else-pinch ∙ pick_yes (still s) Clear (nearest_pinch f s) e)
-
-    pub obstacle-pinch : still s ≡ false → nearest_pinch f s ≡ obstacle f s
-    obstacle-pinch e = sym (else-pinch ∙ pick_no (still s) Clear (nearest_pinch f s) e)
 
 module _ (x0 y0 x1 y1 : ℕ) where
   pub still-yes : span x0 x1 ≡ 0 → span y0 y1 ≡ 0 → still (segment_of x0 y0 x1 y1) ≡ true

@@ -7,19 +7,18 @@
 --   crosses-..    == `Crosses` of the first row line, and of each line after it; the crossing is in the box of the
 --                    segment
 --   run-corner, run-across == `RunBetween` two crossings, where the second is a vertex, and where it is not
---   steep-..      == for a segment with more rows than columns, the crossing of the next row line, and the cells
---                    entered in a row
---   Along f s r first c == the invariant of the loop over the columns of a row: from `first` on, no cell before c is in
---                    the way
---   along-..      == `Along` at the start of the loop, past an open cell, at a blocked one, and at the end
+--   run-found     == what the cells of a row's run hold first is the row's obstacle
+--   steep-..      == for a segment with more rows than columns, the crossing of the next row line, and the row's
+--                    obstacle by its one cell or its two
 use Prim.Native.Nat.{ℕ, suc, ◌+◌, ◌-◌, ◌*◌, ◌/◌, ◌%◌, ◌≤◌, ◌<◌}
 use mathlib.Core.Path.{◌≡◌, refl, sym, ap, ◌∙◌}
-use mathlib.Core.Bool.{true, false, ◌&&◌, and-false}
+use mathlib.Core.Bool.{false, ◌&&◌, and-false}
 use mathlib.Core.Logic.{◌≢◌, ⊎_elim}
 use native.Mathlib.Omega.{arith}
 use native.Mathlib.Nat.{div-add-mod', mul-le-mul, le_of_mul-le-mul_left, lt_of_mul-lt-mul_left}
 use borrow.Author.Tests.{ltb-true, lt-ltb, le-ltb, leb-true, le-leb, lt-leb}
 use lib.Dec.{leb, ltb}
+use Rattle.std.specs.Prelude.{Option, Some, None}
 use Rattle.basics.specs.Bounded.{pick}
 use Rattle.basics.proofs.Order.{le-or-lt, eq-or-ne}
 use Rattle.basics.proofs.Bools.{iff-eq, and_intro, and_left, and_right}
@@ -37,10 +36,10 @@ use Rattle.sight.specs.Travel.{
   RunBetween,
 }
 use Rattle.sight.specs.declared.Obstacle.{Obstacle}
-use Rattle.sight.specs.declared.Obstacle.TheVariants.{Clear}
 use Rattle.sight.proofs.Enters.{enters_on}
 use Rattle.sight.proofs.Sees.{free-untouched, free-touched}
-use Rattle.sight.proofs.First.{clear-is, Looked, looked-skip, looked-rest, looked-more, looked-stop}
+use Rattle.sight.proofs.First.{first-none, first-hit}
+use Rattle.sight.proofs.Found.{Found}
 use Rattle.sight.proofs.Obstacles.{pick-not, cell-past}
 
 -- ---- the run of a row, over the spans
@@ -137,12 +136,7 @@ module _ {c rest c' rest' : ℕ} where
     needed = omega (arith, D.at, D.below);
   })
 
--- ---- the loop along the cells of a row
-
--- At column c: `first` is at most c, and no cell before c is in the way.
-pub record Along (f : Floor) (s : Segment) (r first c : ℕ) : Type 0 where
-  pub begun : first ≤ c
-  pub looked : Looked (span s.x0 s.x1) c (row_cell f s r)
+-- ---- the cells of a row
 
 module _ (f : Floor) (x0 y0 x1 y1 r : ℕ) (lr : r < span y0 y1) {first past : ℕ}
     (run : RowRun (segment_of x0 y0 x1 y1) r first past) where
@@ -152,50 +146,46 @@ module _ (f : Floor) (x0 y0 x1 y1 r : ℕ) (lr : r < span y0 y1) {first past : �
   abbrev n : ℕ
   n = span x0 x1
 
-  untouched : (c : ℕ) → c < n → (leb first c && ltb c past) ≡ false → row_cell f t r c ≡ Clear
+  untouched : (c : ℕ) → c < n → (leb first c && ltb c past) ≡ false → row_cell f t r c ≡ None
   untouched c l e =
       cell-past f t r c (free-untouched f t r c (sym (enters_on x0 y0 x1 y1 c r l lr) ∙ run.exact c l ∙ e))
 
-  pub along-start : Along f t r first first
-  along-start =
-      let h = run.ordered in
+  before : (c : ℕ) → c < first → row_cell f t r c ≡ None
+  before c l =
       let i = run.inside in
-      record {
-        begun = omega arith;
-        looked = looked-skip first (omega arith) (λ c l. untouched c (omega arith) (rw (lt-leb first c l)));
-      }
-
-  pub along-done : {c : ℕ} → Along f t r first c → past ≤ c → Clear ≡ row_obstacle f t r
-  unfolding row_obstacle
-  along-done {c} a g =
-      looked-rest a.looked (λ k m l.
-      untouched k l (rw (le-ltb k past (omega arith)) (and-false (leb first k))))
+      let h = run.ordered in
+      untouched c (omega arith) (rw (lt-leb first c l))
 
   -- The cell in a column from `first` to before `past` is in the way exactly where it is blocked.
-  module _ {c : ℕ} (a : Along f t r first c) (l : c < past) where
-    column-lt : c < n
-    column-lt = omega (arith, run.inside)
+  there : (c : ℕ) → first ≤ c → c < past → row_cell f t r c ≡ cell_there f t r c
+  unfolding cell_there row_cell
+  there c b l =
+      let i = cell_on x0 x1 c in
+      let j = cell_on y0 y1 r in
+      let k : c < n = omega (arith, run.inside) in
+      ap (λ b. pick b None (cell_at f i j))
+      (free-touched f t r c
+      (sym (enters_on x0 y0 x1 y1 c r k lr) ∙ run.exact c k
+      ∙ and_intro (leb first c) (ltb c past) (le-leb first c b) (lt-ltb c past l)))
+      ∙ sym (pick-not (blocked f (suc i) (suc j)) (cell_at f i j) None)
 
-    there : row_cell f t r c ≡ cell_there f t r c
-    unfolding cell_there row_cell
-    there =
-        let i = cell_on x0 x1 c in
-        let j = cell_on y0 y1 r in
-        ap (λ b. pick b Clear (cell_at f i j))
-        (free-touched f t r c
-        (sym (enters_on x0 y0 x1 y1 c r column-lt lr) ∙ run.exact c column-lt
-        ∙ and_intro (leb first c) (ltb c past) (le-leb first c a.begun) (lt-ltb c past l)))
-        ∙ sym (pick-not (blocked f (suc i) (suc j)) (cell_at f i j) Clear)
+  clear-to : (c : ℕ) → c ≤ past → ((k : ℕ) → first ≤ k → k < c → cell_there f t r k ≡ None) → (k : ℕ) → k < c
+      → row_cell f t r k ≡ None
+  clear-to c l h k m =
+      ⊎_elim (λ b. there k b (omega arith) ∙ h k b m) (λ b. before k b) (le-or-lt first k)
 
-    pub along-more : {o : Obstacle} → o ≡ cell_there f t r c → is_clear o ≡ true → Along f t r first (c + 1)
-    along-more {o} e d = record {
-      begun = omega (arith, a.begun);
-      looked = looked-more a.looked column-lt (there ∙ sym e ∙ clear-is o d);
-    }
-
-    pub along-stop : {o : Obstacle} → o ≡ cell_there f t r c → is_clear o ≡ false → o ≡ row_obstacle f t r
-    unfolding row_obstacle
-    along-stop {o} e d = looked-stop a.looked column-lt (there ∙ sym e) d
+  -- What the cells of the run hold first is the row's obstacle.
+  pub run-found : (o : Option Obstacle) → Found first past (cell_there f t r) o → o ≡ row_obstacle f t r
+  unfolding row_obstacle
+  run-found None h =
+      sym (first-none n (row_cell f t r) (λ k l.
+      ⊎_elim (λ b. clear-to past (omega arith) h k b)
+      (λ b. untouched k l (rw (le-ltb k past (omega arith)) (and-false (leb first k)))) (le-or-lt (suc k) past)))
+  run-found (Some y) h =
+      let c = h.0 in
+      let e = there c h.1 h.2 ∙ h.3 in
+      sym (first-hit n c (row_cell f t r) (omega (arith, run.inside, h.2)) (clear-to c (omega (arith, h.2)) h.4)
+      (ap is_clear e) ∙ e)
 
 -- ---- one cell in a row or two
 
@@ -208,27 +198,68 @@ module _ {dx dy r c rest u v : ℕ} (C : Crosses dx dy r c rest) (p : u ≡ dx) 
   steep-next s l = record { at = omega (arith, C.at); below = omega (arith, C.below) }
 
 -- The cells entered in a row of such a segment, from its first column on: one or two.
-pub record Begun (s : Segment) (r first : ℕ) : Type 0 where
-  pub past : ℕ
-  pub some : first < past
-  pub few : past ≤ first + 1 + 1
-  pub run : RowRun s r first past
+module _ (f : Floor) (x0 y0 x1 y1 r : ℕ) {c rest : ℕ} (wide : 1 ≤ span x0 x1) (steep : span x0 x1 < span y0 y1)
+    (lr : r < span y0 y1) (C : Crosses (span x0 x1) (span y0 y1) r c rest) where
+  abbrev s : Segment
+  s = segment_of x0 y0 x1 y1
 
-one_cell : {s : Segment} {r c : ℕ} → RowRun s r c (c + 1) → Begun s r c
-one_cell {s} {r} {c} R = record { past = c + 1; some = omega arith; few = omega arith; run = R }
+  abbrev dx : ℕ
+  dx = span x0 x1
 
-two_cells : {s : Segment} {r c : ℕ} → RowRun s r c (c + 1 + 1) → Begun s r c
-two_cells {s} {r} {c} R = record { past = c + 1 + 1; some = omega arith; few = omega arith; run = R }
+  abbrev dy : ℕ
+  dy = span y0 y1
 
-pub steep-begun : (x0 y0 x1 y1 r : ℕ) {c rest : ℕ} → 1 ≤ span x0 x1 → span x0 x1 < span y0 y1 → r < span y0 y1
-    → Crosses (span x0 x1) (span y0 y1) r c rest → Begun (segment_of x0 y0 x1 y1) r c
-steep-begun x0 y0 x1 y1 r {c} {rest} p q lr C =
-    let dx = span x0 x1 in
-    let dy = span y0 y1 in
-    ⊎_elim
-    (λ h.
-    let D = steep-next C refl refl q h in
-    ⊎_elim (λ z. one_cell (run-corner z x0 y0 x1 y1 r lr C D))
-    (λ z. two_cells (run-across z x0 y0 x1 y1 r lr C D)) (eq-or-ne (rest + dx - dy) 0))
-    (λ h. one_cell (run-across (λ z. omega arith) x0 y0 x1 y1 r lr C (steep-same C refl refl h)))
-    (le-or-lt dy (rest + dx))
+  abbrev G : ℕ → Option Obstacle
+  G = cell_there f s r
+
+  same-run : rest + dx < dy → RowRun s r c (c + 1)
+  same-run h = run-across (λ z. omega (arith, wide)) x0 y0 x1 y1 r lr C (steep-same C refl refl h)
+
+  corner-run : dy ≤ rest + dx → rest + dx - dy ≡ 0 → RowRun s r c (c + 1)
+  corner-run h z = run-corner z x0 y0 x1 y1 r lr C (steep-next C refl refl steep h)
+
+  next-run : dy ≤ rest + dx → rest + dx - dy ≢ 0 → RowRun s r c (c + 1 + 1)
+  next-run h z = run-across z x0 y0 x1 y1 r lr C (steep-next C refl refl steep h)
+
+  pub steep-inside : c < dx
+  steep-inside =
+      ⊎_elim
+      (λ h. ⊎_elim (λ z. omega (arith, (corner-run h z).inside)) (λ z. omega (arith, (next-run h z).inside))
+      (eq-or-ne (rest + dx - dy) 0))
+      (λ h. omega (arith, (same-run h).inside)) (le-or-lt dy (rest + dx))
+
+  pub steep-second-inside : dy ≤ rest + dx → rest + dx - dy ≢ 0 → c + 1 < dx
+  steep-second-inside h z = omega (arith, (next-run h z).inside)
+
+  at-first : {past : ℕ} → c < past → {y : Obstacle} → G c ≡ Some y → Found c past G (Some y)
+  at-first l e = (c, omega arith, l, e, λ k a b. absurd (omega arith))
+
+  -- What is in the way in the first cell is the row's obstacle.
+  pub steep-first : {y : Obstacle} → G c ≡ Some y → Some y ≡ row_obstacle f s r
+  steep-first {y} e =
+      ⊎_elim
+      (λ h. ⊎_elim (λ z. run-found f x0 y0 x1 y1 r lr (corner-run h z) (Some y) (at-first (omega arith) e))
+      (λ z. run-found f x0 y0 x1 y1 r lr (next-run h z) (Some y) (at-first (omega arith) e))
+      (eq-or-ne (rest + dx - dy) 0))
+      (λ h. run-found f x0 y0 x1 y1 r lr (same-run h) (Some y) (at-first (omega arith) e)) (le-or-lt dy (rest + dx))
+
+  none-first : G c ≡ None → (k : ℕ) → c ≤ k → k < c + 1 → G k ≡ None
+  none-first e k a b = let q : k ≡ c = omega arith in ap G q ∙ e
+
+  pub steep-same-clear : G c ≡ None → rest + dx < dy → None ≡ row_obstacle f s r
+  steep-same-clear e h = run-found f x0 y0 x1 y1 r lr (same-run h) None (none-first e)
+
+  pub steep-corner-clear : G c ≡ None → dy ≤ rest + dx → rest + dx - dy ≡ 0 → None ≡ row_obstacle f s r
+  steep-corner-clear e h z = run-found f x0 y0 x1 y1 r lr (corner-run h z) None (none-first e)
+
+  -- Where the first cell is not in the way, the second tells.
+  pub steep-second : {o : Option Obstacle} → G c ≡ None → dy ≤ rest + dx → rest + dx - dy ≢ 0 → o ≡ G (c + 1)
+      → o ≡ row_obstacle f s r
+  steep-second {o} e h z q = run-found f x0 y0 x1 y1 r lr (next-run h z) o (either o q)
+    where
+      either : (p : Option Obstacle) → p ≡ G (c + 1) → Found c (c + 1 + 1) G p
+      either None q =
+          λ k a b.
+          ⊎_elim (λ l. none-first e k a (omega arith)) (λ l. let i : k ≡ c + 1 = omega arith in ap G i ∙ sym q)
+          (le-or-lt (suc k) (c + 1))
+      either (Some y) q = (c + 1, omega arith, omega arith, sym q, λ k a b. none-first e k a b)

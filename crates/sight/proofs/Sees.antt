@@ -3,7 +3,7 @@
 --
 --   upright-sees, level-sees == `unblocked` of a segment along a grid line: every step is free, since it enters no cell
 --   slanted-sees             == `unblocked` of a slanted segment: every row of its box is free, since it has no steps
---   not-and-.., free-..      == whether a step is free, from the cells that the code reads; whether a cell is
+--   free-..                  == whether a cell is free, from the cell that the code reads
 use Prim.Native.Nat.{ℕ, suc, ◌≤◌, ◌<◌}
 use mathlib.Core.Path.{◌≡◌, refl, sym, ◌∙◌}
 use mathlib.Core.Bool.{Bool, true, false, ◌&&◌, ◌||◌, not, or-true, and-true, and-false}
@@ -134,14 +134,6 @@ module _ (f : Floor) (x0 y0 x1 y1 : ℕ) (e : Ends f.wide f.high x0 y0 x1 y1) wh
       (and-true (no_cell_entered f s) ∙ iff-eq (no_cell_entered f s) (every (span y0 y1) (row_free f s)) to-rows from-rows)
 
 -- ---- from the code's readings
-
--- Not both cells are blocked where the first is open, or the second.
-module _ (a b : Bool) where
-  pub not-and-first : a ≡ false → true ≡ not (a && b)
-  not-and-first e = rw e
-
-  pub not-and-second : a ≡ true → not b ≡ not (a && b)
-  not-and-second e = rw e
 
 -- A cell that is not entered is free, and one that is entered is free where it is not blocked.
 module _ (f : Floor) (s : Segment) (r c : ℕ) where

@@ -5,7 +5,7 @@
 --   index_on a b i == the k for which cell i is the k-th from a towards b
 --   between-..     == the cells between a and b
 --   every-on       == a test of every cell between a and b, made in order from a towards b
---   line-.., start-.. == the far line of a cell, and the line where its step begins, as the code computes them
+--   start-..       == the line where a step begins, as the code computes it
 use Prim.Native.Nat.{ℕ, suc, ◌+◌, ◌-◌, ◌≤◌, ◌<◌, min, max}
 use mathlib.Core.Path.{◌≡◌, refl, sym}
 use mathlib.Core.Bool.{Bool, true, false, ◌||◌, not}
@@ -132,13 +132,6 @@ module _ (n a b : ℕ) (p : ℕ → Bool) (la : a ≤ n) (lb : b ≤ n) where
       rw (cell_on-between a b k l) at (every-at n tested e (cell_on a b k) (cell_on-lt a b k n la lb l))))
       (λ e. every-all n tested (λ k l. tested-of (every-at (span a b) travelled e) k (between a b k) refl))
 
--- The far line of a cell, as the code computes it.
-pub line-up : (a b k : ℕ) → a ≤ b → a + k + 1 ≡ suc (cell_on a b k)
-line-up a b k h = omega (arith, cell_on-up a b k h)
-
-pub line-down : (a b k : ℕ) → b < a → k < span a b → a - k ≡ suc (cell_on a b k)
-line-down a b k h l = omega (arith, cell_on-down a b k h, span-down a b (omega arith))
-
 -- The line where a step begins, as the code computes it.
 pub start_up : (a b k : ℕ) → a ≤ b → a + k ≡ start_on a b k
 unfolding start_on
@@ -151,7 +144,3 @@ start-down a b k h = sym (rw (lt-leb a b h, start_on))
 pub start_first : (a b : ℕ) → start_on a b 0 ≡ a
 start_first a b =
     ⊎_elim (λ h. omega (arith, start_up a b 0 h)) (λ h. omega (arith, start-down a b 0 h)) (le-or-lt a b)
-
-pub start-le : (a b k n : ℕ) → a ≤ n → b ≤ n → k < span a b → start_on a b k ≤ n
-start-le a b k n p q l =
-    ⊎_elim (λ h. omega (arith, start_up a b k h, span-up a b h)) (λ h. omega (arith, start-down a b k h)) (le-or-lt a b)

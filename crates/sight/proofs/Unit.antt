@@ -7,7 +7,7 @@
 --                                             two rows
 --   two_cells                              == `two-columns` and `two-rows` in one formula, by the cells that the code
 --                                             reads
---   unit-clear                             == `blockage` is Clear where `unblocked`
+--   unit-clear                             == `blockage` is None where `unblocked`
 --   upright-step, level-step, slanted-cell == `blockage` of a unit segment that is blocked: its one step, or its one
 --                                             cell
 use Prim.Native.Nat.{ℕ, suc, ◌+◌, ◌-◌, ◌≤◌, max}
@@ -15,6 +15,7 @@ use mathlib.Core.Path.{◌≡◌, refl, sym, ap, ap₂, ◌∙◌}
 use mathlib.Core.Bool.{Bool, true, false, ◌&&◌, ◌||◌, not, and-true, and_comm}
 use mathlib.Core.Logic.{⊎_elim, ◌≢◌}
 use native.Mathlib.Omega.{arith}
+use Rattle.std.specs.Prelude.{Option, None}
 use Rattle.basics.specs.Bounded.{every}
 use Rattle.basics.proofs.Order.{le-or-lt}
 use Rattle.floor.specs.Floor.{Floor, blocked}
@@ -33,7 +34,6 @@ use Rattle.sight.specs.Travel.{
   row_obstacle,
 }
 use Rattle.sight.specs.declared.Obstacle.{Obstacle}
-use Rattle.sight.specs.declared.Obstacle.TheVariants.{Clear}
 use Rattle.sight.proofs.Travel.{cell_on-up, cell_on-down, start_first}
 use Rattle.sight.proofs.Sees.{upright-sees, level-sees, slanted-sees}
 use Rattle.sight.proofs.Symmetry.{unblocked-self}
@@ -90,7 +90,7 @@ every_two : (n : ℕ) (p : ℕ → Bool) → n ≡ 2 → every n p ≡ (p 0 && p
 unfolding every
 every_two n p e = rw e
 
-first_one : (n : ℕ) (F : ℕ → Obstacle) → n ≡ 1 → first n F ≡ F 0
+first_one : (n : ℕ) (F : ℕ → Option Obstacle) → n ≡ 1 → first n F ≡ F 0
 unfolding first
 first_one n F e = rw e
 
@@ -173,7 +173,7 @@ module _ (f : Floor) (x0 y0 x1 y1 : ℕ) (e : Ends f.wide f.high x0 y0 x1 y1) wh
 
   -- ---- what is in the way
 
-  pub unit-clear : unblocked f s ≡ true → Clear ≡ blockage f s
+  pub unit-clear : unblocked f s ≡ true → None ≡ blockage f s
   unit-clear t = sym (clear-is (blockage f s) (blockage-clear f x0 y0 x1 y1 e ∙ t))
 
   module _ (shut : unblocked f s ≡ false) where

@@ -3,3 +3,4 @@ pub mod Obstacle
 pub mod Rows
 pub mod Question
 pub mod Travel
+pub mod Drawn

@@ -9,49 +9,45 @@
 --                            nothing is in the way
 --   sight_case s           == `obstacle_number` of what is in the way; at a refusal its number
 --   sight_place s          == `obstacle_place` of what is in the way; 0 at a refusal
-use Rattle.std.specs.Prelude.{ℕ, List}
+use Rattle.std.specs.Prelude.{ℕ, List, Option, Some, None, Result, Ok, Err}
 use Rattle.basics.specs.Bounded.{pick}
 use Rattle.floor.specs.Floor.{floor_of}
 use Rattle.floor.specs.Refusals.{refusal_number, floor_shape, end_shape, and_then}
-use Rattle.floor.specs.declared.Shape.{Shape}
-use Rattle.floor.specs.declared.Shape.TheVariants.{Good, Refused as BadShape}
+use Rattle.floor.specs.declared.Refusal.{Refusal}
 use Rattle.sight.specs.Sight.{segment}
 use Rattle.sight.specs.Obstacle.{is_clear, obstacle}
 use Rattle.sight.specs.declared.Obstacle.{Obstacle}
-use Rattle.sight.specs.declared.Obstacle.TheVariants.{Clear, Cell, Step, Pinch}
-use Rattle.sight.specs.declared.Sight.{Sight}
-use Rattle.sight.specs.declared.Sight.TheVariants.{Answered, Refused}
+use Rattle.sight.specs.declared.Obstacle.TheVariants.{Cell, Step, Pinch}
 
--- The answer s where the shape is good, else the refusal.
-abbrev pub or_refused : Shape → Sight → Sight
-or_refused Good s = s
-or_refused (BadShape r) s = Refused r
+-- The answer to the sight question: what is in the way, if anything is, or the refusal.
+abbrev pub Sight : Type 0
+Sight = Result (Option Obstacle) Refusal
 
 unfoldable pub sight_answer : ℕ → ℕ → List ℕ → ℕ → ℕ → Sight
 sight_answer w h l a b =
-    or_refused (and_then (floor_shape w h l) (and_then (end_shape w h a) (end_shape w h b)))
-    (Answered (obstacle (floor_of w h l) (segment w a b)))
+    and_then (and_then (floor_shape w h l) (and_then (end_shape w h a) (end_shape w h b)))
+    (Ok (obstacle (floor_of w h l) (segment w a b)))
 
 abbrev pub sight_number : Sight → ℕ
-sight_number (Answered o) = pick (is_clear o) 0 100
-sight_number (Refused r) = refusal_number r
+sight_number (Ok o) = pick (is_clear o) 0 100
+sight_number (Err r) = refusal_number r
 
-abbrev pub obstacle_number : Obstacle → ℕ
-obstacle_number Clear = 0
-obstacle_number (Cell c) = 101
-obstacle_number (Step v) = 102
-obstacle_number (Pinch v) = 103
+abbrev pub obstacle_number : Option Obstacle → ℕ
+obstacle_number None = 0
+obstacle_number (Some (Cell c)) = 101
+obstacle_number (Some (Step v)) = 102
+obstacle_number (Some (Pinch v)) = 103
 
-abbrev pub obstacle_place : Obstacle → ℕ
-obstacle_place Clear = 0
-obstacle_place (Cell c) = c.0
-obstacle_place (Step v) = v.0
-obstacle_place (Pinch v) = v.0
+abbrev pub obstacle_place : Option Obstacle → ℕ
+obstacle_place None = 0
+obstacle_place (Some (Cell c)) = c.0
+obstacle_place (Some (Step v)) = v.0
+obstacle_place (Some (Pinch v)) = v.0
 
 abbrev pub sight_case : Sight → ℕ
-sight_case (Answered o) = obstacle_number o
-sight_case (Refused r) = refusal_number r
+sight_case (Ok o) = obstacle_number o
+sight_case (Err r) = refusal_number r
 
 abbrev pub sight_place : Sight → ℕ
-sight_place (Answered o) = obstacle_place o
-sight_place (Refused r) = 0
+sight_place (Ok o) = obstacle_place o
+sight_place (Err r) = 0

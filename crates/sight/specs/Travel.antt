@@ -6,10 +6,6 @@
 --   Apart x0 y0 x1 y1 c r  == the ends (x0, y0) and (x1, y1) are c columns and r rows apart
 --   Narrow c r             == c columns and r rows are what a move leads: one column or one row, and at most two of the
 --                             other
---   OnLine w h u p a b     == a segment from a to b along column line p, where u holds, or else along row line p, is on
---                             the floor
---   line_step f u p a b k  == the k-th step from a towards b along column line p, where u holds, or else along row line
---                             p, where it is shut; else Clear
 --   upright_to f x y, level_to f x y == the step along column line x that ends on row line y is not shut, and the step
 --                            along row line y that ends on column line x
 --   upright_free f x a b k, level_free f y a b k == the k-th step from a towards b along column line x is not shut, and
@@ -18,9 +14,9 @@
 --   cell_free f s r c, row_free f s r == the cell c columns and r rows from the first end is open or not entered; each
 --                            cell of the row r rows from it is
 --   row_cell f s r c, row_obstacle f s r == the cell c columns and r rows from the first end where it is blocked and
---                            entered, else Clear; the first such cell of the row r rows from it
+--                            entered, else None; the first such cell of the row r rows from it
 --   cell_there f s r c     == the cell c columns and r rows from the first end where it is blocked, entered or not;
---                             else Clear
+--                             else None
 --   RowRun s r first past  == the cells that s enters in the row r rows from its first end are those from column
 --                             `first` to before column `past`, counted from that end
 --   Crosses dx dy r c rest == a segment dx columns wide and dy rows high crosses the row line r rows from its first end
@@ -29,18 +25,17 @@
 --                            where a row is worth `step` columns and part / dy of a column
 --   RunBetween c rest c' rest' past == a segment that crosses the two lines of a row at c and rest, and at c' and
 --                            rest', enters there the cells from column c to before column `past`
---   pinch_here f x y       == the vertex (x, y) where it is a pinch, else Clear
+--   pinch_here f x y       == the vertex (x, y) where it is a pinch, else None
 --   pinch_there f s c r    == the vertex c columns and r rows from the first end where it is a pinch, passed or not;
---                             else Clear
+--                             else None
 --   Divides a b            == b is a multiple of a
 --   Common a b n           == n is the greatest common divisor of a and b
-use Rattle.std.specs.Prelude.{ℕ, suc, ◌+◌, ◌*◌, ◌≤◌, ◌<◌, ◌≡◌, ◌⊎◌, Bool, true, false, ◌&&◌, not, leb, ltb}
+use Rattle.std.specs.Prelude.{ℕ, suc, ◌+◌, ◌*◌, ◌≤◌, ◌<◌, ◌≡◌, ◌⊎◌, Bool, ◌&&◌, not, leb, ltb, Option, None}
 use Rattle.basics.specs.Bounded.{pick, every}
 use Rattle.floor.specs.Floor.{Floor, blocked}
 use Rattle.sight.specs.Sight.{Segment, segment_of, enters, upright_open, level_open, pinch}
-use Rattle.sight.specs.Obstacle.{cell_at, span, cell_on, start_on, first, upright_step, level_step, pinch_at}
+use Rattle.sight.specs.Obstacle.{cell_at, span, cell_on, start_on, first, pinch_at}
 use Rattle.sight.specs.declared.Obstacle.{Obstacle}
-use Rattle.sight.specs.declared.Obstacle.TheVariants.{Clear}
 
 pub record Ends (w h x0 y0 x1 y1 : ℕ) : Type 0 where
   pub x_first : x0 ≤ w
@@ -56,14 +51,6 @@ pub record Narrow (columns rows : ℕ) : Type 0 where
   pub columns_few : columns ≤ 2
   pub rows_few : rows ≤ 2
   pub one : (columns ≡ 1) ⊎ (rows ≡ 1)
-
-pub record OnLine (w h : ℕ) (upright : Bool) (at a b : ℕ) : Type 0 where
-  pub column : upright ≡ true → (at ≤ w) × (a ≤ h) × (b ≤ h)
-  pub row : upright ≡ false → (at ≤ h) × (a ≤ w) × (b ≤ w)
-  pub small : (a ≤ 127) × (b ≤ 127)
-
-abbrev pub line_step : Floor → Bool → ℕ → ℕ → ℕ → ℕ → Obstacle
-line_step f upright at a b k = pick upright (upright_step f at a b k) (level_step f at a b k)
 
 -- `upright_open f x j` is `upright_to f x (suc j)`, and `level_open f i y` is `level_to f (suc i) y`.
 abbrev pub upright_to : Floor → ℕ → ℕ → Bool
@@ -89,16 +76,16 @@ cell_free f s r c =
 unfoldable pub row_free : Floor → Segment → ℕ → Bool
 row_free f s r = every (span s.x0 s.x1) (cell_free f s r)
 
-unfoldable pub row_cell : Floor → Segment → ℕ → ℕ → Obstacle
-row_cell f s r c = pick (cell_free f s r c) Clear (cell_at f (cell_on s.x0 s.x1 c) (cell_on s.y0 s.y1 r))
+unfoldable pub row_cell : Floor → Segment → ℕ → ℕ → Option Obstacle
+row_cell f s r c = pick (cell_free f s r c) None (cell_at f (cell_on s.x0 s.x1 c) (cell_on s.y0 s.y1 r))
 
-unfoldable pub cell_there : Floor → Segment → ℕ → ℕ → Obstacle
+unfoldable pub cell_there : Floor → Segment → ℕ → ℕ → Option Obstacle
 cell_there f s r c =
     let i = cell_on s.x0 s.x1 c in
     let j = cell_on s.y0 s.y1 r in
-    pick (blocked f (suc i) (suc j)) (cell_at f i j) Clear
+    pick (blocked f (suc i) (suc j)) (cell_at f i j) None
 
-unfoldable pub row_obstacle : Floor → Segment → ℕ → Obstacle
+unfoldable pub row_obstacle : Floor → Segment → ℕ → Option Obstacle
 row_obstacle f s r = first (span s.x0 s.x1) (row_cell f s r)
 
 pub record RowRun (s : Segment) (r first past : ℕ) : Type 0 where
@@ -124,10 +111,10 @@ RunBetween c rest c' rest' past =
 
 -- ---- pinches
 
-unfoldable pub pinch_here : Floor → ℕ → ℕ → Obstacle
-pinch_here f x y = pick (pinch f x y) (pinch_at f x y) Clear
+unfoldable pub pinch_here : Floor → ℕ → ℕ → Option Obstacle
+pinch_here f x y = pick (pinch f x y) (pinch_at f x y) None
 
-unfoldable pub pinch_there : Floor → Segment → ℕ → ℕ → Obstacle
+unfoldable pub pinch_there : Floor → Segment → ℕ → ℕ → Option Obstacle
 pinch_there f s c r = pinch_here f (start_on s.x0 s.x1 c) (start_on s.y0 s.y1 r)
 
 pub record Divides (a b : ℕ) : Type 0 where

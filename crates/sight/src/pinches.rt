@@ -1,74 +1,42 @@
 // The pinches that a segment passes, looked at in turn from the first end.
 ghost use Rattle.std.specs.Prelude.{◌≡◌, ◌+◌, ◌≤◌};
-ghost use Rattle.floor.specs.Floor.{floor_of};
-ghost use Rattle.floor.specs.Known.{Sized};
-ghost use Rattle.sight.specs.Sight.{segment_of, pinch};
+ghost use Rattle.basics.specs.Bounded.{pick};
+ghost use Rattle.floor.specs.Plan.{floor_on};
+ghost use Rattle.sight.specs.Sight.{pinch, still};
 ghost use Rattle.sight.specs.Obstacle.{span, start_on, or_else, nearest_pinch};
-ghost use Rattle.sight.specs.Travel.{Ends, Apart, Common, pinch_here, pinch_there};
+ghost use Rattle.sight.specs.Travel.{Common, pinch_here, pinch_there};
+ghost use Rattle.sight.specs.Drawn.{floor_under, drawn};
 
 use crate::Obstacle;
+use crate::segment::Segment;
+use floor::FloorPlan;
 
 // Whether the vertex (x, y) is a pinch. No vertex of the floor's edge is: two cells outside lie side by side there.
 // Elsewhere all four cells are read in any case, so that no branch depends on a cell.
-pub fn pinch_at(w: usize, h: usize, map: &[u8], x: usize, y: usize) -> bool
-    requires { Sized w h map.now × (x ≤ w) × (y ≤ h) }
-    ensures { result ≡ pinch (floor_of w h map.now) x y }
+pub fn pinch_at(floor: FloorPlan<'_>, x: usize, y: usize) -> bool
+    requires { (x ≤ floor.w) × (y ≤ floor.h) }
+    ensures { result ≡ pinch (floor_on floor.entry) x y }
 {
-    if x == 0 {
+    if x == 0 || y == 0 || floor.w <= x || floor.h <= y {
         return false;
     }
-    if y == 0 {
-        return false;
-    }
-    if w <= x {
-        return false;
-    }
-    if h <= y {
-        return false;
-    }
-    let a = floor::blocked_at(w, h, map, x, y);
-    let b = floor::blocked_at(w, h, map, x + 1, y + 1);
-    let c = floor::blocked_at(w, h, map, x + 1, y);
-    let d = floor::blocked_at(w, h, map, x, y + 1);
-    if a != b {
-        return false;
-    }
-    if c != d {
-        return false;
-    }
-    a != c
+    let a = floor.blocked_at(x, y);
+    let b = floor.blocked_at(x + 1, y + 1);
+    let c = floor.blocked_at(x + 1, y);
+    let d = floor.blocked_at(x, y + 1);
+    a != c && a == b && c == d
 }
 
 // The vertex (x, y) as an answer, where it is a pinch.
-fn pinch_here(w: usize, h: usize, map: &[u8], x: usize, y: usize) -> Obstacle
-    requires { Sized w h map.now × (x ≤ w) × (y ≤ h) }
-    ensures { result ≡ pinch_here (floor_of w h map.now) x y }
+#[tactic(auto, unfolding(crate::specs::Travel::pinch_here))]
+fn pinch_here(floor: FloorPlan<'_>, x: usize, y: usize) -> Option<Obstacle>
+    requires { (x ≤ floor.w) × (y ≤ floor.h) }
+    ensures { result ≡ pinch_here (floor_on floor.entry) x y }
 {
-    if pinch_at(w, h, map, x, y) {
-        return Obstacle::Pinch(floor::vertex_at(w, h, x, y));
+    if pinch_at(floor, x, y) {
+        return Some(Obstacle::Pinch(floor::vertex_at(floor.w, floor.h, x, y)));
     }
-    Obstacle::Clear
-}
-
-// The first end, where it is a pinch, else the last.
-pub fn ends_pinch(
-    w: usize,
-    h: usize,
-    map: &[u8],
-    x0: usize,
-    y0: usize,
-    x1: usize,
-    y1: usize,
-) -> Obstacle
-    requires { Sized w h map.now × Ends w h x0 y0 x1 y1 }
-    ensures { result ≡ or_else (pinch_here (floor_of w h map.now) x0 y0)
-        (pinch_here (floor_of w h map.now) x1 y1) }
-{
-    let found = pinch_here(w, h, map, x0, y0);
-    if !crate::is_clear(found) {
-        return found;
-    }
-    pinch_here(w, h, map, x1, y1)
+    None
 }
 
 // The greatest number that divides both, by Euclid's method.
@@ -86,7 +54,8 @@ fn common(a: usize, b: usize) -> usize
 }
 
 // The line k lines from a towards b.
-fn point_at(a: usize, b: usize, k: usize) -> usize
+#[tactic(auto, unfolding(crate::specs::Obstacle::span, crate::specs::Obstacle::start_on))]
+pub fn point_at(a: usize, b: usize, k: usize) -> usize
     requires { (a ≤ 127) × (b ≤ 127) × (k ≤ span a b) }
     ensures { result ≡ start_on a b k }
 {
@@ -96,55 +65,61 @@ fn point_at(a: usize, b: usize, k: usize) -> usize
     a - k
 }
 
-// The vertex c columns and r rows from the first end, where it is a pinch.
-fn pinch_there(
-    w: usize,
-    h: usize,
-    map: &[u8],
-    x0: usize,
-    y0: usize,
-    x1: usize,
-    y1: usize,
-    c: usize,
-    r: usize,
-) -> Obstacle
-    requires { Sized w h map.now × Ends w h x0 y0 x1 y1 × (c ≤ span x0 x1) × (r ≤ span y0 y1) }
-    ensures { result ≡ pinch_there (floor_of w h map.now) (segment_of x0 y0 x1 y1) c r }
-{
-    pinch_here(w, h, map, point_at(x0, x1, c), point_at(y0, y1, r))
-}
-
-// The nearest pinch, by a look at the vertices passed and no others: they lie as far apart as the ends are, divided by
-// the greatest number that divides both columns and rows.
-pub fn nearest_pinch(
-    w: usize,
-    h: usize,
-    map: &[u8],
-    x0: usize,
-    y0: usize,
-    x1: usize,
-    y1: usize,
-    columns: usize,
-    rows: usize,
-) -> Obstacle
-    requires { Sized w h map.now × Ends w h x0 y0 x1 y1 × Apart x0 y0 x1 y1 columns rows
-        × (1 ≤ columns + rows) }
-    ensures { result ≡ nearest_pinch (floor_of w h map.now) (segment_of x0 y0 x1 y1) }
-{
-    let n = common(columns, rows);
-    let across = columns / n;
-    let down = rows / n;
-    let mut c: usize = 0;
-    let mut r: usize = 0;
-    let mut k: usize = 0;
-    while k <= n {
-        let found = pinch_there(w, h, map, x0, y0, x1, y1, c, r);
-        if !crate::is_clear(found) {
-            return found;
+impl<'a> Segment<'a> {
+    // The first end, where it is a pinch, else the last.
+    fn ends_pinch(self) -> Option<Obstacle>
+        ensures { result ≡ or_else (pinch_here (floor_under self.entry) self.entry.x0 self.entry.y0)
+            (pinch_here (floor_under self.entry) self.entry.x1 self.entry.y1) }
+    {
+        match pinch_here(self.floor, self.x0, self.y0) {
+            None => pinch_here(self.floor, self.x1, self.y1),
+            found => found,
         }
-        c += across;
-        r += down;
-        k += 1;
     }
-    Obstacle::Clear
+
+    // The vertex c columns and r rows from the first end, where it is a pinch.
+    #[tactic(auto, unfolding(crate::specs::Travel::pinch_there, crate::specs::Obstacle::span, crate::specs::Obstacle::start_on))]
+    fn pinch_there(self, c: usize, r: usize) -> Option<Obstacle>
+        requires { (c ≤ self.columns) × (r ≤ self.rows) }
+        ensures { result ≡ pinch_there (floor_under self.entry) (drawn self.entry) c r }
+    {
+        pinch_here(
+            self.floor,
+            point_at(self.x0, self.x1, c),
+            point_at(self.y0, self.y1, r),
+        )
+    }
+
+    // The nearest pinch, by a look at the vertices passed and no others: they lie as far apart as the ends are, divided
+    // by the greatest number that divides both columns and rows.
+    fn nearest_pinch(self) -> Option<Obstacle>
+        requires { 1 ≤ self.columns + self.rows }
+        ensures { result ≡ nearest_pinch (floor_under self.entry) (drawn self.entry) }
+    {
+        let n = common(self.columns, self.rows);
+        let across = self.columns / n;
+        let down = self.rows / n;
+        // Kept: tried, the proof did not close: `find_map`, whose closure may be called only up to n.
+        for k in 0..n + 1 {
+            if let Some(found) = self.pinch_there(k * across, k * down) {
+                return Some(found);
+            }
+        }
+        None
+    }
+
+    // The pinch nearest the first end, of those passed. A segment of no length passes none. One of at most one column
+    // and one row passes its ends alone.
+    pub fn pinch(self) -> Option<Obstacle>
+        ensures { result
+            ≡ pick (still (drawn self.entry)) None (nearest_pinch (floor_under self.entry) (drawn self.entry)) }
+    {
+        if self.columns == 0 && self.rows == 0 {
+            return None;
+        }
+        if self.columns <= 1 && self.rows <= 1 {
+            return self.ends_pinch();
+        }
+        self.nearest_pinch()
+    }
 }

@@ -1,26 +1,19 @@
 // The blocked cell or the shut step in the way, by a look at each step along a grid line or at each cell entered, from
 // the first end towards the other.
-ghost use Rattle.std.specs.Prelude.{◌≡◌, suc, ◌*◌, ◌<◌, ◌≤◌};
-ghost use Rattle.floor.specs.Floor.{floor_of};
-ghost use Rattle.floor.specs.Known.{Sized};
-ghost use Rattle.sight.specs.Sight.{segment_of};
-ghost use Rattle.sight.specs.Obstacle.{span, cell_on, start_on, first, blockage};
-ghost use Rattle.sight.specs.Travel.{Ends, OnLine, line_step, upright_to, level_to, row_obstacle, cell_there, RowRun};
+ghost use Rattle.std.specs.Prelude.{◌≡◌, suc, ◌<◌, ◌≤◌};
+ghost use Rattle.floor.specs.Plan.{floor_on};
+ghost use Rattle.sight.specs.Obstacle.{span, cell_on, first, blockage, upright_step, level_step};
+ghost use Rattle.sight.specs.Travel.{upright_to, level_to, row_obstacle, cell_there, RowRun};
 ghost use Rattle.sight.specs.Travel.{Carried, RunBetween};
+ghost use Rattle.sight.specs.Drawn.{floor_under, drawn};
 
 use crate::Obstacle;
-
-// How far it is from a to b.
-pub fn span_of(a: usize, b: usize) -> usize
-    ensures { result ≡ span a b }
-{
-    if a < b {
-        return b - a;
-    }
-    a - b
-}
+use crate::pinches::point_at;
+use crate::segment::Segment;
+use floor::FloorPlan;
 
 // The far line of the k-th cell from a towards b, as `blocked_at` wants it: one more than the cell's number.
+#[tactic(auto, unfolding(crate::specs::Obstacle::span, crate::specs::Obstacle::cell_on))]
 fn line_at(a: usize, b: usize, k: usize) -> usize
     requires { (a ≤ 127) × (b ≤ 127) × (k < span a b) }
     ensures { result ≡ suc (cell_on a b k) }
@@ -31,95 +24,25 @@ fn line_at(a: usize, b: usize, k: usize) -> usize
     a - k
 }
 
-// The line where the k-th step from a towards b begins.
-fn start_at(a: usize, b: usize, k: usize) -> usize
-    requires { (a ≤ 127) × (b ≤ 127) × (k < span a b) }
-    ensures { result ≡ start_on a b k }
-{
-    if a <= b {
-        return a + k;
-    }
-    a - k
-}
-
 // The step along column line x that ends on row line y is not shut: one of the cells beside it is open. Both are read
 // in any case, so that no branch depends on a cell.
-pub fn upright_open(w: usize, h: usize, map: &[u8], x: usize, y: usize) -> bool
-    requires { Sized w h map.now × (x ≤ w) }
-    ensures { result ≡ upright_to (floor_of w h map.now) x y }
+pub fn upright_open(floor: FloorPlan<'_>, x: usize, y: usize) -> bool
+    requires { x ≤ floor.w }
+    ensures { result ≡ upright_to (floor_on floor.entry) x y }
 {
-    let left = floor::blocked_at(w, h, map, x, y);
-    let right = floor::blocked_at(w, h, map, x + 1, y);
-    if left {
-        return !right;
-    }
-    true
+    let left = floor.blocked_at(x, y);
+    let right = floor.blocked_at(x + 1, y);
+    !(left && right)
 }
 
 // The step along row line y that ends on column line x is not shut.
-pub fn level_open(w: usize, h: usize, map: &[u8], x: usize, y: usize) -> bool
-    requires { Sized w h map.now × (y ≤ h) }
-    ensures { result ≡ level_to (floor_of w h map.now) x y }
+pub fn level_open(floor: FloorPlan<'_>, x: usize, y: usize) -> bool
+    requires { y ≤ floor.h }
+    ensures { result ≡ level_to (floor_on floor.entry) x y }
 {
-    let above = floor::blocked_at(w, h, map, x, y);
-    let below = floor::blocked_at(w, h, map, x, y + 1);
-    if above {
-        return !below;
-    }
-    true
-}
-
-// The k-th step from a towards b, where it is shut: along column line `at` where `upright`, else along row line `at`.
-fn step_there(
-    w: usize,
-    h: usize,
-    map: &[u8],
-    upright: bool,
-    at: usize,
-    a: usize,
-    b: usize,
-    k: usize,
-) -> Obstacle
-    requires { Sized w h map.now × OnLine w h upright at a b × (k < span a b) }
-    ensures { result ≡ line_step (floor_of w h map.now) upright at a b k }
-{
-    let past = line_at(a, b, k);
-    let start = start_at(a, b, k);
-    if upright {
-        if upright_open(w, h, map, at, past) {
-            return Obstacle::Clear;
-        }
-        return Obstacle::Step(floor::vertex_at(w, h, at, start));
-    }
-    if level_open(w, h, map, past, at) {
-        return Obstacle::Clear;
-    }
-    Obstacle::Step(floor::vertex_at(w, h, start, at))
-}
-
-// The first shut step from a to b along a grid line.
-fn line_obstacle(
-    w: usize,
-    h: usize,
-    map: &[u8],
-    upright: bool,
-    at: usize,
-    a: usize,
-    b: usize,
-) -> Obstacle
-    requires { Sized w h map.now × OnLine w h upright at a b }
-    ensures { result ≡ first (span a b) (line_step (floor_of w h map.now) upright at a b) }
-{
-    let n = span_of(a, b);
-    let mut k: usize = 0;
-    while k < n {
-        let found = step_there(w, h, map, upright, at, a, b, k);
-        if !crate::is_clear(found) {
-            return found;
-        }
-        k += 1;
-    }
-    Obstacle::Clear
+    let above = floor.blocked_at(x, y);
+    let below = floor.blocked_at(x, y + 1);
+    !(above && below)
 }
 
 // Where a segment crosses a row line: so many whole columns from the first end, and a rest, of which `dy` make a
@@ -130,189 +53,171 @@ struct Crossing {
     rest: usize,
 }
 
-// The crossing one row on: `step` columns and a rest of `part` more, with no division.
-fn next_crossing(at: Crossing, step: usize, part: usize, dy: usize) -> Crossing
-    requires { (at.column ≤ 127) × (step ≤ 127) × (at.rest < dy) × (part < dy) × (dy ≤ 127) }
-    ensures { Carried at.column at.rest step part dy result.column result.rest }
-{
-    let column = at.column + step;
-    let rest = at.rest + part;
-    if rest < dy {
-        return Crossing { column, rest };
-    }
-    Crossing {
-        column: column + 1,
-        rest: rest - dy,
-    }
-}
-
-// The cells entered between two crossings one row apart are those from the column of the first to before the column
-// that this returns: the cell where the second falls is entered, unless the segment leaves the row at a corner.
-fn row_past(at: Crossing, to: Crossing) -> usize
-    requires { to.column ≤ 127 }
-    ensures { RunBetween at.column at.rest to.column to.rest result }
-{
-    if to.rest == 0 {
-        return to.column;
-    }
-    to.column + 1
-}
-
-// The cell c columns and r rows from the first end, where it is blocked.
-fn cell_there(
-    w: usize,
-    h: usize,
-    map: &[u8],
-    x0: usize,
-    y0: usize,
-    x1: usize,
-    y1: usize,
-    c: usize,
-    r: usize,
-) -> Obstacle
-    requires { Sized w h map.now × Ends w h x0 y0 x1 y1 × (c < span x0 x1) × (r < span y0 y1) }
-    ensures { result ≡ cell_there (floor_of w h map.now) (segment_of x0 y0 x1 y1) r c }
-{
-    let x = line_at(x0, x1, c);
-    let y = line_at(y0, y1, r);
-    if floor::blocked_at(w, h, map, x, y) {
-        return Obstacle::Cell(floor::cell_before(w, h, map, x, y));
-    }
-    Obstacle::Clear
-}
-
-// The first blocked cell entered in the row r rows from the first end, by a look at each cell entered there.
-fn row_obstacle(
-    w: usize,
-    h: usize,
-    map: &[u8],
-    x0: usize,
-    y0: usize,
-    x1: usize,
-    y1: usize,
-    r: usize,
-    first: usize,
-    past: usize,
-) -> Obstacle
-    requires { Sized w h map.now × Ends w h x0 y0 x1 y1 × (r < span y0 y1)
-        × RowRun (segment_of x0 y0 x1 y1) r first past }
-    ensures { result ≡ row_obstacle (floor_of w h map.now) (segment_of x0 y0 x1 y1) r }
-{
-    let mut c = first;
-    while c < past {
-        let found = cell_there(w, h, map, x0, y0, x1, y1, c, r);
-        if !crate::is_clear(found) {
-            return found;
+impl Crossing {
+    // The crossing one row on: `step` columns and a rest of `part` more, with no division.
+    fn next(self, step: usize, part: usize, dy: usize) -> Crossing
+        requires { (self.column ≤ 127) × (step ≤ 127) × (self.rest < dy) × (part < dy) × (dy ≤ 127) }
+        ensures { Carried self.column self.rest step part dy result.column result.rest }
+    {
+        let column = self.column + step;
+        let rest = self.rest + part;
+        if rest < dy {
+            return Crossing { column, rest };
         }
-        c += 1;
+        Crossing {
+            column: column + 1,
+            rest: rest - dy,
+        }
     }
-    Obstacle::Clear
+
+    // The cells entered between two crossings one row apart are those from the column of the first to before the column
+    // that this returns: the cell where the second falls is entered, unless the segment leaves the row at a corner.
+    fn past(self, to: Crossing) -> usize
+        requires { to.column ≤ 127 }
+        ensures { RunBetween self.column self.rest to.column to.rest result }
+    {
+        if to.rest == 0 {
+            return to.column;
+        }
+        to.column + 1
+    }
 }
 
-// The first blocked cell entered, row by row from the first end. The cells entered rise like stairs, so it is also the
-// first by columns. Where the segment crosses a row line is carried from row to row: the one division stands
-// before the loop.
-fn slanted_obstacle(
-    w: usize,
-    h: usize,
-    map: &[u8],
-    x0: usize,
-    y0: usize,
-    x1: usize,
-    y1: usize,
-) -> Obstacle
-    requires { Sized w h map.now × Ends w h x0 y0 x1 y1 × (1 ≤ span y0 y1) }
-    ensures { result ≡ first (span y0 y1) (row_obstacle (floor_of w h map.now) (segment_of x0 y0 x1 y1)) }
-{
-    let dx = span_of(x0, x1);
-    let dy = span_of(y0, y1);
-    let step = dx / dy;
-    let part = dx % dy;
-    let mut at = Crossing { column: 0, rest: 0 };
-    let mut r: usize = 0;
-    while r < dy {
-        let next = next_crossing(at, step, part, dy);
-        let found = row_obstacle(w, h, map, x0, y0, x1, y1, r, at.column, row_past(at, next));
-        if !crate::is_clear(found) {
-            return found;
+impl<'a> Segment<'a> {
+    // The k-th step of a segment along a column line, where it is shut.
+    #[tactic(auto, unfolding(crate::specs::Obstacle::upright_step, crate::specs::Sight::upright_open, crate::specs::Obstacle::span, crate::specs::Obstacle::start_on))]
+    fn upright_step(self, k: usize) -> Option<Obstacle>
+        requires { k < self.rows }
+        ensures { result ≡ upright_step (floor_under self.entry) self.entry.x0 self.entry.y0 self.entry.y1 k }
+    {
+        if upright_open(self.floor, self.x0, line_at(self.y0, self.y1, k)) {
+            return None;
         }
-        at = next;
-        r += 1;
+        let start = point_at(self.y0, self.y1, k);
+        Some(Obstacle::Step(floor::vertex_at(self.floor.w, self.floor.h, self.x0, start)))
     }
-    Obstacle::Clear
-}
 
-// The same for a segment with more rows than columns. It enters one cell of a row or two: the one in the column of the
-// first crossing, and the next one, if it is entered before the row ends.
-fn steep_obstacle(
-    w: usize,
-    h: usize,
-    map: &[u8],
-    x0: usize,
-    y0: usize,
-    x1: usize,
-    y1: usize,
-) -> Obstacle
-    requires { Sized w h map.now × Ends w h x0 y0 x1 y1 × (1 ≤ span x0 x1) × (span x0 x1 < span y0 y1) }
-    ensures { result ≡ first (span y0 y1) (row_obstacle (floor_of w h map.now) (segment_of x0 y0 x1 y1)) }
-{
-    let dx = span_of(x0, x1);
-    let dy = span_of(y0, y1);
-    let mut at = Crossing { column: 0, rest: 0 };
-    let mut r: usize = 0;
-    while r < dy {
-        let row = r;
-        let column = at.column;
-        let found = cell_there(w, h, map, x0, y0, x1, y1, column, row);
-        if !crate::is_clear(found) {
-            return found;
+    // The k-th step of a segment along a row line, where it is shut.
+    #[tactic(auto, unfolding(crate::specs::Obstacle::level_step, crate::specs::Sight::level_open, crate::specs::Obstacle::span, crate::specs::Obstacle::start_on))]
+    fn level_step(self, k: usize) -> Option<Obstacle>
+        requires { k < self.columns }
+        ensures { result ≡ level_step (floor_under self.entry) self.entry.y0 self.entry.x0 self.entry.x1 k }
+    {
+        if level_open(self.floor, line_at(self.x0, self.x1, k), self.y0) {
+            return None;
         }
-        let reach = at.rest + dx;
-        r += 1;
-        if reach < dy {
-            at = Crossing {
-                column,
-                rest: reach,
-            };
-        } else {
-            let next = Crossing {
-                column: column + 1,
-                rest: reach - dy,
-            };
-            if next.column < row_past(at, next) {
-                let last = cell_there(w, h, map, x0, y0, x1, y1, next.column, row);
-                if !crate::is_clear(last) {
-                    return last;
-                }
+        let start = point_at(self.x0, self.x1, k);
+        Some(Obstacle::Step(floor::vertex_at(self.floor.w, self.floor.h, start, self.y0)))
+    }
+
+    // The first shut step of a segment along a column line.
+    fn upright_obstacle(self) -> Option<Obstacle>
+        ensures { result
+            ≡ first self.entry.rows (upright_step (floor_under self.entry) self.entry.x0 self.entry.y0 self.entry.y1) }
+    {
+        // Kept: tried, misses the speed of this loop: `find_map`, with 1.2 of the instructions on an open floor.
+        for k in 0..self.rows {
+            if let Some(found) = self.upright_step(k) {
+                return Some(found);
+            }
+        }
+        None
+    }
+
+    // The first shut step of a segment along a row line.
+    fn level_obstacle(self) -> Option<Obstacle>
+        ensures { result
+            ≡ first self.entry.columns (level_step (floor_under self.entry) self.entry.y0 self.entry.x0 self.entry.x1) }
+    {
+        // Kept: tried, misses the speed of this loop: `find_map`, with 1.2 of the instructions on an open floor.
+        for k in 0..self.columns {
+            if let Some(found) = self.level_step(k) {
+                return Some(found);
+            }
+        }
+        None
+    }
+
+    // The cell c columns and r rows from the first end, where it is blocked.
+    #[tactic(auto, unfolding(crate::specs::Travel::cell_there, crate::specs::Obstacle::span, crate::specs::Obstacle::cell_on))]
+    fn cell_there(self, c: usize, r: usize) -> Option<Obstacle>
+        requires { (c < self.columns) × (r < self.rows) }
+        ensures { result ≡ cell_there (floor_under self.entry) (drawn self.entry) r c }
+    {
+        let x = line_at(self.x0, self.x1, c);
+        let y = line_at(self.y0, self.y1, r);
+        if self.floor.blocked_at(x, y) {
+            return Some(Obstacle::Cell(self.floor.cell_before(x, y)));
+        }
+        None
+    }
+
+    // The first blocked cell entered in the row r rows from the first end, by a look at each cell entered there.
+    fn row_obstacle(self, r: usize, first: usize, past: usize) -> Option<Obstacle>
+        requires { (r < self.rows) × RowRun (drawn self) r first past }
+        ensures { result ≡ row_obstacle (floor_under self.entry) (drawn self.entry) r }
+    {
+        (first..past).find_map(|c| self.cell_there(c, r))
+    }
+
+    // The first blocked cell entered, row by row from the first end. The cells entered rise like stairs, so it is also
+    // the first by columns. Where the segment crosses a row line is carried from row to row: the one division stands
+    // before the loop.
+    fn slanted_obstacle(self) -> Option<Obstacle>
+        requires { 1 ≤ self.rows }
+        ensures { result ≡ first self.entry.rows (row_obstacle (floor_under self.entry) (drawn self.entry)) }
+    {
+        let step = self.columns / self.rows;
+        let part = self.columns % self.rows;
+        let mut at = Crossing { column: 0, rest: 0 };
+        for r in 0..self.rows {
+            let next = at.next(step, part, self.rows);
+            if let Some(found) = self.row_obstacle(r, at.column, at.past(next)) {
+                return Some(found);
             }
             at = next;
         }
+        None
     }
-    Obstacle::Clear
-}
 
-// The cell or the step in the way between two vertices, at any distance: along a column line, along a row line, or
-// slanted.
-pub fn far_blockage(
-    w: usize,
-    h: usize,
-    map: &[u8],
-    x0: usize,
-    y0: usize,
-    x1: usize,
-    y1: usize,
-) -> Obstacle
-    requires { Sized w h map.now × Ends w h x0 y0 x1 y1 }
-    ensures { result ≡ blockage (floor_of w h map.now) (segment_of x0 y0 x1 y1) }
-{
-    if x0 == x1 {
-        return line_obstacle(w, h, map, true, x0, y0, y1);
+    // The same for a segment with more rows than columns. It enters one cell of a row or two: the one in the column of
+    // the first crossing, and the next one, if it is entered before the row ends.
+    fn steep_obstacle(self) -> Option<Obstacle>
+        requires { (1 ≤ self.columns) × (self.columns < self.rows) }
+        ensures { result ≡ first self.entry.rows (row_obstacle (floor_under self.entry) (drawn self.entry)) }
+    {
+        let mut at = Crossing { column: 0, rest: 0 };
+        for r in 0..self.rows {
+            if let Some(found) = self.cell_there(at.column, r) {
+                return Some(found);
+            }
+            at.rest += self.columns;
+            if self.rows <= at.rest {
+                at.column += 1;
+                at.rest -= self.rows;
+                if at.rest != 0
+                    && let Some(found) = self.cell_there(at.column, r)
+                {
+                    return Some(found);
+                }
+            }
+        }
+        None
     }
-    if y0 == y1 {
-        return line_obstacle(w, h, map, false, y0, x0, x1);
+
+    // The cell or the step in the way, at any distance: along a column line, along a row line, or slanted.
+    pub fn far_blockage(self) -> Option<Obstacle>
+        ensures { result ≡ blockage (floor_under self.entry) (drawn self.entry) }
+    {
+        if self.columns == 0 {
+            return self.upright_obstacle();
+        }
+        if self.rows == 0 {
+            return self.level_obstacle();
+        }
+        if self.columns < self.rows {
+            return self.steep_obstacle();
+        }
+        self.slanted_obstacle()
     }
-    if span_of(x0, x1) < span_of(y0, y1) {
-        return steep_obstacle(w, h, map, x0, y0, x1, y1);
-    }
-    slanted_obstacle(w, h, map, x0, y0, x1, y1)
 }

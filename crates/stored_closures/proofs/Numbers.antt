@@ -8,12 +8,12 @@ use Prim.Native.Nat.{ℕ, ◌+◌, ◌*◌, ◌≤◌, ◌<◌}
 use mathlib.Core.Path.{◌≡◌, ap, ◌∙◌}
 use mathlib.Core.Logic.{⊎_elim, ◌≢◌}
 use mathlib.Core.List.{List}
-use mathlib.Core.Option.{none, some}
 use native.Mathlib.Omega.{arith}
 use borrow.Author.Tests.{eq-eqb, ne_eqb, lt-ltb, le-ltb}
 use lib.Dec.{ltb}
 use lib.ListN.{length, get_or, set, length-set}
 use lib.Seq.{get_or-set_same, get_or-set_other}
+use Rattle.std.proofs.Common.{None, Some}
 use Rattle.basics.specs.Bounded.{pick}
 use Rattle.basics.proofs.Order.{eq-or-ne}
 use Rattle.closures.specs.Plain.{changed}
@@ -86,19 +86,19 @@ module _ (l : List ℕ) (k : ℕ) (r : Rectangle) where
         at j =
             ⊎_elim
             (λ (e : j ≡ k). rw (eq-eqb j k e, e, lt-ltb k 16 b) (ap hold_of numbers-here))
-            (λ (n : j ≡ k → ⊥). rw (ne_eqb j k n) (ap (λ x. pick (ltb j 16) (hold_of x) none) (numbers-else j n)))
+            (λ (n : j ≡ k → ⊥). rw (ne_eqb j k n) (ap (λ x. pick (ltb j 16) (hold_of x) None) (numbers-else j n)))
             (eq-or-ne j k)
 
 module _ (l : List ℕ) (k : ℕ) where
-  pub stored_past : 16 ≤ k → none ≡ stored_in l k
+  pub stored_past : 16 ≤ k → None ≡ stored_in l k
   unfolding stored_in
   stored_past p = rw (le-ltb k 16 p)
 
   module _ (p : k < 16) where
-    pub stored-free : get_or l (4 * k + 2) 0 ≡ 0 → none ≡ stored_in l k
+    pub stored-free : get_or l (4 * k + 2) 0 ≡ 0 → None ≡ stored_in l k
     unfolding stored_in
     stored-free e = rw (lt-ltb k 16 p, eq-eqb (get_or l (4 * k + 2) 0) 0 e)
 
-    pub stored-held : get_or l (4 * k + 2) 0 ≢ 0 → some (rectangle_at l k) ≡ stored_in l k
+    pub stored-held : get_or l (4 * k + 2) 0 ≢ 0 → Some (rectangle_at l k) ≡ stored_in l k
     unfolding stored_in
     stored-held n = rw (lt-ltb k 16 p, ne_eqb (get_or l (4 * k + 2) 0) 0 n)

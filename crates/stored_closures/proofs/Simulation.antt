@@ -11,19 +11,17 @@ use mathlib.Core.Path.{◌≡◌, refl, sym, ap, ap₂, ◌∙◌}
 use mathlib.Core.Bool.{◌&&◌}
 use mathlib.Core.Logic.{⊎_elim}
 use mathlib.Core.List.{List, [], ◌∷◌}
-use mathlib.Core.Option.{none, some}
 use native.Mathlib.Omega.{arith}
 use borrow.Author.Tests.{ne_eqb, leb-true}
 use lib.Dec.{leb}
 use lib.ListN.{length, length-replicate}
+use Rattle.std.proofs.Common.{None, Some, Ok, Err}
 use Rattle.basics.specs.Bounded.{pick}
 use Rattle.basics.proofs.Order.{le-or-lt}
 use Rattle.basics.proofs.Bools.{and_left}
 use Rattle.basics.proofs.Lists.{get_or-zeros}
-use Rattle.floor.specs.Refusals.{sides_shape}
+use Rattle.floor.specs.Refusals.{Shape, sides_shape}
 use Rattle.floor.specs.declared.Refusal.TheVariants.{ClosureBounds}
-use Rattle.floor.specs.declared.Shape.{Shape}
-use Rattle.floor.specs.declared.Shape.TheVariants.{Good, Refused}
 use Rattle.floor.proofs.Shapes.{good-first, good-second, good-pick}
 use Rattle.floor.specs.Refusals.{left_by}
 use Rattle.closures.specs.Plain.{
@@ -47,7 +45,7 @@ use Rattle.stored_closures.proofs.Numbers.{numbers-length, stored-with, stored_p
 pub stored-none : stored_in none_stored ≡ nothing_held
 stored-none = λ i k. at k i
   where
-    at : (k : ℕ) → stored_in none_stored k ≡ none
+    at : (k : ℕ) → stored_in none_stored k ≡ None
     at k =
         ⊎_elim (λ p. sym (stored_past none_stored k p))
         (λ p. sym (stored-free none_stored k p (get_or-zeros 64 (4 * k + 2)))) (le-or-lt 16 k)
@@ -56,39 +54,39 @@ stored-none = λ i k. at k i
 
 left-length : (x : Shape) (l : List ℕ) (k : ℕ) (r : Rectangle)
     → length (left_by x (with_numbers l k r) l) ≡ length l
-left-length Good l k r = numbers-length l k r
-left-length (Refused x) l k r = refl
+left-length (Ok u) l k r = numbers-length l k r
+left-length (Err x) l k r = refl
 
 pub call_length : (w h : ℕ) (l : List ℕ) (c : Call) → length (stored_left w h l c) ≡ length l
 call_length w h l (post r) = left-length (post_shape w h (stored_in l) r) l (lowest_free (stored_in l)) r
 call_length w h l (strike k) = left-length (strike_shape w h (stored_in l) k) l k no_numbers
 
 -- Numbers left by a shape stand for the map left by that shape.
-stored-by : (l : List ℕ) (x : Shape) (k : ℕ) (r : Rectangle) → length l ≡ 64 → (x ≡ Good → k < 16)
+stored-by : (l : List ℕ) (x : Shape) (k : ℕ) (r : Rectangle) → length l ≡ 64 → (x ≡ Ok tt → k < 16)
     → stored_in (left_by x (with_numbers l k r) l) ≡ left_by x (changed (stored_in l) k (hold_of r)) (stored_in l)
-stored-by l Good k r e b = let p : k < 16 = b refl in stored-with l k r (omega arith) p
-stored-by l (Refused x) k r e b = refl
+stored-by l (Ok u) k r e b = let p : k < 16 = b refl in stored-with l k r (omega arith) p
+stored-by l (Err x) k r e b = refl
 
 -- A rectangle that is posted has columns, so that its slot is held.
 module _ (w h : ℕ) (m : Plain) (r : Rectangle) where
-  posted-columns : post_shape w h m r ≡ Good → 1 ≤ r.columns
+  posted-columns : post_shape w h m r ≡ Ok tt → 1 ≤ r.columns
   unfolding post_shape within
   posted-columns e =
-      let bounds = good-first (pick (within w h r) Good (Refused ClosureBounds)) _ (good-second (sides_shape w h) _ e) in
+      let bounds = good-first (pick (within w h r) (Ok tt) (Err ClosureBounds)) _ (good-second (sides_shape w h) _ e) in
       let sizes = and_left (leb 1 r.columns && leb 1 r.rows) _ (good-pick ClosureBounds (within w h r) bounds) in
       leb-true 1 r.columns (and_left (leb 1 r.columns) (leb 1 r.rows) sizes)
 
-  columns-held : 1 ≤ r.columns → hold_of r ≡ some r
+  columns-held : 1 ≤ r.columns → hold_of r ≡ Some r
   columns-held p = rw (ne_eqb r.columns 0 (λ e. omega arith))
 
   post_held : (k : ℕ) → left_by (post_shape w h m r) (changed m k (hold_of r)) m
-      ≡ left_by (post_shape w h m r) (changed m k (some r)) m
+      ≡ left_by (post_shape w h m r) (changed m k (Some r)) m
   post_held k = by (post_shape w h m r) (λ e. columns-held (posted-columns e))
     where
-      by : (x : Shape) → (x ≡ Good → hold_of r ≡ some r)
-          → left_by x (changed m k (hold_of r)) m ≡ left_by x (changed m k (some r)) m
-      by Good e = ap (changed m k) (e refl)
-      by (Refused y) e = refl
+      by : (x : Shape) → (x ≡ Ok tt → hold_of r ≡ Some r)
+          → left_by x (changed m k (hold_of r)) m ≡ left_by x (changed m k (Some r)) m
+      by (Ok u) e = ap (changed m k) (e refl)
+      by (Err y) e = refl
 
 module _ (w h : ℕ) where
   pub stored-left : (l : List ℕ) (c : Call) → length l ≡ 64

@@ -13,13 +13,12 @@
 --   strike_stored w h l k == the numbers after slot k is struck; l at a refusal
 --   PostsIn, StrikesIn, WritesFrom == the answer of an operation and what it leaves, for every input
 use Rattle.std.specs.Prelude.{ℕ, ◌+◌, ◌*◌, ◌≡◌, List, ltb, eqb, length, get_or, set}
-use Rattle.std.proofs.Math.Option.{Option, none, some}
+use Rattle.std.specs.Prelude.{Option, None, Some, Result}
 use Rattle.basics.specs.Bounded.{pick}
-use Rattle.floor.specs.Refusals.{left_by}
-use Rattle.floor.specs.declared.Shape.{Shape}
+use Rattle.floor.specs.Refusals.{Shape, left_by}
+use Rattle.floor.specs.declared.Refusal.{Refusal}
 use Rattle.closures.specs.Plain.{Plain, lowest_free, post_shape, post_answer, strike_shape, work_shape, work_left}
 use Rattle.closures.specs.declared.Rectangle.{Rectangle}
-use Rattle.closures.specs.declared.Posting.{Posting}
 
 abbrev pub rectangle_of : ℕ → ℕ → ℕ → ℕ → Rectangle
 rectangle_of c r m n = record { column = c; row = r; columns = m; rows = n }
@@ -30,10 +29,10 @@ rectangle_at l k =
     rectangle_of (get_or l (4 * k) 0) (get_or l (4 * k + 1) 0) (get_or l (4 * k + 2) 0) (get_or l (4 * k + 3) 0)
 
 abbrev pub hold_of : Rectangle → Option Rectangle
-hold_of r = pick (eqb r.columns 0) none (some r)
+hold_of r = pick (eqb r.columns 0) None (Some r)
 
 unfoldable pub stored_in : List ℕ → Plain
-stored_in l k = pick (ltb k 16) (hold_of (rectangle_at l k)) none
+stored_in l k = pick (ltb k 16) (hold_of (rectangle_at l k)) None
 
 unfoldable pub with_numbers : List ℕ → ℕ → Rectangle → List ℕ
 with_numbers l k r =
@@ -48,7 +47,7 @@ post_stored w h l r = left_by (post_shape w h (stored_in l) r) (with_numbers l (
 abbrev pub strike_stored : ℕ → ℕ → List ℕ → ℕ → List ℕ
 strike_stored w h l k = left_by (strike_shape w h (stored_in l) k) (with_numbers l k no_numbers) l
 
-pub record PostsIn (w h : ℕ) (l : List ℕ) (r : Rectangle) (answer : Posting) (left : List ℕ) : Type 0 where
+pub record PostsIn (w h : ℕ) (l : List ℕ) (r : Rectangle) (answer : Result ℕ Refusal) (left : List ℕ) : Type 0 where
   pub answers : answer ≡ post_answer w h (stored_in l) r
   pub leaves : left ≡ post_stored w h l r
 

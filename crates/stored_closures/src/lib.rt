@@ -4,15 +4,16 @@
 #![tactic(auto)]
 
 ghost use Rattle.std.specs.Prelude.{◌≡◌, ◌<◌};
-ghost use Rattle.closures.specs.Table.{held_in};
 ghost use Rattle.stored_closures.specs.Stored.{rectangle_of, stored_in, with_numbers};
 ghost use Rattle.stored_closures.specs.Stored.{PostsIn, StrikesIn, WritesFrom};
 ghost use Rattle.stored_closures.specs.Known.{Stands};
 
-use closures::{Closures, Hold, Posting, Rectangle, Slot};
-use floor::Shape;
+use closures::{Closures, Rectangle};
+use floor::Refusal;
+use std::array;
 
 // The rectangle with these 32-bit numbers.
+// Kept: no plainer, since `usize` has no `From<u32>`.
 fn rectangle(column: u32, row: u32, columns: u32, rows: u32) -> Rectangle
     ensures { result ≡ rectangle_of column row columns rows }
 {
@@ -24,33 +25,33 @@ fn rectangle(column: u32, row: u32, columns: u32, rows: u32) -> Rectangle
     }
 }
 
-// The rectangle that slot k of the numbers holds, or that it is free.
-fn hold_at(slots: &[u32; 64], k: usize) -> Hold
+// The rectangle that slot k of the numbers holds, if it is not free.
+#[tactic(auto, unfolding(crate::specs::Stored::stored_in))]
+fn held_at(slots: &[u32; 64], k: usize) -> Option<Rectangle>
     requires { k < 16 }
-    ensures { held_in result ≡ stored_in slots.now k }
+    ensures { result ≡ stored_in slots.now k }
 {
     let at = 4 * k;
     let columns = slots[at + 2];
     if columns == 0 {
-        return Hold::Free;
+        return None;
     }
-    Hold::Held(rectangle(slots[at], slots[at + 1], columns, slots[at + 3]))
+    Some(rectangle(slots[at], slots[at + 1], columns, slots[at + 3]))
 }
 
 // The table of `closures` for which the numbers stand.
 fn table_of(w: usize, h: usize, slots: &[u32; 64]) -> Closures
     ensures { Stands w h slots.now result }
 {
-    let mut table = closures::empty(w, h);
-    for k in 0..16 {
-        table.slots[k] = Slot {
-            hold: hold_at(slots, k),
-        };
+    Closures {
+        width: w,
+        height: h,
+        slots: array::from_fn(|k| held_at(slots, k)),
     }
-    table
 }
 
 // Stores four numbers in slot k.
+#[tactic(auto, unfolding(crate::specs::Stored::with_numbers))]
 fn store(slots: &mut [u32; 64], k: usize, column: u32, row: u32, columns: u32, rows: u32)
     requires { k < 16 }
     ensures { slots.new ≡ with_numbers slots.old k (rectangle_of column row columns rows) }
@@ -72,34 +73,34 @@ pub fn post(
     row: u32,
     columns: u32,
     rows: u32,
-) -> Posting
+) -> Result<usize, Refusal>
     ensures { PostsIn w h slots.old (rectangle_of column row columns rows) result slots.new }
 {
     let done = closures::posted(table_of(w, h, slots), rectangle(column, row, columns, rows));
-    let answer = done.answer;
-    let Posting::In(k) = answer else {
-        return answer;
-    };
+    let k = done.answer?;
     store(slots, k, column, row, columns, rows);
-    answer
+    Ok(k)
 }
 
 // Strikes slot k: sets its four numbers to 0. A refusal, 1 or 14, changes nothing.
-pub fn strike(w: usize, h: usize, slots: &mut [u32; 64], k: usize) -> Shape
+pub fn strike(w: usize, h: usize, slots: &mut [u32; 64], k: usize) -> Result<(), Refusal>
     ensures { StrikesIn w h slots.old k result slots.new }
 {
     let done = closures::struck(table_of(w, h, slots), k);
-    let answer = done.answer;
-    let Shape::Good = answer else {
-        return answer;
-    };
+    done.answer?;
     store(slots, k, 0, 0, 0, 0);
-    answer
+    Ok(())
 }
 
 // Writes the working map: blocked where the base map is, or where a closure that the numbers hold covers. A refusal, 1,
 // 2, 3 or 6, writes nothing.
-pub fn working_map(w: usize, h: usize, slots: &[u32; 64], base: &[u8], work: &mut [u8]) -> Shape
+pub fn working_map(
+    w: usize,
+    h: usize,
+    slots: &[u32; 64],
+    base: &[u8],
+    work: &mut [u8],
+) -> Result<(), Refusal>
     ensures { WritesFrom w h slots.now base.now work.old result work.new }
 {
     closures::working_map(table_of(w, h, slots), base, work)

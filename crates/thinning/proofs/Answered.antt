@@ -7,14 +7,12 @@ use mathlib.Core.List.{List}
 use native.Mathlib.Omega.{arith}
 use lib.ListN.{length, get_or, take, drop, get_or-append}
 use lib.Seq.{take_at, drop_at}
+use Rattle.std.specs.Prelude.{Ok, Err}
 use Rattle.basics.specs.Lists.{padded, zeros}
 use Rattle.floor.specs.Floor.{floor_of}
-use Rattle.floor.specs.declared.Shape.{Shape}
-use Rattle.floor.specs.declared.Shape.TheVariants.{Good, Refused as BadShape}
+use Rattle.floor.specs.Refusals.{Shape, left_by}
 use Rattle.thinning.specs.Thinning.{seen, kept_positions}
-use Rattle.floor.specs.Refusals.{left_by}
 use Rattle.thinning.specs.Answer.{list_shape, shape_answer, thin_answer, thin_output}
-use Rattle.thinning.specs.declared.Thinned.TheVariants.{Kept}
 use Rattle.thinning.proofs.Shapes.{GoodList, good-list, joined-list}
 use Rattle.thinning.proofs.Kept.{KeptLaws, kept_laws}
 
@@ -28,7 +26,7 @@ pub record Answered (w h : ℕ) (map list out : List ℕ) (n k : ℕ) (left : Li
   pub inside : (m : ℕ) → m < k → get_or left m 0 < n
 
 module _ (w h : ℕ) (map list out : List ℕ) (n k : ℕ) where
-  answered-good : list_shape w h map list (length out) n ≡ Good → length (kept_positions (floor_of w h map) list n) ≡ k
+  answered-good : list_shape w h map list (length out) n ≡ Ok tt → length (kept_positions (floor_of w h map) list n) ≡ k
       → Answered w h map list out n k (padded (length out) (kept_positions (floor_of w h map) list n))
   unfolding padded
   answered-good e c =
@@ -46,12 +44,12 @@ module _ (w h : ℕ) (map list out : List ℕ) (n k : ℕ) where
             rw (get_or-append ps (zeros (length out - length ps)) 0 m (omega arith)) (laws.inside m (omega arith));
       }
 
-  pub answered : thin_answer w h map list out n ≡ Kept k → Answered w h map list out n k (thin_output w h map list out n)
+  pub answered : thin_answer w h map list out n ≡ Ok k → Answered w h map list out n k (thin_output w h map list out n)
   unfolding thin_answer thin_output
   answered e = cases (list_shape w h map list (length out) n) refl e
     where
       cases : (s : Shape) → list_shape w h map list (length out) n ≡ s
-          → shape_answer s (length (kept_positions (floor_of w h map) list n)) ≡ Kept k
+          → shape_answer s (length (kept_positions (floor_of w h map) list n)) ≡ Ok k
           → Answered w h map list out n k (left_by s (padded (length out) (kept_positions (floor_of w h map) list n)) out)
-      cases Good q x = answered-good q cc
-      cases (BadShape r) q x = let z : ◌≡◌ {A = ℕ} 0 1 = cc in absurd (omega arith)
+      cases (Ok z) q x = answered-good q cc
+      cases (Err r) q x = cc

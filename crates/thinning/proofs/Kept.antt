@@ -2,6 +2,7 @@
 --
 --   Next s n i j     == j is the position kept after i: i < j < n, i sees every position past it up to j, and not j +
 --                       1, if that is below n
+--   Seeing s n i last k == a search for that position is at k: i sees every position from i + 1 to `last`, which is k - 1
 --   KeptLaws s n ps  == of n positions ps are kept: at least one (`some`) and at most n (`few`), from 0 (`starts`) to n
 --                       - 1 (`ends`), rising (`rises`), and each sees the next (`sees`), which is `Next` after it
 --                       (`next`)
@@ -14,6 +15,7 @@ use mathlib.Core.Bool.{Bool, true, false, not}
 use mathlib.Core.Logic.{⊎_elim}
 use mathlib.Core.List.{List, [], ◌∷◌}
 use native.Mathlib.Omega.{arith}
+use native.Mathlib.Numerals.{add-one}
 use borrow.Author.Tests.{ltb-true, ltb-false, not-true}
 use lib.Dec.{ltb}
 use lib.ListN.{length, get_or}
@@ -21,11 +23,11 @@ use lib.Seq.{ext_get_or}
 use Rattle.basics.specs.Bounded.{pick, seek}
 use Rattle.basics.proofs.Order.{le-or-lt, eq-or-ne}
 use Rattle.basics.proofs.Bools.{true-or-false, not-both}
-use Rattle.basics.proofs.Bounded.{seek-le, seek-ge, seek_found, seek-least}
+use Rattle.basics.proofs.Bounded.{seek-here, seek-past, seek-le, seek-ge, seek_found, seek-least}
 use Rattle.floor.specs.Floor.{Floor}
 use Rattle.thinning.specs.Thinning.{seen, next_kept, kept_from, kept_positions, joined_list}
 use Rattle.thinning.proofs.Shapes.{joined-list, joined-sees}
-use Rattle.thinning.proofs.Recording.{chain}
+use Rattle.thinning.specs.Known.{chain}
 
 pub record Next (s : ℕ → ℕ → Bool) (n i j : ℕ) : Type 0 where
   pub after : i < j
@@ -56,6 +58,48 @@ next-kept s n i l e = from (seek (n - suc i) (suc i) unseen) refl
               ⊎_elim (λ y. y) (λ x. absurd (omega (arith, past x))) (true-or-false (s i k));
           stops = found;
         }
+
+pub record Seeing (s : ℕ → ℕ → Bool) (n i last k : ℕ) : Type 0 where
+  pub place : suc last ≡ k
+  pub within : last < n
+  pub same : next_kept s n i ≡ pred (seek (n - k) k (λ m. not (s i m)))
+
+module _ (s : ℕ → ℕ → Bool) (n i : ℕ) where
+  seeing-past : (k : ℕ) → k < n → s i k ≡ true
+      → seek (n - k) k (λ m. not (s i m)) ≡ seek (n - suc k) (suc k) (λ m. not (s i m))
+  seeing-past k l e =
+      let d : n - k ≡ suc (n - suc k) = omega arith in
+      rw d (seek-past (n - suc k) k (λ m. not (s i m)) (ap not e))
+
+  pub seeing-first : suc i < n → s i (suc i) ≡ true → Seeing s n i (i + 1) (i + 2)
+  unfolding next_kept
+  seeing-first l e = record {
+    place = omega arith;
+    within = omega arith;
+    same = let two : i + 2 ≡ suc (suc i) = omega arith in rw two (ap pred (seeing-past (suc i) l e));
+  }
+
+  module _ {last k : ℕ} (h : Seeing s n i last k) where
+    pub seeing-more : k < n → s i k ≡ true → Seeing s n i k (k + 1)
+    seeing-more l e = record {
+      place = omega arith;
+      within = l;
+      same = rw add-one (h.same ∙ ap pred (seeing-past k l e));
+    }
+
+    pub seeing-stop : k < n → s i k ≡ false → last ≡ next_kept s n i
+    seeing-stop l e =
+        let d : n - k ≡ suc (n - suc k) = omega arith in
+        let f : seek (n - k) k (λ m. not (s i m)) ≡ k =
+        rw d (seek-here (n - suc k) k (λ m. not (s i m)) (ap not e)) in
+        omega (arith, h.place, h.same, ap pred f)
+
+    pub seeing-all : n ≤ k → last ≡ next_kept s n i
+    unfolding seek
+    seeing-all l =
+        let d : n - k ≡ 0 = omega arith in
+        let f : seek (n - k) k (λ m. not (s i m)) ≡ k = rw d in
+        omega (arith, h.place, h.same, ap pred f)
 
 pub record KeptLaws (s : ℕ → ℕ → Bool) (n : ℕ) (ps : List ℕ) : Type 0 where
   pub some : 1 ≤ length ps

@@ -5,34 +5,28 @@
 --   thins-..          == `Thins` in each case
 use Prim.Native.Nat.{ℕ, suc, ◌≤◌, ◌<◌, pred}
 use mathlib.Core.Path.{◌≡◌}
-use mathlib.Core.Bool.{true, false, ◌&&◌}
+use mathlib.Core.Bool.{true, ◌&&◌}
 use mathlib.Core.List.{List}
 use native.Mathlib.Omega.{arith}
-use borrow.Author.Tests.{leb-true, le-leb, lt-leb, ltb-true, lt-ltb, le-ltb, eq-eqb, eqb-true, ne_eqb}
+use borrow.Author.Tests.{leb-true, le-leb, ltb-true, lt-ltb, eq-eqb, eqb-true}
 use lib.Dec.{leb, eqb}
 use lib.ListN.{length, get_or}
+use Rattle.std.specs.Prelude.{Ok, Err}
 use Rattle.basics.specs.Bounded.{pick, every}
 use Rattle.basics.proofs.Bools.{and_left, and_right}
 use Rattle.basics.proofs.Bounded.{every-at}
 use Rattle.floor.specs.Floor.{Floor, vertices, floor_of}
-use Rattle.floor.specs.Refusals.{floor_shape, and_then}
+use Rattle.floor.specs.Refusals.{Shape, floor_shape, and_then}
 use Rattle.floor.specs.declared.Refusal.{Refusal}
 use Rattle.floor.specs.declared.Refusal.TheVariants.{SliceLength, NotJoined}
-use Rattle.floor.specs.declared.Shape.{Shape}
-use Rattle.floor.specs.declared.Shape.TheVariants.{Good, Refused as BadShape}
-use Rattle.floor.proofs.Shapes.{then-refused, good-first, good-second, good-pick, GoodFloor, good-floor}
+use Rattle.floor.proofs.Shapes.{good-first, good-second, good-pick, GoodFloor, good-floor}
 use Rattle.thinning.specs.Thinning.{seen, is_vertex, sees_next, joined_list}
 use Rattle.thinning.specs.Answer.{list_shape, thin_answer, thin_output, Thins}
 use Rattle.thinning.specs.Known.{VertexList, Recorded}
-use Rattle.thinning.specs.declared.Thinned.TheVariants.{Kept, Refused}
 
 pub vertex-yes : (w h : ℕ) (l : List ℕ) (k : ℕ) → get_or l k 0 < vertices w h → is_vertex w h l k ≡ true
 unfolding is_vertex
 vertex-yes w h l k a = lt-ltb (get_or l k 0) (vertices w h) a
-
-pub vertex-no : (w h : ℕ) (l : List ℕ) (k : ℕ) → vertices w h ≤ get_or l k 0 → is_vertex w h l k ≡ false
-unfolding is_vertex
-vertex-no w h l k a = le-ltb (get_or l k 0) (vertices w h) a
 
 pub listed-vertex : {w h : ℕ} {l : List ℕ} {n : ℕ} → VertexList w h l n → (k : ℕ) → k < n → get_or l k 0 < vertices w h
 unfolding is_vertex
@@ -65,52 +59,21 @@ unfolding sees_next
 joined-sees {f} {l} {n} h i k = every-at (pred n) (sees_next f l) h.each i (omega arith)
 
 module _ (f : Floor) (l : List ℕ) (n : ℕ) where
-  pub joined-empty : n < 1 → false ≡ joined_list f l n
-  unfolding joined_list
-  joined-empty a = rw (lt-leb 1 n a)
-
-  pub joined-beyond : 1 ≤ n → length l < n → false ≡ joined_list f l n
-  unfolding joined_list
-  joined-beyond a b = rw (le-leb 1 n a, lt-leb n (length l) b)
-
-  pub joined-off : 1 ≤ n → n ≤ length l → every n (is_vertex f.wide f.high l) ≡ false → false ≡ joined_list f l n
-  unfolding joined_list
-  joined-off a b e = rw (le-leb 1 n a, le-leb n (length l) b, e)
-
   pub joined-on : 1 ≤ n → VertexList f.wide f.high l n → every (pred n) (sees_next f l) ≡ joined_list f l n
   unfolding joined_list
   joined-on a g = rw (le-leb 1 n a, le-leb n (length l) g.within, g.each)
 
 module _ (w h : ℕ) (map list : List ℕ) (k n : ℕ) where
   abbrev slices : Shape
-  slices = pick (leb (length list) 16384 && eqb k (length list)) Good (BadShape SliceLength)
+  slices = pick (leb (length list) 16384 && eqb k (length list)) (Ok tt) (Err SliceLength)
 
   abbrev points : Shape
-  points = pick (joined_list (floor_of w h map) list n) Good (BadShape NotJoined)
+  points = pick (joined_list (floor_of w h map) list n) (Ok tt) (Err NotJoined)
 
-  pub shape-floor : {r : Refusal} → floor_shape w h map ≡ BadShape r → floor_shape w h map ≡ list_shape w h map list k n
+  pub shape_good : floor_shape w h map ≡ Ok tt → length list ≤ 16384 → k ≡ length list
+      → joined_list (floor_of w h map) list n ≡ true → Ok tt ≡ list_shape w h map list k n
   unfolding list_shape
-  shape-floor e = then-refused (floor_shape w h map) (and_then slices points) e
-
-  module _ (e : floor_shape w h map ≡ Good) where
-    pub shape-long : 16384 < length list → BadShape SliceLength ≡ list_shape w h map list k n
-    unfolding list_shape
-    shape-long a = rw (e, lt-leb (length list) 16384 a)
-
-    module _ (a : length list ≤ 16384) where
-      pub shape-other : (k ≡ length list → ⊥) → BadShape SliceLength ≡ list_shape w h map list k n
-      unfolding list_shape
-      shape-other b = rw (e, le-leb (length list) 16384 a, ne_eqb k (length list) b)
-
-      module _ (b : k ≡ length list) where
-        pub shape-unjoined : joined_list (floor_of w h map) list n ≡ false
-            → BadShape NotJoined ≡ list_shape w h map list k n
-        unfolding list_shape
-        shape-unjoined j = rw (e, le-leb (length list) 16384 a, eq-eqb k (length list) b, j)
-
-        pub shape_good : joined_list (floor_of w h map) list n ≡ true → Good ≡ list_shape w h map list k n
-        unfolding list_shape
-        shape_good j = rw (e, le-leb (length list) 16384 a, eq-eqb k (length list) b, j)
+  shape_good e a b j = rw (e, le-leb (length list) 16384 a, eq-eqb k (length list) b, j)
 
   pub record GoodList : Type 0 where
     pub floor : GoodFloor w h map
@@ -118,7 +81,7 @@ module _ (w h : ℕ) (map list : List ℕ) (k n : ℕ) where
     pub same : k ≡ length list
     pub joined : joined_list (floor_of w h map) list n ≡ true
 
-  pub good-list : list_shape w h map list k n ≡ Good → GoodList
+  pub good-list : list_shape w h map list k n ≡ Ok tt → GoodList
   unfolding list_shape
   good-list e =
       let x = good-first (floor_shape w h map) (and_then slices points) e in
@@ -132,12 +95,12 @@ module _ (w h : ℕ) (map list : List ℕ) (k n : ℕ) where
       }
 
 module _ (w h : ℕ) (map list out : List ℕ) (n : ℕ) where
-  pub thins-refused : {r : Refusal} → list_shape w h map list (length out) n ≡ BadShape r
-      → Thins w h map list out n (Refused r) out
+  pub thins-refused : {r : Refusal} → list_shape w h map list (length out) n ≡ Err r
+      → Thins w h map list out n (Err r) out
   unfolding thin_answer thin_output
   thins-refused e = record { answer = rw e; output = rw e }
 
-  pub thins-kept : {m : ℕ} {left : List ℕ} → list_shape w h map list (length out) n ≡ Good
-      → Recorded (floor_of w h map) list out n m left → Thins w h map list out n (Kept m) left
+  pub thins-kept : {m : ℕ} {left : List ℕ} → list_shape w h map list (length out) n ≡ Ok tt
+      → Recorded (floor_of w h map) list out n m left → Thins w h map list out n (Ok m) left
   unfolding thin_answer thin_output
   thins-kept e g = record { answer = rw (e, g.count); output = rw e g.output }

@@ -7,29 +7,25 @@
 --   thin_output ..         == the output slice afterwards: the kept positions, then 0; unchanged at a refusal
 --   Thins .. r left        == r is the answer, and `left` is the output slice afterwards
 --   thin_number, thin_kept == the number of an answer (rule 6.1), and the number of positions that are kept
-use Rattle.std.specs.Prelude.{ℕ, ◌≡◌, ◌&&◌, List, leb, eqb, length}
+use Rattle.std.specs.Prelude.{ℕ, ◌≡◌, ◌&&◌, List, leb, eqb, length, Result, Ok, Err}
 use Rattle.basics.specs.Bounded.{pick}
 use Rattle.basics.specs.Lists.{padded}
 use Rattle.floor.specs.Floor.{floor_of}
-use Rattle.floor.specs.Refusals.{refusal_number, floor_shape, and_then, left_by}
+use Rattle.floor.specs.Refusals.{Shape, answer_number, floor_shape, and_then, left_by}
+use Rattle.floor.specs.declared.Refusal.{Refusal}
 use Rattle.floor.specs.declared.Refusal.TheVariants.{SliceLength, NotJoined}
-use Rattle.floor.specs.declared.Shape.{Shape}
-use Rattle.floor.specs.declared.Shape.TheVariants.{Good, Refused as BadShape}
 use Rattle.thinning.specs.Thinning.{kept_positions, joined_list}
-use Rattle.thinning.specs.declared.Thinned.{Thinned}
-use Rattle.thinning.specs.declared.Thinned.TheVariants.{Kept, Refused}
 
 unfoldable pub list_shape : ℕ → ℕ → List ℕ → List ℕ → ℕ → ℕ → Shape
 list_shape w h map list k n =
     and_then (floor_shape w h map)
-    (and_then (pick (leb (length list) 16384 && eqb k (length list)) Good (BadShape SliceLength))
-    (pick (joined_list (floor_of w h map) list n) Good (BadShape NotJoined)))
+    (and_then (pick (leb (length list) 16384 && eqb k (length list)) (Ok tt) (Err SliceLength))
+    (pick (joined_list (floor_of w h map) list n) (Ok tt) (Err NotJoined)))
 
-abbrev pub shape_answer : Shape → ℕ → Thinned
-shape_answer Good k = Kept k
-shape_answer (BadShape r) k = Refused r
+abbrev pub shape_answer : Shape → ℕ → Result ℕ Refusal
+shape_answer s k = and_then s (Ok k)
 
-unfoldable pub thin_answer : ℕ → ℕ → List ℕ → List ℕ → List ℕ → ℕ → Thinned
+unfoldable pub thin_answer : ℕ → ℕ → List ℕ → List ℕ → List ℕ → ℕ → Result ℕ Refusal
 thin_answer w h map list out n =
     shape_answer (list_shape w h map list (length out) n) (length (kept_positions (floor_of w h map) list n))
 
@@ -37,14 +33,13 @@ unfoldable pub thin_output : ℕ → ℕ → List ℕ → List ℕ → List ℕ 
 thin_output w h map list out n =
     left_by (list_shape w h map list (length out) n) (padded (length out) (kept_positions (floor_of w h map) list n)) out
 
-pub record Thins (w h : ℕ) (map list out : List ℕ) (n : ℕ) (r : Thinned) (left : List ℕ) : Type 0 where
+pub record Thins (w h : ℕ) (map list out : List ℕ) (n : ℕ) (r : Result ℕ Refusal) (left : List ℕ) : Type 0 where
   pub answer : r ≡ thin_answer w h map list out n
   pub output : left ≡ thin_output w h map list out n
 
-abbrev pub thin_number : Thinned → ℕ
-thin_number (Kept k) = 0
-thin_number (Refused r) = refusal_number r
+abbrev pub thin_number : Result ℕ Refusal → ℕ
+thin_number r = answer_number r
 
-abbrev pub thin_kept : Thinned → ℕ
-thin_kept (Kept k) = k
-thin_kept (Refused r) = 0
+abbrev pub thin_kept : Result ℕ Refusal → ℕ
+thin_kept (Ok k) = k
+thin_kept (Err r) = 0

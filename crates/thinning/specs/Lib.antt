@@ -1,3 +1,4 @@
 pub mod Thinning
 pub mod Answer
 pub mod Known
+pub mod Points

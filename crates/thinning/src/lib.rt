@@ -1,174 +1,153 @@
 // Thinning: the positions of a list of vertices that a cart needs.
 #![tactic(auto)]
 
-ghost use Rattle.std.specs.Prelude.{◌≡◌, pred, ◌<◌, ◌≤◌, length, get_or};
+ghost use Rattle.std.specs.Prelude.{◌≡◌, suc, pred, ◌<◌, ◌≤◌, length, get_or};
 ghost use Rattle.basics.specs.Bounded.{every};
-ghost use Rattle.floor.specs.Floor.{floor_of, vertices};
-ghost use Rattle.floor.specs.Known.{Sized};
-ghost use Rattle.thinning.specs.Thinning.{seen, next_kept, is_vertex, sees_next, joined_list};
-ghost use Rattle.thinning.specs.Answer.{list_shape, Thins, thin_number, thin_kept};
-ghost use Rattle.thinning.specs.Known.{VertexList, Leg, Recordable, Recorded};
+ghost use Rattle.floor.specs.Floor.{vertices};
+ghost use Rattle.floor.specs.Plan.{floor_on};
+ghost use Rattle.thinning.specs.Thinning.{next_kept, is_vertex, sees_next, joined_list};
+ghost use Rattle.thinning.specs.Answer.{list_shape, Thins};
+ghost use Rattle.thinning.specs.Known.{Leg, Steps, Chained, Recordable, Recorded};
+ghost use Rattle.thinning.specs.Points.{seen_in};
 
-use floor::{Refusal, Shape, Vertex};
+use floor::{FloorPlan, Refusal, Vertex};
 
-// The answer: the number of positions that are kept, or a refusal.
-#[derive(Clone, Copy)]
-pub enum Thinned {
-    Kept(usize),
-    Refused(Refusal),
-}
+mod points; // points.rt: a list of vertices on a floor
 
-// The number of an answer (rule 6.1).
-pub fn thin_number(t: Thinned) -> u8
-    ensures { result ≡ thin_number t }
-{
-    match t {
-        Thinned::Kept(_) => 0,
-        Thinned::Refused(r) => floor::refusal_number(r),
+pub use points::PointList;
+
+impl PointList<'_> {
+    // The vertex at position k.
+    fn vertex(self, k: usize) -> Vertex
+        requires { k < self.n }
+        ensures { (result.0 ≡ get_or self.entry.list.now k 0)
+            × (result.0 < vertices self.entry.floor.w self.entry.floor.h) }
+    {
+        Vertex(usize::from(self.list[k]))
     }
-}
 
-// The number of positions that are kept; 0 on a refusal.
-pub fn kept_count(t: Thinned) -> usize
-    ensures { result ≡ thin_kept t }
-{
-    match t {
-        Thinned::Kept(k) => k,
-        Thinned::Refused(_) => 0,
+    // Whether the vertices at positions i and k see each other.
+    pub fn sees(self, i: usize, k: usize) -> bool
+        requires { (i < self.n) × (k < self.n) }
+        ensures { result ≡ seen_in self.entry i k }
+    {
+        sight::in_sight(self.floor, self.vertex(i), self.vertex(k))
     }
-}
 
-// Whether the first n numbers of the list are vertices.
-fn all_vertices(w: usize, h: usize, list: &[u16], n: usize) -> bool
-    requires { (w ≤ 127) × (h ≤ 127) × (n ≤ length list.now) }
-    ensures { result ≡ every n (is_vertex w h list.now) }
-{
-    let v = floor::vertex_count(w, h);
-    let mut k: usize = 0;
-    while k < n {
-        if v <= list[k] as usize {
-            return false;
-        }
-        k += 1;
+    // Whether each vertex, but the last, sees the next.
+    fn each_sees_next(self) -> bool
+        requires { 1 ≤ self.n }
+        ensures { result ≡ every (pred self.entry.n) (sees_next (floor_on self.entry.floor) self.entry.list.now) }
+    {
+        (0..self.n - 1).all(|k| self.sees(k, k + 1))
     }
-    true
-}
 
-// The vertex at position k.
-fn vertex_in(w: usize, h: usize, list: &[u16], n: usize, k: usize) -> Vertex
-    requires { VertexList w h list.now n × (k < n) }
-    ensures { (result.0 ≡ get_or list.now k 0) × (result.0 < vertices w h) }
-{
-    Vertex(list[k] as usize)
-}
-
-// Whether the vertices at positions i and k see each other.
-pub fn seen_at(w: usize, h: usize, map: &[u8], list: &[u16], n: usize, i: usize, k: usize) -> bool
-    requires { Sized w h map.now × VertexList w h list.now n × (i < n) × (k < n) }
-    ensures { result ≡ seen (floor_of w h map.now) list.now i k }
-{
-    let a = vertex_in(w, h, list, n, i);
-    let b = vertex_in(w, h, list, n, k);
-    sight::in_sight(w, h, map, a, b)
-}
-
-// Whether each of the first n vertices, but the last, sees the next.
-fn each_sees_next(w: usize, h: usize, map: &[u8], list: &[u16], n: usize) -> bool
-    requires { Sized w h map.now × VertexList w h list.now n × (1 ≤ n) }
-    ensures { result ≡ every (pred n) (sees_next (floor_of w h map.now) list.now) }
-{
-    let mut k: usize = 0;
-    while k + 1 < n {
-        if !seen_at(w, h, map, list, n, k, k + 1) {
-            return false;
-        }
-        k += 1;
-    }
-    true
-}
-
-// Whether the first n places of the list are a joined list.
-fn joined(w: usize, h: usize, map: &[u8], list: &[u16], n: usize) -> bool
-    requires { Sized w h map.now }
-    ensures { result ≡ joined_list (floor_of w h map.now) list.now n }
-{
-    if n < 1 {
-        return false;
-    }
-    if list.len() < n {
-        return false;
-    }
-    if all_vertices(w, h, list, n) {
-        return each_sees_next(w, h, map, list, n);
-    }
-    false
-}
-
-// The first refusal of 1, 2, 3, 6 and 10 that applies, for an output slice of `places` places.
-pub fn list_shape(w: usize, h: usize, map: &[u8], list: &[u16], places: usize, n: usize) -> Shape
-    ensures { result ≡ list_shape w h map.now list.now places n }
-{
-    let map_shape = floor::floor_shape(w, h, map);
-    let Shape::Good = map_shape else {
-        return map_shape;
-    };
-    if 16384 < list.len() {
-        return Shape::Refused(Refusal::SliceLength);
-    }
-    if places != list.len() {
-        return Shape::Refused(Refusal::SliceLength);
-    }
-    if joined(w, h, map, list, n) {
-        return Shape::Good;
-    }
-    Shape::Refused(Refusal::NotJoined)
-}
-
-// The position kept after position i, which sees position i + 1: one less than the first position past i that i does
-// not see, or n - 1. The search stops at `end`: that is n, until a position is found that i does not see.
-fn next_kept(w: usize, h: usize, map: &[u8], list: &[u16], n: usize, i: usize) -> usize
-    requires { Sized w h map.now × Leg (floor_of w h map.now) list.now n i }
-    ensures { result ≡ next_kept (seen (floor_of w h map.now) list.now) n i }
-{
-    let mut last = i + 1;
-    let mut k = i + 2;
-    let mut end = n;
-    while k < end {
-        if seen_at(w, h, map, list, n, i, k) {
+    // The position kept after position i, which sees position i + 1: one less than the first position past i that i
+    // does not see, or n - 1.
+    fn next_kept(self, i: usize) -> usize
+        requires { Leg (floor_on self.floor) self.list.now self.n i }
+        ensures { result ≡ next_kept (seen_in self.entry) self.entry.n i }
+    {
+        let mut last = i + 1;
+        for k in i + 2..self.n {
+            if !self.sees(i, k) {
+                break;
+            }
             last = k;
-        } else {
-            end = k;
         }
-        k += 1;
+        last
     }
-    last
+
+    // Writes the kept positions of a joined list into the output slice, then 0, and answers their number.
+    fn record_kept(self, out: &mut [u16]) -> usize
+        requires { Recordable (floor_on self.floor) self.list.now out.old self.n }
+        ensures { Recorded (floor_on self.entry.floor) self.entry.list.now out.old self.entry.n result
+            out.new }
+    {
+        record(self.n, out, |i| self.next_kept(i))
+    }
 }
 
-// Writes the kept positions of a joined list into the output slice, then 0, and answers their number. The first is
-// position 0, which is written when the slice is cleared.
-fn record_kept(w: usize, h: usize, map: &[u8], list: &[u16], out: &mut [u16], n: usize) -> usize
-    requires { Sized w h map.now × Recordable (floor_of w h map.now) list.now out.old n }
-    ensures { Recorded (floor_of w h map.now) list.now out.old n result
-        out.new }
+// Writes positions below n into the output slice, then 0, and answers their number: position 0, and after each that is
+// not n - 1 the one that `next` answers. Position 0 is written when the slice is cleared.
+pub fn record<F: Fn(usize) -> usize>(n: usize, out: &mut [u16], next: F) -> usize
+    requires room { (1 ≤ n) × (n ≤ 16384) × (n ≤ length out.old) }
+    requires steps { Steps (F.pre next) (F.post next) n }
+    ensures { Chained (F.post next) n out.old result out.new }
 {
-    basics::clear_u16(out);
+    out.fill(0);
     let mut i: usize = 0;
     let mut m: usize = 1;
+    // Kept: no plainer, since each position is found from the one before.
     while i + 1 < n {
-        i = next_kept(w, h, map, list, n, i);
+        i = next(i);
         out[m] = i as u16;
         m += 1;
     }
     m
 }
 
-// Thins the first n places of the list: the output slice gets the kept positions of the list, then 0. A refusal writes
-// nothing; the list is only read.
-pub fn thin(w: usize, h: usize, map: &[u8], list: &[u16], out: &mut [u16], n: usize) -> Thinned
+// Whether the first n numbers of the list are vertices.
+fn all_vertices(floor: FloorPlan<'_>, list: &[u16], n: usize) -> bool
+    requires { n ≤ length list.now }
+    ensures { result ≡ every n (is_vertex floor.entry.w floor.entry.h list.now) }
+{
+    let count = floor::vertex_count(floor.w, floor.h);
+    list[..n].iter().all(|v| usize::from(*v) < count)
+}
+
+// Whether the first n places of the list are a joined list.
+#[tactic(auto, unfolding(crate::specs::Thinning::joined_list))]
+fn joined(floor: FloorPlan<'_>, list: &[u16], n: usize) -> bool
+    ensures { result ≡ joined_list (floor_on floor.entry) list.now n }
+{
+    1 <= n
+        && n <= list.len()
+        && all_vertices(floor, list, n)
+        && PointList { floor, list, n }.each_sees_next()
+}
+
+// The first refusal of 1, 2, 3, 6 and 10 that applies, for an output slice of `places` places.
+// Kept: what may not change: the parameters of `list_shape`.
+#[tactic(auto, unfolding(crate::specs::Answer::list_shape))]
+pub fn list_shape(
+    w: usize,
+    h: usize,
+    map: &[u8],
+    list: &[u16],
+    places: usize,
+    n: usize,
+) -> Result<(), Refusal>
+    ensures { result ≡ list_shape w h map.now list.now places n }
+{
+    floor::floor_shape(w, h, map)?;
+    if 16384 < list.len() || places != list.len() {
+        return Err(Refusal::SliceLength);
+    }
+    if !joined(FloorPlan { w, h, map }, list, n) {
+        return Err(Refusal::NotJoined);
+    }
+    Ok(())
+}
+
+// Thins the first n places of the list: the output slice gets the kept positions of the list, then 0, and the answer is
+// their number. A refusal writes nothing; the list is only read.
+// Kept: what may not change: the parameters of `thin`.
+pub fn thin<'a>(
+    w: usize,
+    h: usize,
+    map: &'a [u8],
+    list: &'a [u16],
+    out: &mut [u16],
+    n: usize,
+) -> Result<usize, Refusal>
     ensures { Thins w h map.now list.now out.old n result out.new }
 {
-    match list_shape(w, h, map, list, out.len(), n) {
-        Shape::Refused(r) => Thinned::Refused(r),
-        Shape::Good => Thinned::Kept(record_kept(w, h, map, list, out, n)),
-    }
+    list_shape(w, h, map, list, out.len(), n)?;
+    let points = PointList {
+        floor: FloorPlan { w, h, map },
+        list,
+        n,
+    };
+    Ok(points.record_kept(out))
 }

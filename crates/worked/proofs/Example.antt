@@ -7,12 +7,12 @@ use Prim.Native.Nat.{ℕ}
 use mathlib.Core.Path.{◌≡◌, sym, ap, ◌∙◌}
 use mathlib.Core.List.{List, [], ◌++◌, append-nil}
 use lib.ListN.{length}
+use Rattle.std.proofs.Common.{Ok}
 use Rattle.basics.specs.Lists.{tabulate}
 use Rattle.floor.specs.Floor.{vertices}
 use Rattle.paths.specs.Route.{central_route}
 use Rattle.paths.specs.Sheet.{Sheet, route_sheet}
-use Rattle.planner.specs.Plan.{route_answer}
-use Rattle.planner.specs.declared.Planned.TheVariants.{Found}
+use Rattle.planner.specs.Plan.{route_answer, plan_of as planned_of}
 use Rattle.records.specs.Lines.{ascii, route_line, at_line, kept_of}
 use Rattle.records.specs.declared.stream.JobRecord.{JobRecord}
 use Rattle.records.proofs.Example.{input, example-read, example-lines}
@@ -34,7 +34,7 @@ module _ (c : Case) (h : RouteHolds c) (n : ℕ) where
   unfolding route_sheet
   points = ap (λ (s : Sheet). s.n) h.sheet.is
 
-  answer : route_answer (graph_of c) c.start c.end ≡ Found c.cost c.total c.sheet.n
+  answer : route_answer (graph_of c) c.start c.end ≡ Ok (planned_of c.cost c.total c.sheet.n)
   unfolding route_answer
   answer = rw (h.sheet.is_joined, h.sheet.total_fits, h.cost, h.total, points)
 

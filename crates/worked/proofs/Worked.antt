@@ -7,6 +7,7 @@ use native.Mathlib.Omega.{arith}
 use borrow.Author.Tests.{ltb-true, eqb-true}
 use lib.Dec.{ltb, eqb}
 use lib.ListN.{length, get_or}
+use Rattle.std.proofs.Common.{Ok}
 use Rattle.basics.specs.Bounded.{pick, bounded-opened}
 use Rattle.basics.specs.Lists.{same, lists-opened}
 use Rattle.basics.proofs.Bools.{and_left, and_right}
@@ -24,7 +25,6 @@ use Rattle.paths.specs.Local.{Shaped, entry, local_route, local_no_route, local-
 use Rattle.paths.proofs.SheetTest.{numbers-true, numbers-total, local-true, local-no_route}
 use Rattle.paths.proofs.Sheets.{route-entries}
 use Rattle.grid.specs.Grid.{pinch_shape, ends_shape, job_shape}
-use Rattle.grid.specs.declared.JobShape.TheVariants.{Fit}
 use Rattle.grid.proofs.Lawful.{floor-lawful}
 use Rattle.grid.proofs.Jobs.{FitJob, job-fit}
 use Rattle.given_costs.specs.Given.{costs_true}
@@ -101,7 +101,7 @@ shaped-true c t =
 
 -- The job of the case has a good shape.
 abbrev Fits : Case → Type 0
-Fits c = job_shape c.wide c.high c.map c.neighbourhood c.start c.end ≡ Fit c.dirs
+Fits c = job_shape c.wide c.high c.map c.neighbourhood c.start c.end ≡ Ok c.dirs
 
 module _ (c : Case) (fit : Fits c) where
   abbrev g : Graph

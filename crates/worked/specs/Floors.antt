@@ -16,7 +16,7 @@
 --                            vertices of floor g the only pinch is 4; the traversal count of vertex 4 of floor h is 4;
 --                            on floor a the costs with one neighbourhood, handed in for another, are false, and on
 --                            floor c they are true; the cells of floor i
-use Rattle.std.specs.Prelude.{ℕ, ◌+◌, ◌*◌, ◌<◌, ◌≡◌, Bool, true, false, List, [], ◌∷◌, eqb, get_or}
+use Rattle.std.specs.Prelude.{ℕ, ◌+◌, ◌*◌, ◌<◌, ◌≡◌, Bool, true, false, List, [], ◌∷◌, eqb, get_or, Ok}
 use Rattle.floor.specs.Floor.{Floor, stored_cells, floor_of, column, row}
 use Rattle.sight.specs.Sight.{segment_of, enters, pinch}
 use Rattle.moves.specs.declared.Directions.{Directions}
@@ -26,7 +26,6 @@ use Rattle.paths.specs.Distance.{unreachable, distance, path_count}
 use Rattle.paths.specs.Route.{traversals}
 use Rattle.paths.specs.Sheet.{Sheet, sheet_of, TrueRoute, TrueNoRoute}
 use Rattle.grid.specs.Grid.{floor_graph, job_shape}
-use Rattle.grid.specs.declared.JobShape.TheVariants.{Fit}
 use Rattle.given_costs.specs.Given.{costs_true}
 use Rattle.thinning.specs.Thinning.{kept_positions}
 
@@ -184,14 +183,14 @@ abbrev pub entered : List Bool
 entered = true ∷ true ∷ false ∷ false ∷ true ∷ true ∷ []
 
 pub record RouteHolds (c : Case) : Type 0 where
-  pub shape : job_shape c.wide c.high c.map c.neighbourhood c.start c.end ≡ Fit c.dirs
+  pub shape : job_shape c.wide c.high c.map c.neighbourhood c.start c.end ≡ Ok c.dirs
   pub sheet : TrueRoute (graph_of c) c.start c.end c.sheet
   pub cost : distance (graph_of c) c.start c.end ≡ c.cost
   pub total : path_count (graph_of c) c.start c.end ≡ c.total
   pub kept : kept_positions (plan_of c) c.sheet.route c.sheet.n ≡ c.kept
 
 pub record NoRouteHolds (c : Case) : Type 0 where
-  pub shape : job_shape c.wide c.high c.map c.neighbourhood c.start c.end ≡ Fit c.dirs
+  pub shape : job_shape c.wide c.high c.map c.neighbourhood c.start c.end ≡ Ok c.dirs
   pub sheet : TrueNoRoute (graph_of c) c.start c.end c.sheet
 
 -- P holds of each case of a list.

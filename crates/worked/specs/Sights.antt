@@ -5,13 +5,11 @@
 --                   blocked cell that it does not enter; floor f along its upper border; floor g along its diagonals,
 --                   of which one has a pinch, and along its left border; a floor with a blocked cell behind a pinch
 --   SightsHold   == the statement: each answer is the one given
-use Rattle.std.specs.Prelude.{ℕ, ◌≡◌, List, [], ◌∷◌}
+use Rattle.std.specs.Prelude.{ℕ, ◌≡◌, List, [], ◌∷◌, Some, None, Ok, Err}
 use Rattle.floor.specs.Floor.{stored_cells}
 use Rattle.floor.specs.declared.Refusal.TheVariants.{End}
-use Rattle.sight.specs.Question.{sight_answer}
-use Rattle.sight.specs.declared.Obstacle.TheVariants.{Clear, Cell, Step, Pinch}
-use Rattle.sight.specs.declared.Sight.{Sight}
-use Rattle.sight.specs.declared.Sight.TheVariants.{Answered, Refused}
+use Rattle.sight.specs.Question.{Sight, sight_answer}
+use Rattle.sight.specs.declared.Obstacle.TheVariants.{Cell, Step, Pinch}
 
 pub record Question : Type 0 where
   pub wide : ℕ
@@ -26,16 +24,16 @@ abbrev pub asked : ℕ → ℕ → List ℕ → ℕ → ℕ → Sight → Questi
 asked w h l a b s = record { wide = w; high = h; map = stored_cells l; first = a; last = b; answer = s }
 
 abbrev pub clear : Sight
-clear = Answered Clear
+clear = Ok None
 
 abbrev pub cell : ℕ → Sight
-cell n = Answered (Cell (record { 0 = n }))
+cell n = Ok (Some (Cell (record { 0 = n })))
 
 abbrev pub step : ℕ → Sight
-step n = Answered (Step (record { 0 = n }))
+step n = Ok (Some (Step (record { 0 = n })))
 
 abbrev pub pinched : ℕ → Sight
-pinched n = Answered (Pinch (record { 0 = n }))
+pinched n = Ok (Some (Pinch (record { 0 = n })))
 
 -- On floor i, the segment from (0, 0), vertex 0, to (3, 2), vertex 11, enters cells (0, 0), (1, 0), (1, 1) and (2, 1),
 -- whose numbers are 0, 1, 4 and 5. On the last floor, the segment from (0, 3), vertex 12, to (3, 0), vertex 3, passes
@@ -50,7 +48,7 @@ questions =
     ∷ asked 3 2 (0 ∷ 0 ∷ 1 ∷ 0 ∷ 0 ∷ 0 ∷ []) 11 0 clear
     ∷ asked 2 1 (0 ∷ 1 ∷ []) 0 2 (step 1)
     ∷ asked 2 1 (0 ∷ 1 ∷ []) 2 0 (step 2)
-    ∷ asked 2 1 (0 ∷ 1 ∷ []) 0 6 (Refused End)
+    ∷ asked 2 1 (0 ∷ 1 ∷ []) 0 6 (Err End)
     ∷ asked 2 2 (1 ∷ 0 ∷ 0 ∷ 1 ∷ []) 0 8 (cell 0)
     ∷ asked 2 2 (1 ∷ 0 ∷ 0 ∷ 1 ∷ []) 8 0 (cell 3)
     ∷ asked 2 2 (1 ∷ 0 ∷ 0 ∷ 1 ∷ []) 2 6 (pinched 4)

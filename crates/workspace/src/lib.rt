@@ -1,15 +1,16 @@
 // The planner's working slice of 4 * V places, for V vertices: from place 0 on the vertices that have a cost, in the order
-// in which they were settled, V + 1 places at most; from place 2 * V on the mask of the open moves of each vertex. Two
-// parts of one lent slice cannot be lent at once, so these are regions of one list. This crate alone knows where they are.
+// in which they were settled, V + 1 places at most; from place 2 * V on the mask of the open moves of each vertex. These
+// are regions of one slice, and this crate alone knows where they are.
 #![tactic(auto)]
 
 ghost use Rattle.std.specs.Prelude.{◌≡◌, ◌*◌, ◌<◌, ◌≤◌, length, set};
-ghost use Rattle.floor.specs.Floor.{floor_of, vertices};
-ghost use Rattle.floor.specs.Known.{Sized};
+ghost use Rattle.floor.specs.Floor.{vertices};
+ghost use Rattle.floor.specs.Plan.{floor_on};
 ghost use Rattle.moves.specs.Table.{Listed};
 ghost use Rattle.paths.specs.Local.{entry};
 ghost use Rattle.workspace.specs.Regions.{mask_at, MasksFilled};
 
+use floor::FloorPlan;
 use moves::Directions;
 
 // The vertex at place i of the order.
@@ -17,14 +18,7 @@ pub fn settled_at(work: &[u32], i: usize) -> usize
     requires { i < length work.now }
     ensures { result ≡ entry work.now i }
 {
-    index(work[i])
-}
-
-// A vertex number of 32 bits as an index.
-fn index(x: u32) -> usize
-    ensures { result ≡ x }
-{
-    x as usize
+    work[i] as usize
 }
 
 // Copies the vertex at place i of the order to place k, and answers it.
@@ -34,7 +28,7 @@ pub fn copy_settled(work: &mut [u32], i: usize, k: usize) -> usize
 {
     let u = work[i];
     work[k] = u;
-    index(u)
+    u as usize
 }
 
 // The mask of vertex u, where there are `count` vertices.
@@ -46,12 +40,12 @@ pub fn mask_at(work: &[u32], count: usize, u: usize) -> u32
 }
 
 // Stores the mask of each vertex: worked out once for a floor, and read by every pass.
-pub fn store_masks(w: usize, h: usize, map: &[u8], dirs: Directions, work: &mut [u32])
-    requires { Sized w h map.now × Listed dirs × (length work.old ≡ 4 * vertices w h) }
-    ensures { MasksFilled (floor_of w h map.now) dirs work.old work.new }
+pub fn store_masks(floor: FloorPlan<'_>, dirs: Directions, work: &mut [u32])
+    requires { Listed dirs × (length work.old ≡ 4 * vertices floor.w floor.h) }
+    ensures { MasksFilled (floor_on floor.entry) dirs work.old work.new }
 {
-    let count = floor::vertex_count(w, h);
+    let count = floor::vertex_count(floor.w, floor.h);
     let first = 2 * count;
     let past = 3 * count;
-    masks::fill_masks(w, h, map, dirs, &mut work[first..past]);
+    masks::fill_masks(floor, dirs, &mut work[first..past]);
 }

@@ -18,8 +18,8 @@ use lib.Seq.{take-append_seam, drop-drop, drop-append-add}
 use Rattle.basics.proofs.Bools.{and_intro, and_both}
 use Rattle.floor.specs.Refusals.{left_by}
 use Rattle.floor.specs.declared.Refusal.{Refusal}
-use Rattle.floor.specs.declared.Shape.{Shape}
-use Rattle.floor.specs.declared.Shape.TheVariants.{Good, Refused}
+use Rattle.floor.specs.Refusals.{Shape}
+use Rattle.std.specs.Prelude.{Ok, Err}
 use Rattle.writer.specs.Records.{Job}
 use Rattle.writer.specs.Writing.{Call, put_map, put_job, call_bytes, given_shape, map_shape, in_turn, call_shape}
 use Rattle.writer.specs.Calls.{fresh, after_one, after, taken, job_calls}
@@ -28,7 +28,7 @@ use Rattle.writer.proofs.Shapes.{accepted, not-refused}
 
 pub data Ordered : List Call → Type 0 where
   none_made : Ordered []
-  map_first : (w h : ℕ) (l : List ℕ) (js : List Job) → map_shape w h l ≡ Good → length js ≤ 1000
+  map_first : (w h : ℕ) (l : List ℕ) (js : List Job) → map_shape w h l ≡ Ok tt → length js ≤ 1000
       → Ordered (put_map w h l ∷ job_calls js)
 
 -- ---- one call more
@@ -44,7 +44,7 @@ jobs-more [] j = refl
 jobs-more (k ∷ js) j = ap (λ l. put_job k ∷ l) (jobs-more js j)
 
 -- A call in turn after calls in order is in order.
-ordered-more : (T : List Call) (x : Call) → Ordered T → given_shape x ≡ Good → in_turn (length T) x ≡ true
+ordered-more : (T : List Call) (x : Call) → Ordered T → given_shape x ≡ Ok tt → in_turn (length T) x ≡ true
     → Ordered (T ++ (x ∷ []))
 ordered-more _ (put_map w h l) none_made g t = map_first w h l [] g (omega arith)
 ordered-more _ (put_job j) none_made g t = absurd (omega (arith, leb-true 1 0 (and_both (leb 1 0) (leb 0 1000) t).0))
@@ -82,7 +82,7 @@ module _ (buf : List ℕ) where
   bytes-size : (T : List Call) (x : Call) → length (bytes_of (T ++ (x ∷ []))) ≡ length (bytes_of T) + length (call_bytes x)
   bytes-size T x = ap length (bytes-more T x) ∙ length-append (bytes_of T) (call_bytes x)
 
-  step-taken : (T : List Call) (x : Call) → shape T x ≡ Good → after_one (holding buf T) x ≡ holding buf (T ++ (x ∷ []))
+  step-taken : (T : List Call) (x : Call) → shape T x ≡ Ok tt → after_one (holding buf T) x ≡ holding buf (T ++ (x ∷ []))
   step-taken T x e =
       rw e (
       ap₂ (λ (p d : ℕ). record {
@@ -95,11 +95,11 @@ module _ (buf : List ℕ) where
         buffer = l;
       }) (over (bytes_of T) (call_bytes x) buf ∙ sym (ap (λ l. l ++ drop (length l) buf) (bytes-more T x))))
 
-  step-refused : (T : List Call) (x : Call) {r : Refusal} → shape T x ≡ Refused r
+  step-refused : (T : List Call) (x : Call) {r : Refusal} → shape T x ≡ Err r
       → after_one (holding buf T) x ≡ holding buf T
   step-refused T x e = rw e
 
-  fits_more : (T : List Call) (x : Call) → Fits T → shape T x ≡ Good → Fits (T ++ (x ∷ []))
+  fits_more : (T : List Call) (x : Call) → Fits T → shape T x ≡ Ok tt → Fits (T ++ (x ∷ []))
   fits_more T x f e =
       let a = accepted (holding buf T).writer x (length (holding buf T).buffer) e in
       record {
@@ -114,7 +114,7 @@ module _ (buf : List ℕ) where
     pub fits : Fits (T ++ taken (holding buf T) xs)
 
   -- `Made` with one call in front.
-  made-taken : (T xs : List Call) (x : Call) → shape T x ≡ Good → Made (T ++ (x ∷ [])) xs → Made T (x ∷ xs)
+  made-taken : (T xs : List Call) (x : Call) → shape T x ≡ Ok tt → Made (T ++ (x ∷ [])) xs → Made T (x ∷ xs)
   unfolding after taken
   made-taken T xs x e m =
       let rest : List Call = taken (after_one (holding buf T) x) xs in
@@ -124,7 +124,7 @@ module _ (buf : List ℕ) where
       ∙ ap (λ s. (T ++ (x ∷ [])) ++ taken s xs) next in
       record { same = ap (λ s. after s xs) next ∙ m.same ∙ ap (holding buf) (sym more); fits = rw more m.fits }
 
-  made-refused : (T xs : List Call) (x : Call) {r : Refusal} → shape T x ≡ Refused r → Made T xs → Made T (x ∷ xs)
+  made-refused : (T xs : List Call) (x : Call) {r : Refusal} → shape T x ≡ Err r → Made T xs → Made T (x ∷ xs)
   unfolding after taken
   made-refused T xs x e m =
       let rest : List Call = taken (after_one (holding buf T) x) xs in
@@ -133,12 +133,12 @@ module _ (buf : List ℕ) where
       ap (λ o. T ++ left_by o (x ∷ rest) rest) e ∙ ap (λ s. T ++ taken s xs) next in
       record { same = ap (λ s. after s xs) next ∙ m.same ∙ ap (holding buf) (sym more); fits = rw more m.fits }
 
-  made_more : (T xs : List Call) (x : Call) → (shape T x ≡ Good → Made (T ++ (x ∷ [])) xs) → Made T xs → Made T (x ∷ xs)
+  made_more : (T xs : List Call) (x : Call) → (shape T x ≡ Ok tt → Made (T ++ (x ∷ [])) xs) → Made T xs → Made T (x ∷ xs)
   made_more T xs x m n = cases (shape T x) refl
     where
       cases : (o : Shape) → shape T x ≡ o → Made T (x ∷ xs)
-      cases Good e = made-taken T xs x e (m e)
-      cases (Refused r) e = made-refused T xs x e n
+      cases (Ok u) e = made-taken T xs x e (m e)
+      cases (Err r) e = made-refused T xs x e n
 
   calls-from : (T xs : List Call) → Fits T → Made T xs
   unfolding after taken
@@ -154,8 +154,8 @@ module _ (buf : List ℕ) where
   -- ---- calls in order
 
   -- A call that is in turn and fits is not refused.
-  shape_good : (T : List Call) (x : Call) → Fits T → given_shape x ≡ Good → in_turn (length T) x ≡ true
-      → length (bytes_of T) + length (call_bytes x) ≤ length buf → shape T x ≡ Good
+  shape_good : (T : List Call) (x : Call) → Fits T → given_shape x ≡ Ok tt → in_turn (length T) x ≡ true
+      → length (bytes_of T) + length (call_bytes x) ≤ length buf → shape T x ≡ Ok tt
   shape_good T x f g t l =
       not-refused (holding buf T).writer x (length (holding buf T).buffer)
       (record { given = g; turn = t; room = rw (same-room T f) l })
@@ -164,7 +164,7 @@ module _ (buf : List ℕ) where
   abbrev AllTaken : List Call → List Call → Type 0
   AllTaken T xs = taken (holding buf T) xs ≡ xs
 
-  all_more : (T xs : List Call) (x : Call) → shape T x ≡ Good → AllTaken (T ++ (x ∷ [])) xs → AllTaken T (x ∷ xs)
+  all_more : (T xs : List Call) (x : Call) → shape T x ≡ Ok tt → AllTaken (T ++ (x ∷ [])) xs → AllTaken T (x ∷ xs)
   unfolding taken
   all_more T xs x e a =
       let rest : List Call = taken (after_one (holding buf T) x) xs in

@@ -16,7 +16,7 @@ use lib.Seq.{get_or-append-add, get_or-append_seam, take_at}
 use Rattle.basics.proofs.Bools.{and_intro}
 use Rattle.basics.proofs.Bounded.{every-all}
 use Rattle.records.specs.Format.{word_at, map_side, cell_byte, job_in, past_job, start_cursor}
-use Rattle.records.specs.Format.{cells_of, Stream, with_map, with_job, stream_from, stream_of}
+use Rattle.records.specs.Format.{found, cells_of, Stream, with_map, with_job, stream_from, stream_of}
 use Rattle.records.specs.declared.stream.Cursor.{Cursor}
 use Rattle.records.proofs.Found.{GoodMap, GoodJob, map_found, job-found, map-due, input-ends, job-due}
 use Rattle.records.proofs.Streams.{stream-first, stream-map, stream-job, stream_end}
@@ -65,8 +65,8 @@ module _ (P : List ℕ) (j : Job) (R : List ℕ) where
   job-step k lo hi =
       let c = cursor (length P) k in
       let due = job-due s c (λ z. omega arith) (omega (arith, long)) hi in
-      let found = sym due ∙ sym (job-found s (length P) k job-there) in
-      stream-job s c (job_in s (length P) k) (past_job (length P) k) found
+      let step = sym due ∙ sym (ap found (job-found s (length P) k job-there)) in
+      stream-job s c (job_in s (length P) k) (past_job (length P) k) step
       ∙ ap (λ x. with_job x (stream_from s (past_job (length P) k))) (job_is k)
 
 abbrev jobs_read : ℕ → List Job → Stream
@@ -119,8 +119,8 @@ module _ (w h : ℕ) (cells R : List ℕ) (size : length cells ≡ w * h) where
 
     map-step : stream_of m ≡ with_map (map_read w h) (stream_from m (cursor (4 + w * h) 1))
     map-step =
-        let found = map_found m 0 {w = w} {h = h} refl refl map-there in
-        stream-first m ∙ stream-map m start_cursor _ _ (sym (map-due m start_cursor refl) ∙ sym found)
+        let there = map_found m 0 {w = w} {h = h} refl refl map-there in
+        stream-first m ∙ stream-map m start_cursor _ _ (sym (map-due m start_cursor refl) ∙ sym (ap found there))
 
 pub read-records : (w h : ℕ) (cells : List ℕ) (js : List Job) → length cells ≡ w * h
     → map_side w ≡ true → map_side h ≡ true → ((c : ℕ) → c < length cells → get_or cells c 0 ≤ 1) → length js ≤ 1000

@@ -21,14 +21,14 @@ use lib.Seq.{drop-cons, drop-drop, take_at, get_or-take, get_or-drop, length-tak
 use Rattle.basics.proofs.Bools.{and_both}
 use Rattle.basics.proofs.Bounded.{every-at}
 use Rattle.floor.specs.Floor.{stored_cells}
-use Rattle.floor.specs.declared.Shape.TheVariants.{Good}
+use Rattle.std.specs.Prelude.{Ok}
 use Rattle.floor.proofs.Packed.{Bytes}
 use Rattle.floor.proofs.Shapes.{sides-good}
 use Rattle.floor.proofs.Stored.{stored-good, stored-read}
 use Rattle.records.specs.Format.{word_at, marked_at, wide_at, high_at, cell_byte, map_in, past_map, job_in, past_job, record_at}
 use Rattle.records.specs.Format.{start_cursor, cells_of, Stream, stream_from}
 use Rattle.records.specs.declared.stream.Cursor.{Cursor}
-use Rattle.records.specs.declared.stream.Record.{Record}
+use Rattle.records.specs.Format.{Step}
 use Rattle.records.proofs.Found.{GoodMap, GoodJob, side-pos, side-le}
 use Rattle.records.proofs.Found.{Finding, found_map, no-map, at-end, found-job, no-job, finding}
 use Rattle.records.proofs.Streams.{stream-first, stream-map, stream-job, stream_end, stream-bad}
@@ -107,7 +107,7 @@ module _ (s : List ℕ) where
     unfolding bytes_of
     rest-step c lo hi inside below = cases (record_at s c) (finding s c) refl
       where
-        cases : (r : Record) → Finding s c r → record_at s c ≡ r → Rest c.due c.at (stream_from s c)
+        cases : (r : Step) → Finding s c r → record_at s c ≡ r → Rest c.due c.at (stream_from s c)
         cases _ (found_map z g) e = absurd (omega arith)
         cases _ (no-map z g) e = absurd (omega arith)
         cases _ (at-end l h) e = rw (stream_end s c e) record {
@@ -170,7 +170,7 @@ module _ (s : List ℕ) where
           rw (get_or-take n (drop 4 s) c 0 i, get_or-drop 4 s c 0)
           (leb-true (get_or s (4 + c) 0) 1 (every-at n (cell_byte s 4) g.cells c i))
 
-      stored-shape : map_shape (wide_at s 0) (high_at s 0) (stored_cells cells) ≡ Good
+      stored-shape : map_shape (wide_at s 0) (high_at s 0) (stored_cells cells) ≡ Ok tt
       stored-shape =
           let w = wide_at s 0 in
           let h = high_at s 0 in
@@ -199,7 +199,7 @@ module _ (s : List ℕ) where
     unfolding bytes_of
     read-calls = cases (record_at s start_cursor) (finding s start_cursor) refl
       where
-        cases : (r : Record) → Finding s start_cursor r → record_at s start_cursor ≡ r
+        cases : (r : Step) → Finding s start_cursor r → record_at s start_cursor ≡ r
             → ReadCalls (calls_read s) (read_end s)
         cases _ (found_map z g) q =
             let d = past_map s 0 in

@@ -15,18 +15,18 @@
 --                          refusal
 --   buffer_left c x buf == the buffer after the call: the record at the writer's place, and all else unchanged;
 --                          unchanged at a refusal
+--   writer_after c r    == the writer that goes on after the answer r of a call by the writer c: the one answered, or c
+--                          itself at a refusal
 --   Writes c x buf r b' == the promise of both operations: the answer r and the buffer b' afterwards, for every input
-use Rattle.std.specs.Prelude.{ℕ, ◌+◌, ◌≡◌, Bool, ◌&&◌, List, ◌++◌, leb, eqb, length, take, drop}
+use Rattle.std.specs.Prelude.{ℕ, ◌+◌, ◌≡◌, Bool, ◌&&◌, List, ◌++◌, leb, eqb, length, take, drop, Result, Ok, Err}
 use Rattle.basics.specs.Bounded.{pick}
 use Rattle.floor.specs.Floor.{floor_of, cell_bytes}
-use Rattle.floor.specs.Refusals.{floor_shape, and_then, left_by}
+use Rattle.floor.specs.Refusals.{Shape, good_if, floor_shape, and_then, left_by}
+use Rattle.floor.specs.declared.Refusal.{Refusal}
 use Rattle.floor.specs.declared.Refusal.TheVariants.{Size, NoRoom, OutOfTurn}
-use Rattle.floor.specs.declared.Shape.{Shape}
-use Rattle.floor.specs.declared.Shape.TheVariants.{Good, Refused}
 use Rattle.records.specs.Format.{map_side}
 use Rattle.writer.specs.Records.{Job, map_bytes, job_bytes}
 use Rattle.writer.specs.declared.Writer.{Writer}
-use Rattle.writer.specs.declared.AfterWrite.{AfterWrite}
 
 pub data Call : Type 0 where
   put_map : ℕ → ℕ → List ℕ → Call
@@ -40,22 +40,22 @@ call_bytes (put_job j) = job_bytes j
 
 -- The sides of a map record are 1 to 31.
 unfoldable pub map_shape : ℕ → ℕ → List ℕ → Shape
-map_shape w h l = and_then (pick (map_side w && map_side h) Good (Refused Size)) (floor_shape w h l)
+map_shape w h l = and_then (pick (map_side w && map_side h) (Ok tt) (Err Size)) (floor_shape w h l)
 
 -- A job may have any numbers.
 abbrev pub given_shape : Call → Shape
 given_shape (put_map w h l) = map_shape w h l
-given_shape (put_job j) = Good
+given_shape (put_job j) = Ok tt
 
 abbrev pub in_turn : ℕ → Call → Bool
 in_turn k (put_map w h l) = eqb k 0
 in_turn k (put_job j) = leb 1 k && leb k 1000
 
 abbrev pub turn_shape : Bool → Shape
-turn_shape b = pick b Good (Refused OutOfTurn)
+turn_shape b = pick b (Ok tt) (Err OutOfTurn)
 
 unfoldable pub room_shape : ℕ → ℕ → ℕ → Shape
-room_shape p k n = pick (leb (p + k) n) Good (Refused NoRoom)
+room_shape p k n = pick (leb (p + k) n) (Ok tt) (Err NoRoom)
 
 unfoldable pub call_shape : Writer → Call → ℕ → Shape
 call_shape c x n =
@@ -76,7 +76,11 @@ buffer_left c x buf =
     left_by (call_shape c x (length buf))
     (take c.at buf ++ call_bytes x ++ drop (c.at + length (call_bytes x)) buf) buf
 
-pub record Writes (c : Writer) (x : Call) (buf : List ℕ) (r : AfterWrite) (buf' : List ℕ) : Type 0 where
-  pub answer : r.answer ≡ call_shape c x (length buf)
-  pub writer : r.writer ≡ writer_left c x (length buf)
+abbrev pub writer_after : Writer → Result Writer Refusal → Writer
+writer_after c (Ok d) = d
+writer_after c (Err r) = c
+
+pub record Writes (c : Writer) (x : Call) (buf : List ℕ) (r : Result Writer Refusal) (buf' : List ℕ) : Type 0 where
+  pub answer : good_if r ≡ call_shape c x (length buf)
+  pub writer : writer_after c r ≡ writer_left c x (length buf)
   pub left : buf' ≡ buffer_left c x buf

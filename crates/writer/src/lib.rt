@@ -1,17 +1,18 @@
-// Writing the program's input: one map record and job records into a lent buffer, with a writer that is passed by value
-// and answered by each call.
+// Writing the program's input: one map record and job records into a lent buffer, with a writer that is passed by value;
+// each call answers the writer past the record, or a refusal.
 #![tactic(auto)]
 
-ghost use Rattle.std.specs.Prelude.{◌≡◌, ◌+◌, ◌*◌, ◌/◌, ◌%◌, ◌≤◌, ◌<◌, length};
+ghost use Rattle.std.specs.Prelude.{◌≡◌, ◌+◌, ◌*◌, ◌≤◌, ◌<◌, length};
 ghost use Rattle.basics.specs.Lists.{tabulate};
-ghost use Rattle.floor.specs.Floor.{floor_of, cell_bytes};
+ghost use Rattle.floor.specs.Floor.{cell_bytes};
+ghost use Rattle.floor.specs.Plan.{floor_on};
 ghost use Rattle.records.specs.Known.{Written};
 ghost use Rattle.writer.specs.Records.{Job, job_of, map_bytes, job_bytes};
 ghost use Rattle.writer.specs.Writing.{put_map, put_job, map_shape, room_shape, call_shape, fresh_writer};
 ghost use Rattle.writer.specs.Writing.{Writes};
 ghost use Rattle.writer.specs.Known.{MapFits, cell_byte, past_record};
 
-use floor::{Cell, Refusal, Shape};
+use floor::{Cell, FloorPlan, Refusal};
 use records::lines;
 
 // The place of the next record in the buffer, and the number of that record: 0 for the map, k for job k. C passes this
@@ -23,64 +24,54 @@ pub struct Writer {
     pub due: usize,
 }
 
-// The writer after a call, and the answer of the call.
-#[derive(Clone, Copy)]
-pub struct AfterWrite {
-    pub writer: Writer,
-    pub answer: Shape,
-}
-
 // The first refusal of 1 to 3 that applies to a map: a side that is not 1 to 31, the map's length, its unused bits.
-fn map_shape(w: usize, h: usize, map: &[u8]) -> Shape
+#[tactic(auto, unfolding(crate::specs::Writing::map_shape, floor::specs::Refusals::sides_shape, floor::specs::Refusals::floor_shape))]
+fn map_shape(w: usize, h: usize, map: &[u8]) -> Result<(), Refusal>
     ensures { result ≡ map_shape w h map.now }
 {
-    if 31 < w {
-        return Shape::Refused(Refusal::Size);
-    }
-    if 31 < h {
-        return Shape::Refused(Refusal::Size);
+    if 31 < w || 31 < h {
+        return Err(Refusal::Size);
     }
     floor::floor_shape(w, h, map)
 }
 
 // Refusal 18 where a record of `size` bytes from place `at` on does not fit whole in a buffer of `room` bytes. It takes
 // differences, since a writer may hold any numbers, and a sum of them could wrap.
-fn room_shape(at: usize, size: usize, room: usize) -> Shape
+#[tactic(auto, unfolding(crate::specs::Writing::room_shape))]
+fn room_shape(at: usize, size: usize, room: usize) -> Result<(), Refusal>
     ensures { result ≡ room_shape at size room }
 {
-    if room < at {
-        return Shape::Refused(Refusal::NoRoom);
+    if room < at || room - at < size {
+        return Err(Refusal::NoRoom);
     }
-    let left = room - at;
-    if left < size {
-        return Shape::Refused(Refusal::NoRoom);
-    }
-    Shape::Good
+    Ok(())
 }
 
 // The first refusal of 1, 2, 3, 20 and 18 that applies to writing a map into a buffer of `room` bytes.
-fn map_call_shape(writer: Writer, w: usize, h: usize, map: &[u8], room: usize) -> Shape
+#[tactic(auto, unfolding(crate::specs::Writing::call_shape))]
+fn map_call_shape(
+    writer: Writer,
+    w: usize,
+    h: usize,
+    map: &[u8],
+    room: usize,
+) -> Result<(), Refusal>
     ensures { result ≡ call_shape writer (put_map w h map.now) room }
 {
-    let given = map_shape(w, h, map);
-    let Shape::Good = given else {
-        return given;
-    };
+    map_shape(w, h, map)?;
     if writer.due != 0 {
-        return Shape::Refused(Refusal::OutOfTurn);
+        return Err(Refusal::OutOfTurn);
     }
     room_shape(writer.at, 4 + w * h, room)
 }
 
 // The first refusal of 20 and 18 that applies to writing a job, whatever its numbers, into a buffer of `room` bytes.
-fn job_call_shape(writer: Writer, room: usize) -> Shape
+#[tactic(auto, unfolding(crate::specs::Writing::call_shape))]
+fn job_call_shape(writer: Writer, room: usize) -> Result<(), Refusal>
     ensures { (j : Job) → result ≡ call_shape writer (put_job j) room }
 {
-    if writer.due < 1 {
-        return Shape::Refused(Refusal::OutOfTurn);
-    }
-    if 1000 < writer.due {
-        return Shape::Refused(Refusal::OutOfTurn);
+    if writer.due < 1 || 1000 < writer.due {
+        return Err(Refusal::OutOfTurn);
     }
     room_shape(writer.at, 7, room)
 }
@@ -90,10 +81,7 @@ fn cell_byte(map: &[u8], c: Cell) -> u8
     requires { c.0 < 8 * length map.now }
     ensures { result ≡ cell_byte map.now c.0 }
 {
-    if floor::is_blocked(map, c) {
-        return 1;
-    }
-    0
+    u8::from(floor::is_blocked(map, c))
 }
 
 // Writes the first `count` cells of a map, a byte for each, and answers the place after them.
@@ -108,30 +96,15 @@ fn put_cells(buf: &mut [u8], at: usize, map: &[u8], count: usize) -> usize
 }
 
 // Writes a map record and answers the place after it.
-fn put_map_record(buf: &mut [u8], at: usize, w: usize, h: usize, map: &[u8]) -> usize
-    requires { MapFits w h map.now at buf.old }
-    ensures { Written buf.old at (map_bytes w h (cell_bytes (floor_of w h map.now)))
+fn put_map_record(buf: &mut [u8], at: usize, floor: FloorPlan<'_>) -> usize
+    requires { MapFits floor.w floor.h floor.map.now at buf.old }
+    ensures { Written buf.old at (map_bytes floor.entry.w floor.entry.h (cell_bytes (floor_on floor.entry)))
         buf.new result }
 {
-    let wide = w as u8;
-    let high = h as u8;
-    let head = [b'M', b'P', wide, high];
+    // Kept: no plainer, since `u8::try_from` of a side would answer a result that cannot fail.
+    let head = [b'M', b'P', floor.w as u8, floor.h as u8];
     let cells = lines::put_text(buf, at, &head);
-    put_cells(buf, cells, map, w * h)
-}
-
-// The low byte of a 16-bit number.
-fn low_byte(x: u16) -> u8
-    ensures { result ≡ x % 256 }
-{
-    (x % 256) as u8
-}
-
-// The high byte of a 16-bit number.
-fn high_byte(x: u16) -> u8
-    ensures { result ≡ x / 256 }
-{
-    (x / 256) as u8
+    put_cells(buf, cells, floor.map, floor.w * floor.h)
 }
 
 // Writes a job record and answers the place after it.
@@ -139,26 +112,9 @@ fn put_job_record(buf: &mut [u8], at: usize, nb: u8, a: u16, b: u16) -> usize
     requires { at + 7 ≤ length buf.old }
     ensures { Written buf.old at (job_bytes (job_of nb a b)) buf.new result }
 {
-    let a_low = low_byte(a);
-    let a_high = high_byte(a);
-    let b_low = low_byte(b);
-    let b_high = high_byte(b);
-    let bytes = [b'J', b'B', nb, a_low, a_high, b_low, b_high];
-    lines::put_text(buf, at, &bytes)
-}
-
-// The writer past the record that it has written, which ends before place `next`, with the answer 0.
-fn past_record(writer: Writer, next: usize) -> AfterWrite
-    requires { writer.due ≤ 1000 }
-    ensures { result ≡ past_record writer next }
-{
-    AfterWrite {
-        writer: Writer {
-            at: next,
-            due: writer.due + 1,
-        },
-        answer: Shape::Good,
-    }
+    let [a_low, a_high] = a.to_le_bytes();
+    let [b_low, b_high] = b.to_le_bytes();
+    lines::put_text(buf, at, &[b'J', b'B', nb, a_low, a_high, b_low, b_high])
 }
 
 impl Writer {
@@ -169,36 +125,34 @@ impl Writer {
         Writer { at: 0, due: 0 }
     }
 
-    // Writes a map record of the floor of w by h cells with the packed map `map`: a byte for each cell. A refusal, 1,
-    // 2, 3, 20 or 18, writes nothing and answers this writer.
-    pub fn put_map(self, w: usize, h: usize, map: &[u8], buf: &mut [u8]) -> AfterWrite
-        ensures { Writes self (put_map w h map.now) buf.old result buf.new }
+    // The writer past the record that it has written, which ends before place `next`.
+    fn past_record(self, next: usize) -> Self
+        requires { self.due ≤ 1000 }
+        ensures { result ≡ past_record self next }
     {
-        match map_call_shape(self, w, h, map, buf.len()) {
-            Shape::Refused(why) => AfterWrite {
-                writer: self,
-                answer: Shape::Refused(why),
-            },
-            Shape::Good => {
-                let next = put_map_record(buf, self.at, w, h, map);
-                past_record(self, next)
-            }
+        Writer {
+            at: next,
+            due: self.due + 1,
         }
     }
 
-    // Writes a job record of any numbers. A refusal, 20 or 18, writes nothing and answers this writer.
-    pub fn put_job(self, nb: u8, a: u16, b: u16, buf: &mut [u8]) -> AfterWrite
+    // Writes a map record of the floor of w by h cells with the packed map `map`: a byte for each cell. It answers the
+    // writer past the record; a refusal, 1, 2, 3, 20 or 18, writes nothing, and this writer goes on.
+    pub fn put_map(self, w: usize, h: usize, map: &[u8], buf: &mut [u8]) -> Result<Self, Refusal>
+        ensures { Writes self (put_map w h map.now) buf.old result buf.new }
+    {
+        map_call_shape(self, w, h, map, buf.len())?;
+        let next = put_map_record(buf, self.at, FloorPlan { w, h, map });
+        Ok(self.past_record(next))
+    }
+
+    // Writes a job record of any numbers. It answers the writer past the record; a refusal, 20 or 18, writes nothing,
+    // and this writer goes on.
+    pub fn put_job(self, nb: u8, a: u16, b: u16, buf: &mut [u8]) -> Result<Self, Refusal>
         ensures { Writes self (put_job (job_of nb a b)) buf.old result buf.new }
     {
-        match job_call_shape(self, buf.len()) {
-            Shape::Refused(why) => AfterWrite {
-                writer: self,
-                answer: Shape::Refused(why),
-            },
-            Shape::Good => {
-                let next = put_job_record(buf, self.at, nb, a, b);
-                past_record(self, next)
-            }
-        }
+        job_call_shape(self, buf.len())?;
+        let next = put_job_record(buf, self.at, nb, a, b);
+        Ok(self.past_record(next))
     }
 }

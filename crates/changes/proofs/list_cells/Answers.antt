@@ -1,20 +1,23 @@
 -- `changes::list_cells` meets its contract: `Noted` says what the loop has noted. Assumes nothing.
-use mathlib.Core.Path.{◌≡◌, refl, ap, ◌∙◌}
+use mathlib.Core.Path.{◌≡◌, refl, ◌∙◌}
 use native.Mathlib.Omega.{arith}
-use lib.ListN.{length, length-replicate}
+use lib.ListN.{length}
+use Rattle.std.proofs.Common.{rules}
+use Rattle.basics.specs.Lists.{zeros}
 use Rattle.changes.proofs.Noting.{noted-none}
-use Rattle.changes.proofs.list_cells.Goals.{After-clear_u16}
+use Rattle.changes.proofs.list_cells.Goals.{After-fill}
 use Rattle.changes.proofs.list_cells.Goals as goal
 
 -- Clearing keeps the length.
-kept : (c : After-clear_u16)
-    → length c.clear_u16.new.s
+kept : (c : After-fill)
+    → length c.fill.new.self
     ≡ length c.args.cells.now
-kept c = ap length c.clear_u16.ensures ∙ length-replicate _ _
+kept c = c.fill.ensures.len
 
 pub loop-c-init : goal.loop-c-init
 loop-c-init c =
-    (refl, rw (kept (goal.at.loop-c-init c).After-clear_u16, c.clear_u16.ensures) (noted-none c.requires))
+    let e : c.fill.new.self ≡ zeros (length c.args.cells.now) = search rules in
+    (refl, rw (kept (goal.at.loop-c-init c).After-fill, e) (noted-none c.requires))
 
 pub note_cell-t-requires : goal.note_cell-t-requires
 note_cell-t-requires c =
@@ -26,10 +29,10 @@ loop-c-preserved c =
     (i.0, rw i.1.len at c.note_cell-t.ensures)
 
 pub shape_of-cells : goal.shape_of-cells
-shape_of-cells c = c.loop-c.invariant.1.len ∙ kept (goal.at.shape_of-cells c).After-clear_u16
+shape_of-cells c = c.loop-c.invariant.1.len ∙ kept (goal.at.shape_of-cells c).After-fill
 
 pub returns : goal.returns
 returns c =
     let i = c.loop-c.invariant in
-    let e : c.loop-c.c ≡ length c.clear_u16.new.s = omega (arith, i.0, i.1.within) in
-    rw (← kept (goal.at.returns c).After-clear_u16) (rw e at i.1)
+    let e : c.loop-c.c ≡ length c.fill.new.self = omega (arith, i.0, i.1.within) in
+    rw (← kept (goal.at.returns c).After-fill) (rw e at i.1)

@@ -1,10 +1,6 @@
--- `closures::mark_all` meets its contract: the closures of the slots below k are on the map. Assumes nothing.
-use Prim.Native.Nat.{◌-◌}
+-- `closures::mark_all` meets its contract: the closures of the slots looked at so far are on the map. Assumes nothing.
 use Rattle.closures.proofs.Marks.{Marking}
 use Rattle.closures.proofs.mark_all.Given as goal
 
-abbrev pub invariant-loop-k : goal.invariant-loop-k
-invariant-loop-k l = Marking l.table l.base l.k l.work
-
-abbrev pub decreases-loop-k : goal.decreases-loop-k
-decreases-loop-k l = 16 - l.k
+abbrev pub invariant-loop-slot : goal.invariant-loop-slot
+invariant-loop-slot l = Marking l.table l.base l.slot-index l.work

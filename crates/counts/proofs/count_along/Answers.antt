@@ -66,7 +66,7 @@ bounds-f-u c =
 pub loop-i-preserved : goal.loop-i-preserved
 loop-i-preserved c =
     turn_more c.loop-i.invariant (omega arith) c.vertex_of_turn-u.result c.vertex_of_turn-u.ensures
-    c.count_of.result (counted (goal.at.loop-i-preserved c).After-count_of) c.in-Is.x c.in-Is.is
+    c.count_of.result (counted (goal.at.loop-i-preserved c).After-count_of) c.in-Some.x c.in-Some.is
 
 pub shape_of-f : goal.shape_of-f
 shape_of-f c = turn-len c.loop-i.invariant c.requires.1

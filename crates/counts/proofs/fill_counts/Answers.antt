@@ -1,7 +1,8 @@
 -- `counts::fill_counts` meets its contract: the vertices kept are those on the way; the pass from b goes along them
 -- from the front and the pass from a from the back; and where the first pass answers true, the total fits. Assumes
 -- nothing.
-use mathlib.Core.Path.{sym, ap, ◌∙◌, subst}
+use mathlib.Core.Path.{◌≡◌, sym, ap, ◌∙◌, subst}
+use Rattle.std.proofs.Common.{rules}
 use native.Mathlib.Omega.{arith}
 use lib.ListN.{length, length-replicate}
 use Rattle.basics.specs.Lists.{zeros}
@@ -42,7 +43,8 @@ returns c =
     let A = c.requires.0 in
     let R = c.keep_on_way-kept.ensures in
     let same = c.count_along.auto.f in
+    let cleared : c.fill.new.self ≡ zeros (length c.count_along.new.f) = search rules in
     filled_none K A R
     (subst (Summed g c.args.b c.args.a _) c.if-count_along.false
     (c.count_along.ensures g c.args.a (passable-back K A R)))
-    c.requires.4 (same ∙ ap length c.requires.5 ∙ length-replicate _ 0) c.clear_u64.ensures
+    c.requires.4 (same ∙ ap length c.requires.5 ∙ length-replicate _ 0) cleared

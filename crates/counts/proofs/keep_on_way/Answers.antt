@@ -5,7 +5,7 @@ use mathlib.Core.Path.{◌≡◌, ap, ◌∙◌, subst}
 use native.Mathlib.Omega.{arith}
 use Rattle.basics.specs.Bounded.{pick}
 use Rattle.counts.specs.Passes.{sums_to}
-use Rattle.counts.proofs.Keeping.{kept-none, kept_more, kept-all}
+use Rattle.counts.proofs.Keeping.{kept-one, kept-none, kept_more, kept-all}
 use Rattle.counts.proofs.keep_on_way.Goals as goal
 
 pub loop-i-init : goal.loop-i-init
@@ -29,7 +29,7 @@ loop-i-preserved c =
     let a = c.args in
     let test = subst (λ u. c.sums_to.result ≡ sums_to a.d.now a.e.now a.whole u)
     c.copy_settled-u.ensures.0 c.sums_to.ensures in
-    let one = c.one_if-kept.ensures.0 ∙ ap (λ b. pick b 1 0) test in (
+    let one = c.from-kept.ensures ∙ kept-one _ ∙ ap (λ b. pick b 1 0) test in (
       omega arith,
       rw c.copy_settled-u.ensures.1
           (kept_more c.loop-i.invariant.1 (omega (arith, c.requires.0)) (ap (λ x. c.loop-i.kept + x) one)),

@@ -1,13 +1,12 @@
 -- `masks::dir_open` meets its contract: from its start the move has the four cells of the floor beside it. Assumes
 -- nothing.
-use Prim.Native.Nat.{◌^◌, ◌≤◌}
+use Prim.Native.Nat.{◌≤◌}
 use mathlib.Core.Path.{◌≡◌, ap, ◌∙◌}
-use Rattle.basics.specs.Bounded.{pick}
 use Rattle.moves.specs.Moves.{move_of}
 use Rattle.moves.specs.Cells.{centre}
 use Rattle.moves.proofs.Signs.{back}
-use Rattle.masks.specs.Windows.{start_of}
-use Rattle.masks.proofs.Windows.{start-centre, open-window}
+use Rattle.masks.specs.Windows.{start_of, open_in}
+use Rattle.masks.proofs.Windows.{start-centre, open-window, dir-where}
 use Rattle.masks.proofs.dir_open.Goals.{After-start_of-2}
 use Rattle.masks.proofs.dir_open.Goals as goal
 
@@ -30,4 +29,4 @@ returns c =
     c.start_of-2.result
     short c.requires.1 (column (goal.at.returns c).After-start_of-2).1 (row (goal.at.returns c).After-start_of-2).1 (ap (centre dx) (column (goal.at.returns c).After-start_of-2).0 ∙ start-centre dx short.columns)
     (ap (centre dy) (row (goal.at.returns c).After-start_of-2).0 ∙ start-centre dy short.rows) c.requires.3 in
-    c.dir_where.ensures ∙ ap (λ b. pick b (2 ^ c.args.k) 0) is
+    rw (c.from.ensures, is) (dir-where (open_in (move_of dx dy 0) _ _ _ _) c.args.k c.requires.2)

@@ -5,9 +5,6 @@ use Rattle.moves.proofs.Table.{lawful-move, listed-lawful}
 use Rattle.masks.proofs.Clearing.{turned-xor}
 use Rattle.masks.proofs.turned_dir.Goals as goal
 
-pub dir_at-requires : goal.dir_at-requires
-dir_at-requires c = (listed-lawful c.requires.0, c.requires.1)
-
 pub returns : goal.returns
 returns c =
     let is = ap (λ k. bit_xor k 8) c.dir_at.ensures.0 ∙ turned-xor c.requires.0 c.args.m c.requires.1 in

@@ -1,6 +1,6 @@
 use Prim.Native.Nat.{◌+◌, ◌≤◌}
 use mathlib.Core.Path.{◌≡◌}
-use Rattle.floor.specs.Floor.{floor_of}
+use Rattle.floor.specs.Plan.{floor_on}
 use Rattle.masks.specs.Windows.{pair_at, WindowRow}
 use Rattle.masks.proofs.window_row.Given as goal
 
@@ -8,4 +8,5 @@ use Rattle.masks.proofs.window_row.Given as goal
 -- has the two cells on the left of that one. Assumes nothing.
 abbrev pub invariant-loop-x : goal.invariant-loop-x
 invariant-loop-x l =
-    WindowRow (floor_of l.w l.h l.map) l.y l.windows l.x l.masks × (l.left ≡ pair_at (floor_of l.w l.h l.map) l.x l.y) × (l.left ≤ 5) × (l.x ≤ l.w + 1)
+    WindowRow (floor_on l.floor) l.y l.windows l.x l.masks × (l.left ≡ pair_at (floor_on l.floor) l.x l.y)
+    × (l.left ≤ 5) × (l.x ≤ l.floor.w + 1)

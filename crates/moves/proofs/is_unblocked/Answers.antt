@@ -1,72 +1,51 @@
--- `moves::is_unblocked` meets its contract: the answer is no for a move that leads off the floor, and otherwise that of
--- `ends_unblocked`. Assumes nothing.
-use mathlib.Core.Path.{◌≡◌, sym, ap₂, ◌∙◌}
-use Prim.Native.Nat.{◌+◌, ◌-◌}
-use native.Mathlib.Omega.{arith}
-use Rattle.floor.specs.Floor.{floor_of}
-use Rattle.sight.specs.Sight.{segment_of, unblocked}
+-- `moves::is_unblocked` meets its contract: past the tests the answer is that of `sight::is_unblocked` on the segment
+-- to the far end. Assumes nothing.
+use mathlib.Core.Path.{sym, ◌∙◌}
+use mathlib.Core.Logic.{inl, inr, ⊎_elim}
+use Rattle.floor.specs.Plan.{floor_on}
+use Rattle.sight.specs.Sight.{unblocked}
 use Rattle.moves.specs.Moves.{move_of}
-use Rattle.moves.specs.Steps.{up, down, far_end_at, step_of}
 use Rattle.moves.specs.Table.{Reaches}
-use Rattle.moves.proofs.Signs.{back}
-use Rattle.moves.proofs.Steps.{shifted-is, far-reaches, end-off, end-there}
-use Rattle.moves.proofs.is_unblocked.Goals.{After-moved_by, After-moved_by-2, After-step_from, In-To}
+use Rattle.moves.proofs.Signs.{back, narrow_one}
+use Rattle.moves.proofs.Steps.{shifted-span, place-there, reaches-on, end-there}
+use Rattle.moves.proofs.is_unblocked.Goals.{In-Some-shifted_by}
 use Rattle.moves.proofs.is_unblocked.Goals as goal
 
--- Where the offsets lead.
-step : (c : After-step_from)
-    → c.step_from.result ≡ step_of (far_end_at c.args.w c.args.h (move_of c.args.dx c.args.dy 0) c.args.x c.args.y)
-step c =
-    rw (back c.args.dx c.requires.2.columns, back c.args.dy c.requires.2.rows) at c.step_from.ensures
-
--- They lead to a vertex of the floor.
-found : (c : In-To)
-    → Reaches c.args.w c.args.h (move_of c.args.dx c.args.dy 0) c.args.x c.args.y (c.args.x + up c.args.dx - down c.args.dx) (c.args.y + up c.args.dy - down c.args.dy)
-found c =
-    far-reaches unblocked (floor_of c.args.w c.args.h c.args.map.now) (move_of c.args.dx c.args.dy 0) c.args.x c.args.y _
-    (sym (step (goal.at.In-To c).After-step_from) ∙ c.in-To.is)
-
-pub step_from-requires : goal.step_from-requires
-step_from-requires c =
-    rw (back c.args.dx c.requires.2.columns, back c.args.dy c.requires.2.rows) (c.requires.1, c.requires.2)
-
-pub returns-in_default : goal.returns-in_default
-returns-in_default c =
-    end-off unblocked (floor_of c.args.w c.args.h c.args.map.now) (move_of c.args.dx c.args.dy 0) c.args.x c.args.y (sym (step (goal.at.returns-in_default c).After-step_from) ∙ c.in_default.is)
-
-pub moved_by-requires : goal.moved_by-requires
-moved_by-requires c =
+-- The offsets lead to the far end.
+reached : (c : In-Some-shifted_by)
+    → let a = c.args in
+    Reaches a.floor.w a.floor.h (move_of a.dx a.dy 0) a.x a.y c.in-Some.i c.in-Some-shifted_by.j
+reached c =
     let a = c.args in
-    let m = shifted-is a.w a.x (c.args.x + up c.args.dx - down c.args.dx) a.dx (found c).columns in
-    rw (back a.dx c.requires.2.columns) (omega arith, c.requires.2.columns, omega arith)
+    record {
+      columns = place-there _ _ (sym (rw (back a.dx c.requires.1.columns) at c.shifted_by.ensures) ∙ c.in-Some.is);
+      rows = place-there _ _
+          (sym (rw (back a.dy c.requires.1.rows) at c.shifted_by-2.ensures) ∙ c.in-Some-shifted_by.is);
+    }
 
-pub moved_by-requires-2 : goal.moved_by-requires-2
-moved_by-requires-2 c =
+pub is_unblocked-requires : goal.is_unblocked-requires
+is_unblocked-requires c =
     let a = c.args in
-    let m = shifted-is a.h a.y (c.args.y + up c.args.dy - down c.args.dy) a.dy (found (goal.at.moved_by-requires-2 c).In-To).rows in
-    rw (back a.dy c.requires.2.rows) (omega arith, c.requires.2.rows, omega arith)
-
--- The far end's column and row, as the code works them out.
-far-column : (c : After-moved_by) → c.moved_by.result ≡ (c.args.x + up c.args.dx - down c.args.dx)
-far-column c =
-    rw (back c.args.dx c.requires.2.columns) at c.moved_by.ensures
-
-far-row : (c : After-moved_by-2) → c.moved_by-2.result ≡ (c.args.y + up c.args.dy - down c.args.dy)
-far-row c =
-    rw (back c.args.dy c.requires.2.rows) at c.moved_by-2.ensures
-
-pub ends_unblocked-requires : goal.ends_unblocked-requires
-ends_unblocked-requires c =
-    rw (
-      back c.args.dx c.requires.2.columns,
-      back c.args.dy c.requires.2.rows,
-      far-column (goal.at.ends_unblocked-requires c).After-moved_by,
-      far-row c,
-    ) (c.requires.0, c.requires.1, c.requires.2, found (goal.at.ends_unblocked-requires c).In-To, c.requires.3)
+    let r = reached (goal.at.is_unblocked-requires c).In-Some-shifted_by in
+    let from = c.requires.0 in
+    let to = reaches-on from r in
+    let across = rw (back a.dx c.requires.1.columns) at c.length_of.ensures in
+    let down = rw (back a.dy c.requires.1.rows) at c.length_of-2.ensures in (
+      record { x_first = from.column; y_first = from.row; x_last = to.column; y_last = to.row },
+      record {
+        columns_are = across ∙ shifted-span a.floor.w a.x c.in-Some.i a.dx r.columns;
+        rows_are = down ∙ shifted-span a.floor.h a.y c.in-Some-shifted_by.j a.dy r.rows;
+      },
+      record {
+        columns_few = rw across c.requires.1.columns;
+        rows_few = rw down c.requires.1.rows;
+        one = ⊎_elim (λ h. inl (across ∙ h)) (λ h. inr (down ∙ h)) (narrow_one (move_of a.dx a.dy 0) c.requires.2);
+      },
+    )
 
 pub returns : goal.returns
 returns c =
     let a = c.args in
-    c.ends_unblocked.ensures
-    ∙ ap₂ (λ i j. unblocked (floor_of c.args.w c.args.h c.args.map.now) (segment_of a.x a.y i j)) (far-column (goal.at.returns c).After-moved_by) (far-row (goal.at.returns c).After-moved_by-2)
-    ∙ end-there unblocked (floor_of c.args.w c.args.h c.args.map.now) (move_of c.args.dx c.args.dy 0) a.x a.y (c.args.x + up c.args.dx - down c.args.dx) (c.args.y + up c.args.dy - down c.args.dy) c.requires.1.column (found (goal.at.returns c).In-To)
+    c.is_unblocked.ensures
+    ∙ end-there unblocked (floor_on a.floor) (move_of a.dx a.dy 0) a.x a.y c.in-Some.i c.in-Some-shifted_by.j
+    c.requires.0.column (reached (goal.at.returns c).In-Some-shifted_by)

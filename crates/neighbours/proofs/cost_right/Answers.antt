@@ -1,19 +1,10 @@
 -- `neighbours::cost_right` meets its contract: the least of the classes decides. Assumes nothing.
 use mathlib.Core.Path.{◌≡◌, ◌∙◌}
-use native.Mathlib.Omega.{arith}
 use Rattle.paths.specs.Local.{entry}
 use Rattle.neighbours.specs.Least.{least_at}
 use Rattle.neighbours.proofs.Least.{by_two, by-four, right-found}
 use Rattle.neighbours.proofs.cost_right.Goals.{Joined-classes-ne0, then-classes-ne0, else-classes-ne0}
 use Rattle.neighbours.proofs.cost_right.Goals as goal
-
-pub least_two-least-requires : goal.least_two-least-requires
-least_two-least-requires c =
-    let p = c.requires in (p.class 0 (omega arith), p.class 1 (omega arith))
-
-pub least_two-requires : goal.least_two-requires
-least_two-requires c =
-    let p = c.requires in (p.class 2 (omega arith), p.class 3 (omega arith))
 
 -- the least by all classes, after the branch
 least : (c : Joined-classes-ne0)

@@ -2,44 +2,11 @@
 use Prim.Native.Nat.{ℕ}
 use mathlib.Core.Path.{◌≡◌, sym, ◌∙◌}
 use mathlib.Core.List.{List}
-use native.Mathlib.Omega.{arith}
-use borrow.Author.Tests.{not-true, not-false}
 use Rattle.paths.specs.Local.{entry}
 use Rattle.neighbours.specs.Least.{least_first, least_at, right_least}
 use Rattle.neighbours.proofs.Least.{min-found, by_two, by-four, right-found}
 use Rattle.neighbours.proofs.costs_right.Goals.{After-min-e_least, After-right_by, Joined-classes-ne0, then-classes-ne0, else-classes-ne0}
 use Rattle.neighbours.proofs.costs_right.Goals as goal
-
-pub least_by-d_first-requires : goal.least_by-d_first-requires
-least_by-d_first-requires c = c.requires.0.class 0 (omega arith)
-
-pub least_by-e_first-requires : goal.least_by-e_first-requires
-least_by-e_first-requires c =
-    let p = c.requires in rw p.1 (p.0.class 0 (omega arith))
-
-pub least_by-d_second-requires : goal.least_by-d_second-requires
-least_by-d_second-requires c =
-    c.requires.0.class 1 (omega arith)
-
-pub least_by-e_second-requires : goal.least_by-e_second-requires
-least_by-e_second-requires c =
-    let p = c.requires in
-    rw p.1 (p.0.class 1 (omega arith))
-
-pub least_by-d_third-requires : goal.least_by-d_third-requires
-least_by-d_third-requires c = c.requires.0.class 2 (omega arith)
-
-pub least_by-e_third-requires : goal.least_by-e_third-requires
-least_by-e_third-requires c =
-    let p = c.requires in rw p.1 (p.0.class 2 (omega arith))
-
-pub least_by-d_fourth-requires : goal.least_by-d_fourth-requires
-least_by-d_fourth-requires c = c.requires.0.class 3 (omega arith)
-
-pub least_by-e_fourth-requires : goal.least_by-e_fourth-requires
-least_by-e_fourth-requires c =
-    let p = c.requires in
-    rw p.1 (p.0.class 3 (omega arith))
 
 -- the least by the first two classes, and by all, of the costs l
 abbrev first : After-min-e_least → List ℕ → ℕ
@@ -84,10 +51,10 @@ d-right : (c : After-right_by)
     c.right_by.result ≡ right_least a.shifts.now a.classes a.mask a.a (entry a.d.now) a.v
 d-right c = right-found _ _ _ (d-least (goal.at.After-right_by c).Joined-classes-ne0) c.right_by.ensures
 
-pub returns-then-not-right_by : goal.returns-then-not-right_by
-returns-then-not-right_by c = rw (sym (d-right (goal.at.returns-then-not-right_by c).After-right_by) ∙ not-true _ c.if-not-right_by.true-raw)
+pub returns-then-right_by : goal.returns-then-right_by
+returns-then-right_by c =
+    rw (sym (d-right (goal.at.returns-then-right_by c).After-right_by) ∙ c.if-right_by.true)
+    (right-found _ _ _ (e-least (goal.at.returns-then-right_by c).Joined-classes-ne0) c.right_by-then-right_by.ensures)
 
-pub returns : goal.returns
-returns c =
-    rw (sym (d-right (goal.at.returns c).After-right_by) ∙ not-false _ c.if-not-right_by.false-raw)
-    (right-found _ _ _ (e-least (goal.at.returns c).Joined-classes-ne0) c.right_by-2.ensures)
+pub returns-else-right_by : goal.returns-else-right_by
+returns-else-right_by c = rw (sym (d-right (goal.at.returns-else-right_by c).After-right_by)) (rw c.if-right_by.false)

@@ -1,8 +1,7 @@
 -- `offsets::offset_of` meets its contract: a row is w + 1 vertices. Assumes nothing.
-use mathlib.Core.Path.{◌≡◌, ap, ◌∙◌}
+use mathlib.Core.Path.{◌≡◌}
 use native.Mathlib.Omega.{arith}
 use Rattle.moves.specs.Table.{Short, parts_of}
-use Rattle.offsets.specs.Offsets.{offset_of}
 use Rattle.moves.proofs.Signs.{back}
 use Rattle.moves.proofs.Table.{move-short}
 use Rattle.offsets.proofs.Masked.{Composed, composed}
@@ -50,7 +49,3 @@ overflow_mul-result-2 c = let p = made (goal.at.overflow_mul-result-2 c).After-p
 
 pub overflow_add-result-4 : goal.overflow_add-result-4
 overflow_add-result-4 c = let p = made (goal.at.overflow_add-result-4 c).After-parts_of-y in omega arith
-
-pub returns : goal.returns
-returns c =
-    (made (goal.at.returns c).After-parts_of-y).is ∙ ap (offset_of c.args.w) c.move_at-t.ensures

@@ -5,13 +5,13 @@ use Rattle.program_text.proofs.answer_text.Goals as goal
 
 pub route_text-requires : goal.route_text-requires
 route_text-requires c =
-    routable c.args.job c.requires.0 (planned-as c.in-Found.is c.requires.1)
+    routable c.args.job c.requires.0 (planned-as c.in-Ok.is c.requires.1)
 
-pub returns-in-Refused : goal.returns-in-Refused
-returns-in-Refused c =
-    refused-written c.args.job c.requires.0 (planned-as c.in-Refused.is c.requires.1)
-    c.refusal_number.ensures c.put_refused.ensures
+pub returns-in-Err : goal.returns-in-Err
+returns-in-Err c =
+    refused-written c.args.job c.requires.0 (planned-as c.in-Err.is c.requires.1)
+    c.from.ensures c.put_refused.ensures
 
-pub returns-in-Found : goal.returns-in-Found
-returns-in-Found c =
-    found-written c.args.job c.requires.0 (planned-as c.in-Found.is c.requires.1) c.route_text.ensures
+pub returns-in-Ok : goal.returns-in-Ok
+returns-in-Ok c =
+    found-written c.args.job c.requires.0 (planned-as c.in-Ok.is c.requires.1) c.route_text.ensures

@@ -1,14 +1,13 @@
 -- `program_text::plan_job` meets its contract: an answer other than 9 is that of the job, and so is the answer from the
 -- costs that `fill_costs` has filled. Assumes nothing.
-use mathlib.Core.Path.{◌∙◌}
+use mathlib.Core.Path.{sym, ◌∙◌}
+use mathlib.Core.Bool.{true≢false}
 use Rattle.planner.proofs.Shaped.{full-sized}
 use Rattle.program_text.proofs.Planning.{costs-sized, full-on, planned-first, planned-again}
 use Rattle.program_text.proofs.plan_job.Goals as goal
 
-pub returns-then-plan_number-ne-FALSE_COSTS : goal.returns-then-plan_number-ne-FALSE_COSTS
-returns-then-plan_number-ne-FALSE_COSTS c =
-    planned-first c.args.job (full-sized c.requires) c.finish-first.ensures
-    (λ e. c.if-plan_number-ne-FALSE_COSTS.true (c.plan_number.ensures ∙ e))
+pub returns-then-ne : goal.returns-then-ne
+returns-then-ne c = planned-first c.args.job (full-sized c.requires) c.finish-first.ensures (λ q. true≢false (sym c.if-ne.true ∙ (rw q at c.ne.ensures)))
 
 pub returns : goal.returns
 returns c =

@@ -2,34 +2,22 @@
 use mathlib.Core.Path.{◌≡◌, sym, ap, ◌∙◌}
 use native.Mathlib.Omega.{arith}
 use borrow.Author.Count.{below_more}
-use Rattle.floor.specs.Floor.{floor_of}
+use Rattle.std.proofs.Common.{Some}
+use Rattle.floor.specs.Plan.{floor_on}
 use Rattle.moves.specs.Moves.{move_at}
 use Rattle.moves.specs.Steps.{far_end_at}
 use Rattle.moves.specs.declared.Move.{Move}
 use Rattle.moves.proofs.Table.{listed-lawful, move-short}
 use Rattle.replay.specs.Replay.{goes_to}
-use Rattle.replay.specs.declared.Leg.TheVariants.{At}
 use Rattle.replay.proofs.Moving.{on-floor, unseen-shut, none-leads, first-leads}
 use Rattle.replay.proofs.move_cost.Goals.{After-leads_to}
 use Rattle.replay.proofs.move_cost.Goals as goal
 
-pub in_sight-requires : goal.in_sight-requires
-in_sight-requires c = let p = c.requires in (p.0.sized, p.1, p.2)
-
 pub returns-then-not-in_sight : goal.returns-then-not-in_sight
 returns-then-not-in_sight c =
     let a = c.args in
-    unseen-shut (floor_of a.w a.h a.map.now) a.u.0 a.v.0 a.dirs
+    unseen-shut (floor_on a.floor) a.u.0 a.v.0 a.dirs
     (sym c.in_sight.ensures ∙ c.if-not-in_sight.true)
-
-pub column_of-x-requires : goal.column_of-x-requires
-column_of-x-requires c = c.requires.0.sized.wide
-
-pub row_of-y-requires : goal.row_of-y-requires
-row_of-y-requires c = let p = c.requires in (p.0.sized.wide, p.1)
-
-pub loop-m-init : goal.loop-m-init
-loop-m-init c = (omega arith, λ k l. absurd (omega arith))
 
 pub move_at-step-requires : goal.move_at-step-requires
 move_at-step-requires c =
@@ -38,39 +26,40 @@ move_at-step-requires c =
 
 pub leads_to-requires : goal.leads_to-requires
 leads_to-requires c =
+    let a = c.args in
     let p = c.requires.0 in (
-      on-floor p.sized c.column_of-x.ensures.1 c.row_of-y.ensures.1,
+      on-floor a.floor.sized c.column_of-x.ensures.1 c.row_of-y.ensures.1,
       move-short _ c.loop-m.m (listed-lawful p.listed) (omega arith) c.move_at-step.ensures,
     )
 
 -- The test of move m says whether it leads from u to v.
 leads : (c : After-leads_to)
     → let a = c.args in
-    goes_to (far_end_at a.w a.h (move_at a.dirs c.loop-m.m) c.column_of-x.result
+    goes_to (far_end_at a.floor.w a.floor.h (move_at a.dirs c.loop-m.m) c.column_of-x.result
     c.row_of-y.result) a.v.0
     ≡ c.leads_to.result
 leads c =
     let a = c.args in
-    ap (λ (m : Move). goes_to (far_end_at a.w a.h m c.column_of-x.result
+    ap (λ (m : Move). goes_to (far_end_at a.floor.w a.floor.h m c.column_of-x.result
     c.row_of-y.result) a.v.0) (sym c.move_at-step.ensures)
     ∙ sym c.leads_to.ensures
 
 pub returns-then-leads_to : goal.returns-then-leads_to
 returns-then-leads_to c =
     let a = c.args in
-    ap (λ (m : Move). At m.cost) c.move_at-step.ensures
-    ∙ first-leads (floor_of a.w a.h a.map.now) a.u.0 a.v.0 a.dirs c.column_of-x.result
+    ap (λ (m : Move). Some m.cost) c.move_at-step.ensures
+    ∙ first-leads (floor_on a.floor) a.u.0 a.v.0 a.dirs c.column_of-x.result
     c.row_of-y.result c.column_of-x.ensures.0 c.row_of-y.ensures.0
     (sym c.in_sight.ensures ∙ c.if-not-in_sight.false) c.loop-m.m
-    (omega arith) c.loop-m.invariant.1 (leads (goal.at.returns-then-leads_to c).After-leads_to ∙ c.if-leads_to.true)
+    (omega arith) c.loop-m.invariant (leads (goal.at.returns-then-leads_to c).After-leads_to ∙ c.if-leads_to.true)
 
 pub loop-m-preserved : goal.loop-m-preserved
 loop-m-preserved c =
-    (omega arith, below_more _ _ c.loop-m.invariant.1 (leads (goal.at.loop-m-preserved c).After-leads_to ∙ c.if-leads_to.false))
+    below_more _ _ c.loop-m.invariant (leads (goal.at.loop-m-preserved c).After-leads_to ∙ c.if-leads_to.false)
 
 pub returns : goal.returns
 returns c =
     let a = c.args in
-    none-leads (floor_of a.w a.h a.map.now) a.u.0 a.v.0 a.dirs c.column_of-x.result
+    none-leads (floor_on a.floor) a.u.0 a.v.0 a.dirs c.column_of-x.result
     c.row_of-y.result c.column_of-x.ensures.0 c.row_of-y.ensures.0
-    (λ m h. c.loop-m.invariant.1 m (omega arith))
+    (λ m h. c.loop-m.invariant m (omega arith))

@@ -1,5 +1,5 @@
 -- `replay::move_cost` meets its contract: the loop goes on while no move leads from u to v. Assumes nothing.
-use Prim.Native.Nat.{ℕ, ◌-◌, ◌≤◌, ◌<◌}
+use Prim.Native.Nat.{ℕ, ◌<◌}
 use mathlib.Core.Path.{◌≡◌}
 use mathlib.Core.Bool.{false}
 use Rattle.moves.specs.Moves.{move_at}
@@ -9,8 +9,4 @@ use Rattle.replay.proofs.move_cost.Given as goal
 
 abbrev pub invariant-loop-m : goal.invariant-loop-m
 invariant-loop-m l =
-    (l.m ≤ l.count)
-    × ((k : ℕ) → k < l.m → goes_to (far_end_at l.w l.h (move_at l.dirs k) l.x l.y) l.v.0 ≡ false)
-
-abbrev pub decreases-loop-m : goal.decreases-loop-m
-decreases-loop-m l = l.count - l.m
+    (k : ℕ) → k < l.m → goes_to (far_end_at l.floor.w l.floor.h (move_at l.dirs k) l.x l.y) l.v.0 ≡ false

@@ -6,7 +6,7 @@ use Rattle.replay.proofs.Reached.{Reached}
 use Rattle.replay.proofs.read_log.Given as goal
 
 abbrev pub invariant-loop-v : goal.invariant-loop-v
-invariant-loop-v l = Reached l.w l.h l.map l.dirs l.log l.drive l.cursor
+invariant-loop-v l = Reached l.floor.w l.floor.h l.floor.map.now l.dirs l.log l.drive l.cursor
 
 abbrev pub decreases-loop-v : goal.decreases-loop-v
 decreases-loop-v l = length l.log - l.cursor.at

@@ -2,7 +2,7 @@
 use mathlib.Core.Path.{sym, ◌∙◌}
 use Prim.Native.Nat.{◌≤◌}
 use native.Mathlib.Omega.{arith}
-use Rattle.route.proofs.Sizes.{taken}
+use lib.Seq.{length-take-le}
 use Rattle.route.proofs.Running.{few_bytes, map-sides, few-places}
 use Rattle.route.proofs.lend_map.Goals.{After-map_length-n, After-vertex_count-v}
 use Rattle.route.proofs.lend_map.Goals as goal
@@ -23,17 +23,18 @@ pub slice_bounds-map-end : goal.slice_bounds-map-end
 slice_bounds-map-end c = few (goal.at.slice_bounds-map-end c).After-map_length-n
 
 pub slice_bounds-run_jobs-end : goal.slice_bounds-run_jobs-end
-slice_bounds-run_jobs-end c = taken _ _ (few (goal.at.slice_bounds-run_jobs-end c).After-map_length-n)
+slice_bounds-run_jobs-end c = sym (length-take-le _ _ (few (goal.at.slice_bounds-run_jobs-end c).After-map_length-n))
 
 pub slice_bounds-d-end : goal.slice_bounds-d-end
 slice_bounds-d-end c = few-costs (goal.at.slice_bounds-d-end c).After-vertex_count-v
 
 pub slice_bounds-run_jobs-end-2 : goal.slice_bounds-run_jobs-end-2
-slice_bounds-run_jobs-end-2 c = taken _ _ (few-costs (goal.at.slice_bounds-run_jobs-end-2 c).After-vertex_count-v)
+slice_bounds-run_jobs-end-2 c =
+    sym (length-take-le _ _ (few-costs (goal.at.slice_bounds-run_jobs-end-2 c).After-vertex_count-v))
 
 pub run_jobs-requires : goal.run_jobs-requires
 run_jobs-requires c = (
   c.requires,
-  sym (taken _ _ (few (goal.at.run_jobs-requires c).After-map_length-n)) ∙ c.map_length-n.ensures.0,
-  sym (taken _ _ (few-costs (goal.at.run_jobs-requires c).After-vertex_count-v)) ∙ c.vertex_count-v.ensures.0,
+  length-take-le _ _ (few (goal.at.run_jobs-requires c).After-map_length-n) ∙ c.map_length-n.ensures.0,
+  length-take-le _ _ (few-costs (goal.at.run_jobs-requires c).After-vertex_count-v) ∙ c.vertex_count-v.ensures.0,
 )

@@ -3,22 +3,15 @@
 use mathlib.Core.Path.{refl, ◌∙◌}
 use native.Mathlib.Omega.{arith}
 use lib.ListN.{length-take}
-use Rattle.route.proofs.Sizes.{taken}
-use Rattle.route.proofs.Running.{cells-lent, jobs-small, jobs-due, due-on, sent-more, sent-last}
+use Rattle.route.proofs.Running.{cells-lent, jobs-small, jobs-due, due-on, sent-more}
 use Rattle.route.proofs.run_jobs.Goals as goal
-
-pub slice_bounds-copy_cells-end : goal.slice_bounds-copy_cells-end
-slice_bounds-copy_cells-end c = c.requires.0.within
-
-pub slice_bounds-copy_cells-end-2 : goal.slice_bounds-copy_cells-end-2
-slice_bounds-copy_cells-end-2 c = taken _ _ c.requires.0.within
 
 pub copy_cells-requires : goal.copy_cells-requires
 copy_cells-requires c =
     cells-lent _ _ _ c.requires.0.found _ c.requires.1
 
-pub loop-next_place-init : goal.loop-next_place-init
-loop-next_place-init c = (
+pub loop-sent-init : goal.loop-sent-init
+loop-sent-init c = (
   jobs-due _ _ _ c.requires.0.found _ c.copy_cells.ensures c.requires.0.sure
       (omega (arith, c.requires.0.room, length-take c.args.first.count c.args.input.now)),
   jobs-small _ _ _ c.requires.0.found _ c.copy_cells.ensures,
@@ -30,30 +23,24 @@ loop-next_place-init c = (
 
 pub read_for-r-requires : goal.read_for-r-requires
 read_for-r-requires c =
-    let i = c.loop-next_place.invariant in
+    let i = c.loop-sent.invariant in
     (i.4, i.3, i.0.reached)
-
-pub slice_bounds-lend_turn-end : goal.slice_bounds-lend_turn-end
-slice_bounds-lend_turn-end c = c.read_for-r.ensures.within
-
-pub slice_bounds-lend_turn-end-in-loop-next_place : goal.slice_bounds-lend_turn-end-in-loop-next_place
-slice_bounds-lend_turn-end-in-loop-next_place c = taken _ _ c.read_for-r.ensures.within
 
 pub lend_turn-requires : goal.lend_turn-requires
 lend_turn-requires c =
-    let i = c.loop-next_place.invariant in
+    let i = c.loop-sent.invariant in
     let d = due-on i.0 c.read_for-r.ensures (omega (arith, i.3, c.read_for-r.auto.input)) in
     (d, c.read_for-r.ensures.sure, i.1, i.2)
 
-pub loop-next_place-smaller : goal.loop-next_place-smaller
-loop-next_place-smaller c =
-    let g = sent-more c.lend_turn.ensures c.in-More.is in
+pub loop-sent-smaller : goal.loop-sent-smaller
+loop-sent-smaller c =
+    let g = sent-more c.lend_turn.ensures c.in_ok-sent.was c.in-Some.is in
     omega (arith, g.0, g.1.place, g.1.short)
 
-pub loop-next_place-preserved : goal.loop-next_place-preserved
-loop-next_place-preserved c =
-    let i = c.loop-next_place.invariant in
-    let g = sent-more c.lend_turn.ensures c.in-More.is in (
+pub loop-sent-preserved : goal.loop-sent-preserved
+loop-sent-preserved c =
+    let i = c.loop-sent.invariant in
+    let g = sent-more c.lend_turn.ensures c.in_ok-sent.was c.in-Some.is in (
       g.1,
       i.1,
       c.lend_turn.auto.d ∙ i.2,
@@ -61,7 +48,3 @@ loop-next_place-preserved c =
       c.read_for-r.ensures.within,
       c.read_for-r.auto.input ∙ i.5,
     )
-
-pub returns-in-Last : goal.returns-in-Last
-returns-in-Last c =
-    record { ends = sent-last c.lend_turn.ensures c.in-Last.is }

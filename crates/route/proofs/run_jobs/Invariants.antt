@@ -9,10 +9,13 @@ use Rattle.records.specs.Settled.{longest}
 use Rattle.route.specs.Sent.{Due}
 use Rattle.route.proofs.run_jobs.Given as goal
 
-abbrev pub invariant-loop-next_place : goal.invariant-loop-next_place
-invariant-loop-next_place l =
-    Due (take l.r.count l.input) l.r.over l.w l.h l.map l.c l.written × SmallFloor l.w l.h l.map × (length l.d ≡ vertices l.w l.h)
+abbrev pub invariant-loop-sent : goal.invariant-loop-sent
+invariant-loop-sent l =
+    let w = l.floor.0 in
+    let h = l.floor.1.0 in
+    let map = l.floor.1.1.0.now in
+    Due (take l.r.count l.input) l.r.over w h map l.c l.written × SmallFloor w h map × (length l.d ≡ vertices w h)
     × (length l.input ≡ longest) × (l.r.count ≤ length l.input) × (length l.input ≡ length l.initial.input)
 
-abbrev pub decreases-loop-next_place : goal.decreases-loop-next_place
-decreases-loop-next_place l = longest - l.c.at
+abbrev pub decreases-loop-sent : goal.decreases-loop-sent
+decreases-loop-sent l = longest - l.c.at

@@ -1,14 +1,14 @@
--- `stored_closures::table_of` meets its contract: the slots below k are read. Assumes nothing.
-use native.Mathlib.Omega.{arith}
-use Rattle.stored_closures.proofs.Table.{built-none, built-more, built-done}
+-- `stored_closures::table_of` meets its contract: the slot numbered k is read by the call at k. Assumes nothing.
+use mathlib.Core.Path.{◌≡◌}
+use Rattle.std.proofs.Common.{rules}
+use Rattle.stored_closures.specs.Stored.{stored_in}
+use Rattle.stored_closures.proofs.Table.{from_fn-at, table-stands}
 use Rattle.stored_closures.proofs.table_of.Goals as goal
 
-pub loop-k-init : goal.loop-k-init
-loop-k-init c = built-none c.empty-table.ensures
-
-pub loop-k-preserved : goal.loop-k-preserved
-loop-k-preserved c =
-    built-more c.loop-k.invariant (omega arith) c.hold_at.result c.hold_at.ensures
-
 pub returns : goal.returns
-returns c = built-done c.loop-k.invariant (omega arith)
+returns c =
+    let a = c.args in
+    let made = c.from_fn.result in
+    table-stands a.w a.h a.slots.now made c.from_fn.ensures.items.long
+    (from_fn-at _ (λ k y. y ≡ stored_in a.slots.now k) _ (λ k y q call. search rules) made 16
+    c.from_fn.ensures.items.each)

@@ -1,32 +1,21 @@
--- `thinning::all_vertices` meets its contract: the numbers passed are all vertices. Assumes nothing.
-use mathlib.Core.Path.{refl, ap}
-use mathlib.Core.Bool.{not}
-use native.Mathlib.Omega.{arith}
-use Rattle.basics.proofs.Scan.{passed_none, passed-stop, passed-more, passed-all}
+-- `thinning::all_vertices` meets its contract: `all` tests the first n numbers. Assumes nothing.
+use mathlib.Core.Path.{ap, ◌∙◌}
+use lib.Dec.{ltb}
+use lib.ListN.{take, get_or}
+use Rattle.std.proofs.Common.{rules, tests}
+use Rattle.std.proofs.lemmas.Iterator.{YieldsList-from_slice}
+use Rattle.std.proofs.lemmas.Iterator.Search.{all_from_yields_List}
+use Rattle.basics.specs.Bounded.{every}
 use Rattle.thinning.specs.Thinning.{is_vertex}
-use Rattle.thinning.proofs.Shapes.{vertex-yes, vertex-no}
+use Rattle.basics.proofs.Every.{all-front}
 use Rattle.thinning.proofs.all_vertices.Goals as goal
 
-pub loop-k-init : goal.loop-k-init
-loop-k-init c = passed_none _ _
-
-pub overflow_cast-list : goal.overflow_cast-list
-overflow_cast-list c = omega (arith, c.type_inv.list c.loop-k.k)
-
-pub returns-then-v-list : goal.returns-then-v-list
-returns-then-v-list c =
-    let l = c.loop-k in
-    let e = c.vertex_count-v.ensures.0 in
-    let no = vertex-no c.args.w c.args.h c.args.list.now l.k (omega (arith, e)) in
-    passed-stop (is_vertex c.args.w c.args.h c.args.list.now l.k) l.invariant (omega arith) refl (ap not no)
-
-pub loop-k-preserved : goal.loop-k-preserved
-loop-k-preserved c =
-    let l = c.loop-k in
-    let e = c.vertex_count-v.ensures.0 in
-    let yes = vertex-yes c.args.w c.args.h c.args.list.now l.k (omega (arith, e)) in
-    passed-more (is_vertex c.args.w c.args.h c.args.list.now l.k) l.invariant (omega arith) refl
-    (ap not yes)
-
 pub returns : goal.returns
-returns c = passed-all c.loop-k.invariant (omega arith)
+unfolding is_vertex
+returns c =
+    let a = c.args in
+    let v = c.vertex_count-count in
+    all_from_yields_List (λ x. ltb x v.result) _ _ _ c.all.ensures.ran
+    (YieldsList-from_slice (take a.n a.list.now) (cc)) (λ x b q k. search (rules, tests))
+    ∙ all-front _ a.n a.list.now c.requires
+    ∙ ap (λ m. every a.n (λ k. ltb (get_or a.list.now k 0) m)) v.ensures.0

@@ -1,46 +1,23 @@
--- `checker::nexts::nexts_right` meets its contract: the rows before `y` pass. Assumes nothing.
-use Prim.Native.Nat.{suc, ◌<◌}
-use mathlib.Core.Path.{◌∙◌}
+-- `checker::nexts::nexts_right` meets its contract: `all` asks each row. Assumes nothing.
+use Prim.Native.Nat.{suc, ◌+◌}
+use mathlib.Core.Path.{refl, ◌∙◌}
 use native.Mathlib.Omega.{arith}
-use Rattle.basics.proofs.Scan.{passed_none, passed-stop, passed-more, passed-all}
-use Rattle.checker.specs.Tests.{chosen_of}
+use Rattle.std.proofs.Common.{rules, tests}
+use Rattle.std.proofs.lemmas.Iterator.{YieldsList-from_range}
+use Rattle.std.proofs.lemmas.Iterator.Search.{all_from_yields_List}
+use Rattle.basics.proofs.Every.{all-below}
+use Rattle.floor.specs.Plan.{floor_on}
+use Rattle.paths.specs.Sheet.{sheet_in}
+use Rattle.grid.specs.Grid.{floor_graph}
+use Rattle.checker.specs.Tests.{next_row_test}
 use Rattle.checker.proofs.Choices.{nexts-rows}
-use Rattle.checker.proofs.nexts.nexts_right.Goals.{In-loop-y}
 use Rattle.checker.proofs.nexts.nexts_right.Goals as goal
-
-row_in : (c : In-loop-y) → c.loop-y.y < suc c.args.h
-row_in c = omega arith
-
-pub overflow_add-y-end : goal.overflow_add-y-end
-overflow_add-y-end c = omega (arith, c.requires.input.job.sized.high)
-
-pub loop-y-init : goal.loop-y-init
-loop-y-init c = passed_none _ _
-
-pub row_right-requires : goal.row_right-requires
-row_right-requires c =
-    (c.requires, omega (arith, row_in (goal.at.row_right-requires c).In-loop-y), c.window_masks-windows.ensures, c.shifts_of-shifts.ensures)
-
-pub returns-then-not-row_right : goal.returns-then-not-row_right
-returns-then-not-row_right c =
-    let a = c.args in
-    passed-stop c.row_right.result c.loop-y.invariant (row_in (goal.at.returns-then-not-row_right c).In-loop-y) c.row_right.ensures
-    c.if-not-row_right.true-raw
-    ∙ nexts-rows a.w a.h a.map.now a.dirs a.b.0 (chosen_of c.args.d.now c.args.e.now c.args.f.now c.args.back.now c.args.next.now)
-
-pub overflow_step-y : goal.overflow_step-y
-overflow_step-y c =
-    omega
-    (arith, row_in (goal.at.overflow_step-y c).In-loop-y, c.requires.input.job.sized.high)
-
-pub loop-y-preserved : goal.loop-y-preserved
-loop-y-preserved c =
-    passed-more c.row_right.result c.loop-y.invariant (row_in (goal.at.loop-y-preserved c).In-loop-y)
-    c.row_right.ensures
-    c.if-not-row_right.false-raw
 
 pub returns : goal.returns
 returns c =
     let a = c.args in
-    passed-all c.loop-y.invariant (omega arith)
-    ∙ nexts-rows a.w a.h a.map.now a.dirs a.b.0 (chosen_of c.args.d.now c.args.e.now c.args.f.now c.args.back.now c.args.next.now)
+    all_from_yields_List (next_row_test (floor_graph (floor_on a.floor) a.dirs) a.b.0 (sheet_in a.sheet) a.floor.w) _ _ _
+    c.all.ensures.ran (YieldsList-from_range 0 (a.floor.h + 1) (suc a.floor.h) refl (omega arith))
+    (λ x b q k. search (rules, tests))
+    ∙ all-below _ (suc a.floor.h)
+    ∙ nexts-rows a.floor.w a.floor.h a.floor.map.now a.dirs a.b.0 (sheet_in a.sheet)

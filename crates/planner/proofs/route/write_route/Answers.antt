@@ -44,7 +44,7 @@ loop-at-smaller c =
 
 pub loop-at-preserved : goal.loop-at-preserved
 loop-at-preserved c =
-    step-more c.loop-at.invariant c.loop-at-test.true c.index-at.result c.index-at.ensures
+    step-more c.loop-at.invariant c.loop-at-test.true c.from-at.result c.from-at.ensures
 
 pub overflow_cast-route-2 : goal.overflow_cast-route-2
 overflow_cast-route-2 c = omega (arith, inside (goal.at.overflow_cast-route-2 c).At-loop-at)

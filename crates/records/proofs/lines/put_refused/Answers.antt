@@ -15,7 +15,7 @@ room1 c =
 
 room2 : (c : After-put_field-p2) → c.put_field-p2.result + 10 ≤ length c.put_field-p2.new.buf
 room2 c =
-    room_after c.put_field-p2.ensures 30 10 (omega (arith, decimal-u64 c.args.r (omega arith)))
+    room_after c.put_field-p2.ensures 30 10 (omega (arith, decimal-u64 c.from.result (omega arith)))
     (room1 (goal.at.After-put_field-p2 c).After-put_field-p1)
 
 pub put_field-p1-requires : goal.put_field-p1-requires
@@ -24,7 +24,7 @@ put_field-p1-requires c =
 
 pub put_field-p2-requires : goal.put_field-p2-requires
 put_field-p2-requires c =
-    omega (arith, room1 (goal.at.put_field-p2-requires c).After-put_field-p1, decimal-u64 c.args.r (omega arith))
+    omega (arith, room1 (goal.at.put_field-p2-requires c).After-put_field-p1, decimal-u64 c.from.result (omega arith))
 
 pub put_text-requires : goal.put_text-requires
 put_text-requires c = omega (arith, room2 (goal.at.put_text-requires c).After-put_field-p2)
@@ -32,7 +32,7 @@ put_text-requires c = omega (arith, room2 (goal.at.put_text-requires c).After-pu
 pub returns : goal.returns
 returns c =
     let w1 = c.put_field-p1.ensures in
-    let w2 = written-more w1 c.put_field-p2.ensures in
+    let w2 = written-more w1 (rw c.from.ensures at c.put_field-p2.ensures) in
     written-more w2 c.put_text.ensures
 
 pub shape_of-buf : goal.shape_of-buf

@@ -15,7 +15,7 @@ room1 c =
 
 room2 : (c : After-put_field-p2) → c.put_field-p2.result + 109 ≤ length c.put_field-p2.new.buf
 room2 c =
-    let few = decimal-u64 c.args.cost (omega (arith, c.ranges.cost)) in
+    let few = decimal-u64 c.from.result (omega (arith, c.ranges.cost)) in
     room_after c.put_field-p2.ensures 27 109 (omega arith) (room1 (goal.at.After-put_field-p2 c).After-put_field-p1)
 
 room3 : (c : After-put_field-p3) → c.put_field-p3.result + 81 ≤ length c.put_field-p3.new.buf
@@ -39,7 +39,7 @@ put_field-p1-requires c =
 
 pub put_field-p2-requires : goal.put_field-p2-requires
 put_field-p2-requires c =
-    omega (arith, room1 (goal.at.put_field-p2-requires c).After-put_field-p1, decimal-u64 c.args.cost (omega (arith, c.ranges.cost)))
+    omega (arith, room1 (goal.at.put_field-p2-requires c).After-put_field-p1, decimal-u64 c.from.result (omega (arith, c.ranges.cost)))
 
 pub put_field-p3-requires : goal.put_field-p3-requires
 put_field-p3-requires c =
@@ -56,14 +56,30 @@ put_field-p5-requires c =
 pub put_text-requires : goal.put_text-requires
 put_text-requires c = omega (arith, room5 (goal.at.put_text-requires c).After-put_field-p5)
 
-pub returns : goal.returns
-returns c =
+pub returns-clause-written : goal.returns-clause-written
+returns-clause-written c =
     let w1 = c.put_field-p1.ensures in
-    let w2 = written-more w1 c.put_field-p2.ensures in
+    let w2 = written-more w1 (rw c.from.ensures at c.put_field-p2.ensures) in
     let w3 = written-more w2 c.put_field-p3.ensures in
     let w4 = written-more w3 c.put_field-p4.ensures in
     let w5 = written-more w4 c.put_field-p5.ensures in
     written-more w5 c.put_text.ensures
 
+pub returns-clause-upper_bound : goal.returns-clause-upper_bound
+returns-clause-upper_bound c = omega (
+  arith,
+  c.put_field-p1.ensures.place,
+  c.put_field-p2.ensures.place,
+  c.put_field-p3.ensures.place,
+  c.put_field-p4.ensures.place,
+  c.put_field-p5.ensures.place,
+  c.put_text.ensures.place,
+  decimal-u64 c.args.n (omega (arith, c.ranges.n)),
+  decimal-u64 c.from.result (omega arith),
+  decimal-u64 c.args.routes (omega (arith, c.ranges.routes)),
+  decimal-u64 c.args.points (omega (arith, c.ranges.points)),
+  decimal-u64 c.args.kept (omega (arith, c.ranges.kept)),
+)
+
 pub shape_of-buf : goal.shape_of-buf
-shape_of-buf c = written-length (returns c)
+shape_of-buf c = written-length (returns-clause-written c)

@@ -5,4 +5,4 @@ use Rattle.records.proofs.lines.put_vertex.Goals as goal
 
 pub put_field-requires : goal.put_field-requires
 put_field-requires c =
-    omega (arith, c.requires, decimal-u16 c.args.v (omega arith))
+    omega (arith, c.requires, decimal-u16 c.from.result (omega arith))

@@ -1,9 +1,0 @@
--- `records::stream::side_good` meets its contract: the two tests are those of `map_side`. Assumes nothing.
-use borrow.Author.Tests.{le-leb, lt-leb}
-use Rattle.records.proofs.stream.side_good.Goals as goal
-
-pub returns-then-n-lt1 : goal.returns-then-n-lt1
-returns-then-n-lt1 c = rw (lt-leb 1 c.args.n c.if-n-lt1.true)
-
-pub returns : goal.returns
-returns c = rw (le-leb 1 c.args.n c.if-n-lt1.false)
