@@ -27,8 +27,8 @@ pub fn lurfanzi_write_map(
 {
     let done = writer.put_map(width as usize, height as usize, map, buffer);
     WriteResult {
-        writer: done.unwrap_or(writer),
-        answer: floor::answer_number(done),
+        writer: done.writer,
+        answer: floor::answer_number(done.answer),
     }
 }
 
@@ -45,7 +45,7 @@ pub fn lurfanzi_write_job(
 {
     let done = writer.put_job(neighbourhood, a, b, buffer);
     WriteResult {
-        writer: done.unwrap_or(writer),
-        answer: floor::answer_number(done),
+        writer: done.writer,
+        answer: floor::answer_number(done.answer),
     }
 }

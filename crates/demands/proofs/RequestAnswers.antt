@@ -47,6 +47,7 @@ use Rattle.records.specs.Format.{map_side}
 use Rattle.writer.specs.Writing.{Call, put_map, put_job, call_bytes, map_shape, given_shape, in_turn, room_shape}
 use Rattle.writer.specs.Writing.{call_shape, Writes}
 use Rattle.writer.specs.declared.Writer.{Writer}
+use Rattle.writer.specs.declared.AfterWrite.{AfterWrite}
 use Rattle.legs.specs.Choices.{fewest_legs}
 use Rattle.legs.specs.Answer.{legs_shape, true_choice, check_answer as legsAnswer}
 use Rattle.legs.specs.Answer.{proposed, propose_answer, kept_left, legs_left, Proposes}
@@ -274,10 +275,10 @@ module _ (c : Writer) (x : Call) (buf : List ℕ) where
       given-first x (and_then (tested turn OutOfTurn) (tested room NoRoom))
       (line 20 (not turn) ∷ line 18 (not room) ∷ []) (two-first answer_number (λ r. refl) turn room OutOfTurn NoRoom)
 
-  pub write-answers : (r : Result Writer Refusal) (buf' : List ℕ) → Writes c x buf r buf' → AnswersWrite c x buf r buf'
+  pub write-answers : (r : AfterWrite) (buf' : List ℕ) → Writes c x buf r buf' → AnswersWrite c x buf r buf'
   write-answers r buf' W =
       let n = call_bytes x in
-      let e : answer_number r ≡ answer_number call_is = good-number r ∙ ap answer_number W.answer in
+      let e : answer_number r.answer ≡ answer_number call_is = ap answer_number W.answer in
       record {
         number = e ∙ call-first;
         writer = rw e (W.writer ∙ left-zero call_is (record { at = c.at + length n; due = c.due + 1 }) c);

@@ -68,9 +68,10 @@ use Rattle.changes.specs.Changes.{GivenFloor, floor_in, differing, ReportsCells,
 use Rattle.changes.specs.Changes.{ReportSlices, costs_on, ReportsCosts}
 use Rattle.changes.specs.declared.Tally.{Tally}
 use Rattle.records.specs.Format.{map_side}
-use Rattle.writer.specs.Writing.{Call, put_map, put_job, call_bytes, in_turn, writer_after, Writes as WritesRecord}
+use Rattle.writer.specs.Writing.{Call, put_map, put_job, call_bytes, in_turn, Writes as WritesRecord}
 use Rattle.writer.specs.Calls.{fresh, after, ReadBack, read_end, WrittenBack}
 use Rattle.writer.specs.declared.Writer.{Writer}
+use Rattle.writer.specs.declared.AfterWrite.{AfterWrite}
 use Rattle.legs.specs.Choices.{Choice, Fewest, fewest_legs}
 use Rattle.legs.specs.Answer.{true_choice, proposed, check_answer as legsAnswer, Proposes}
 use Rattle.mending.specs.Mending.{MendSlices, sheet_in, with_costs, sheet_differences, no_differences, Mends}
@@ -383,12 +384,11 @@ write_lines c x buf =
     given_lines x
     ++ (line 20 (not (in_turn c.due x)) ∷ line 18 (not (leb (c.at + length (call_bytes x)) (length buf))) ∷ [])
 
-pub record AnswersWrite (c : Writer) (x : Call) (buf : List ℕ) (r : Result Writer Refusal) (buf' : List ℕ)
-    : Type 0 where
-  pub number : answer_number r ≡ first_of (write_lines c x buf)
-  pub writer : writer_after c r ≡ at_zero (answer_number r)
+pub record AnswersWrite (c : Writer) (x : Call) (buf : List ℕ) (r : AfterWrite) (buf' : List ℕ) : Type 0 where
+  pub number : answer_number r.answer ≡ first_of (write_lines c x buf)
+  pub writer : r.writer ≡ at_zero (answer_number r.answer)
       (record { at = c.at + length (call_bytes x); due = c.due + 1 }) c
-  pub leaves : buf' ≡ at_zero (answer_number r)
+  pub leaves : buf' ≡ at_zero (answer_number r.answer)
       (take c.at buf ++ call_bytes x ++ drop (c.at + length (call_bytes x)) buf) buf
 
 -- Fewest stops: the checker of a proposal, and the proposer.
@@ -461,7 +461,7 @@ pub record Demand1 : Type 0 where
       → ReportsCells p q l r l' → AnswersCells p q l r l'
   pub changes : (p q : GivenFloor) (nb a : ℕ) (s : ReportSlices) (r : Shape) (s' : ReportSlices)
       → ReportsCosts p q nb a s r s' → AnswersChanges p q nb a s r s'
-  pub write : (c : Writer) (x : Call) (buf : List ℕ) (r : Result Writer Refusal) (buf' : List ℕ)
+  pub write : (c : Writer) (x : Call) (buf : List ℕ) (r : AfterWrite) (buf' : List ℕ)
       → WritesRecord c x buf r buf' → AnswersWrite c x buf r buf'
   pub legs : (w h : ℕ) (map list kept legs : List ℕ) (n c : ℕ) (r : Shape)
       → r ≡ legsAnswer w h map list n kept c legs → AnswersLegs w h map list n kept c legs r

@@ -14,14 +14,13 @@ impl LegList<'_> {
     }
 }
 
-// The least of eight numbers, from position k on.
+// The least of eight numbers, from position k on. No comparison waits for more than two others.
 pub fn least_of_eight(numbers: &[u16], k: usize) -> usize
     requires { k + 8 ≤ length numbers.now }
     ensures { AtMost numbers.now k (k + 8) result }
 {
-    let mut least = u16::MAX;
-    for number in &numbers[k..k + 8] {
-        least = least.min(*number);
-    }
-    usize::from(least)
+    let n = &numbers[k..k + 8];
+    let first = n[0].min(n[1]).min(n[2].min(n[3]));
+    let last = n[4].min(n[5]).min(n[6].min(n[7]));
+    usize::from(first.min(last))
 }

@@ -1,5 +1,6 @@
 -- The tests of the shape of the input, and what each step of the code says of the answer.
 --
+--   mend-fit                 == `mend_shape` is fit where the job is and each length is right
 --   job-is-fit, job-mendable == where `mend_shape` is fit, so is the job; and it is `Mendable`
 --   mends-sheet              == the operation's answer where the shape is good
 --   plan-costing             == the costs of a `Plannable` job can be filled
@@ -14,7 +15,7 @@ use mathlib.Core.Path.{◌≡◌, refl, sym, ◌∙◌}
 use mathlib.Core.Logic.{⊎_elim}
 use mathlib.Core.Bool.{Bool, true, false, ◌&&◌}
 use mathlib.Core.List.{List}
-use borrow.Author.Tests.{eqb-true}
+use borrow.Author.Tests.{eqb-true, eq-eqb}
 use lib.Dec.{eqb}
 use lib.ListN.{length}
 use Rattle.std.specs.Prelude.{Result, Ok, Err}
@@ -63,6 +64,13 @@ sized-fit z (Err r) e = refused-fit e
 sized-shaped : (v : ℕ) (s : Sheet) → sheet_sized v s ≡ true → Shaped v s
 unfolding sheet_sized
 sized-shaped v s t = lengths-shaped v s t
+
+pub mend-fit : (w h : ℕ) (map : List ℕ) (nb a b : ℕ) (old second : Sheet) (work : List ℕ) {dirs : Directions} {v : ℕ}
+    → job_shape w h map nb a b ≡ Ok dirs → v ≡ vertices w h → sheet_sized v old ≡ true → sheet_sized v second ≡ true
+    → length work ≡ 4 * v → Ok dirs ≡ mend_shape w h map nb a b old second work
+unfolding mend_shape
+mend-fit w h map nb a b old second work {v = v} j q o t e =
+    rw (← q, j, o, t, eq-eqb (length work) (4 * v) e)
 
 module _ (w h : ℕ) (map : List ℕ) (nb a b : ℕ) (old : Sheet) (s : MendSlices) (dirs : Directions)
     (fit : shape_for w h map nb a b old s ≡ Ok dirs) where

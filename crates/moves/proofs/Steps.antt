@@ -4,6 +4,7 @@
 --   shifted-span                        == where `shifted n a d` is some b, the span from a to b is nat_abs d
 --   off-column, off_row                 == a move leads off the floor where either coordinate does
 --   reaches-on                          == the spot that a move reaches is on the floor
+--   far-spot                            == the column and the row of the vertex that a move leads to
 --   offsets-end                         == where a move leads is told by its offsets alone
 --   step-none, step-some                == a step off the floor, and one to a vertex, by the far end
 --   Goes S f m x y w                    == move m leads from (x, y) to vertex w of the floor, and S holds of the
@@ -24,7 +25,7 @@ use lib.IntN.{ℤ, pos, negsuc, nat_abs}
 use Rattle.std.proofs.Common.{Some, None}
 use Rattle.basics.proofs.Options.{none-some, some_same}
 use Rattle.floor.specs.declared.Vertex.{Vertex}
-use Rattle.floor.specs.Floor.{Floor, number}
+use Rattle.floor.specs.Floor.{Floor, number, column, row}
 use Rattle.floor.proofs.Numbers.{column-number, row_number}
 use Rattle.sight.specs.Sight.{Segment, segment, segment_of}
 use Rattle.sight.specs.Obstacle.{span}
@@ -106,6 +107,22 @@ reaches-on {w} {h} {x} {y} {i} {j} {m} o r = record {
 pub reaches-far : {w h x y i j : ℕ} {m : Move} → Reaches w h m x y i j → far_end_at w h m x y ≡ some (number w i j)
 unfolding far_end_at then_at
 reaches-far {w} {h} {x} {y} {i} {j} {m} r = rw (r.columns, r.rows)
+
+pub far-spot : (w h x y v : ℕ) (m : Move) → far_end_at w h m x y ≡ some v
+    → Reaches w h m x y (column w v) (row w v)
+far-spot w h x y v m e = spot (shifted w x m.dx) (shifted h y m.dy) refl refl
+  where
+    spot : (a b : Option ℕ) → shifted w x m.dx ≡ a → shifted h y m.dy ≡ b
+        → Reaches w h m x y (column w v) (row w v)
+    spot none b p q = none-some (sym (off-column w h x y m p) ∙ e)
+    spot (some i) none p q = none-some (sym (off_row w h x y m q) ∙ e)
+    spot (some i) (some j) p q =
+        let n : number w i j ≡ v = some_same (sym (reaches-far (record { columns = p; rows = q })) ∙ e) in
+        let on = (shifted-is w x i m.dx p).inside in
+        record {
+          columns = p ∙ ap some (sym (column-number w i j on) ∙ ap (column w) n);
+          rows = q ∙ ap some (sym (row_number w i j on) ∙ ap (row w) n);
+        }
 
 pub offsets-end : (w h x y : ℕ) (m : Move) → far_end_at w h (move_of m.dx m.dy 0) x y ≡ far_end_at w h m x y
 unfolding far_end_at

@@ -59,7 +59,10 @@ pub fn end_or_self(mask: u32, v: Vertex, k: usize, shifts: &[usize]) -> Vertex
     requires { (k < length shifts.now) × Movable mask v.0 k (shifted_by shifts.now k) }
     ensures { result.0 ≡ end_at shifts.now mask v.0 k }
 {
-    offsets::open_end(mask, v, k, shifts[k]).unwrap_or(v)
+    let Some(end) = offsets::open_end(mask, v, k, shifts[k]) else {
+        return v;
+    };
+    end
 }
 
 // The least cost that an open move of a class gives v: that of its far end and its own. The far end of a shut move is v

@@ -3,14 +3,14 @@
 --
 --   bytes_read input r == what the reading r has read, at the start of the buffer
 --   ReadMore i n i' r  == one read past the first n bytes of the buffer, which leaves these as they are: a byte more at
---                         least, or the input is over
+--                         least, or the input is over and no byte was read
 --   ReadFor i q i' r c == reading on from q to r: the whole input stays what q left possible, and what stands at the
 --                         cursor c is sure
 --   MapRead i r m c    == what stands first is the map m, past which the cursor c stands, and that is sure; the buffer
 --                         holds all that can matter
 --   BadRead i r k      == what stands first is a bad record at place k, and that is sure
 --   Ended i r          == at the end of a run all of the text is written, or a part could not be written
-use Rattle.std.specs.Prelude.{ℕ, ◌≤◌, ◌<◌, ◌≡◌, false, List, length, take, Result, Ok, Err}
+use Rattle.std.specs.Prelude.{ℕ, ◌≤◌, ◌<◌, ◌≡◌, true, false, List, length, take, Result, Ok, Err}
 use Rattle.records.specs.Format.{gives_map, gives_bad, record_at, start_cursor}
 use Rattle.records.specs.Settled.{longest}
 use Rattle.records.specs.declared.stream.Cursor.{Cursor}
@@ -28,6 +28,7 @@ pub record ReadMore (input : List ℕ) (n : ℕ) (input' : List ℕ) (r : Readin
   pub within : r.count ≤ length input'
   pub kept : take n input' ≡ take n input
   pub more : r.over ≡ false → n < r.count
+  pub ends : r.over ≡ true → r.count ≡ n
 
 pub record ReadFor (input : List ℕ) (q : Reading) (input' : List ℕ) (r : Reading) (c : Cursor) : Type 0 where
   pub on : q.count ≤ r.count

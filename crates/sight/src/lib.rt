@@ -40,7 +40,9 @@ pub fn sight_number(s: Result<Option<Obstacle>, Refusal>) -> u8
 
 impl<'a> Segment<'a> {
     // Whether no blocked cell and no shut step is in the way, where the ends are at most one column and one row apart.
-    // It reads the two cells beside a step, or the one cell across a diagonal.
+    // It reads the two cells beside a step, or the one cell across a diagonal. It is inlined in any case: called, it makes
+    // its caller store the segment, and the masks of the windows take six times the instructions.
+    #[inline(always)]
     fn is_unit_unblocked(self) -> bool
         requires { (self.columns ≤ 1) × (self.rows ≤ 1) }
         ensures { result ≡ unblocked (floor_under self.entry) (drawn self.entry) }
@@ -57,6 +59,7 @@ impl<'a> Segment<'a> {
     }
 
     // The blocked cell or the shut step in the way, where the ends are at most one column and one row apart.
+    #[inline(always)]
     fn unit_blockage(self) -> Option<Obstacle>
         requires { (self.columns ≤ 1) × (self.rows ≤ 1) }
         ensures { result ≡ blockage (floor_under self.entry) (drawn self.entry) }
@@ -96,6 +99,7 @@ impl<'a> Segment<'a> {
     // segment enters two cells and goes along no grid line. One is the cell before the higher column line and the
     // higher row line; the other is its neighbour before it, in its row or in its column. Both are always read, so that
     // no branch depends on a cell.
+    #[inline(always)]
     fn is_two_cells_unblocked(self) -> bool
         requires { (self.columns ≤ 2) × (self.rows ≤ 2) × (self.columns + self.rows ≡ 3) }
         ensures { result ≡ unblocked (floor_under self.entry) (drawn self.entry) }
@@ -112,8 +116,10 @@ impl<'a> Segment<'a> {
 
 // Whether no blocked cell and no shut step is in the way between two vertices as far apart as a move leads: one column
 // or one row, and at most two of the other. With the pinches at its ends, that is the test of a move. It reads one or
-// two cells. Where a caller gives constant lengths, as for the moves of a table, the tests of them fold away.
+// two cells. Where a caller gives constant lengths, as for the moves of a table, the tests of them fold away; for that
+// it is inlined in any case.
 // Kept: what may not change: the clauses of `is_unblocked`, by which a caller gives ends and lengths that it knows.
+#[inline(always)]
 pub fn is_unblocked(
     floor: FloorPlan<'_>,
     x0: usize,
@@ -149,12 +155,15 @@ pub fn is_pinch(floor: FloorPlan<'_>, x: usize, y: usize) -> bool
     pinches::pinch_at(floor, x, y)
 }
 
-// What is in the way from one vertex to another.
+// What is in the way from one vertex to another. Nothing is in the way from a vertex to itself.
 #[tactic(auto, unfolding(crate::specs::Obstacle::span, crate::specs::Sight::segment))]
 pub fn look(floor: FloorPlan<'_>, a: Vertex, b: Vertex) -> Option<Obstacle>
     requires { (a.0 < vertices floor.w floor.h) × (b.0 < vertices floor.w floor.h) }
     ensures { result ≡ obstacle (floor_on floor.entry) (segment floor.entry.w a.0 b.0) }
 {
+    if a.0 == b.0 {
+        return None;
+    }
     let x0 = floor::column_of(floor.w, a);
     let y0 = floor::row_of(floor.w, floor.h, a);
     let x1 = floor::column_of(floor.w, b);

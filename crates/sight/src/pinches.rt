@@ -91,7 +91,8 @@ impl<'a> Segment<'a> {
     }
 
     // The nearest pinch, by a look at the vertices passed and no others: they lie as far apart as the ends are, divided
-    // by the greatest number that divides both columns and rows.
+    // by the greatest number that divides both columns and rows. Columns and rows are added up from vertex to vertex: as
+    // products they would be two multiplications for each.
     fn nearest_pinch(self) -> Option<Obstacle>
         requires { 1 ≤ self.columns + self.rows }
         ensures { result ≡ nearest_pinch (floor_under self.entry) (drawn self.entry) }
@@ -99,11 +100,15 @@ impl<'a> Segment<'a> {
         let n = common(self.columns, self.rows);
         let across = self.columns / n;
         let down = self.rows / n;
+        let mut c: usize = 0;
+        let mut r: usize = 0;
         // Kept: tried, the proof did not close: `find_map`, whose closure may be called only up to n.
         for k in 0..n + 1 {
-            if let Some(found) = self.pinch_there(k * across, k * down) {
+            if let Some(found) = self.pinch_there(c, r) {
                 return Some(found);
             }
+            c += across;
+            r += down;
         }
         None
     }

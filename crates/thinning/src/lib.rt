@@ -26,7 +26,9 @@ impl PointList<'_> {
         Vertex(usize::from(self.list[k]))
     }
 
-    // Whether the vertices at positions i and k see each other.
+    // Whether the vertices at positions i and k see each other. It is inlined in any case: called, it would be handed the
+    // list in memory for each position.
+    #[inline(always)]
     pub fn sees(self, i: usize, k: usize) -> bool
         requires { (i < self.n) × (k < self.n) }
         ensures { result ≡ seen_in self.entry i k }

@@ -15,18 +15,16 @@
 --                          refusal
 --   buffer_left c x buf == the buffer after the call: the record at the writer's place, and all else unchanged;
 --                          unchanged at a refusal
---   writer_after c r    == the writer that goes on after the answer r of a call by the writer c: the one answered, or c
---                          itself at a refusal
 --   Writes c x buf r b' == the promise of both operations: the answer r and the buffer b' afterwards, for every input
-use Rattle.std.specs.Prelude.{ℕ, ◌+◌, ◌≡◌, Bool, ◌&&◌, List, ◌++◌, leb, eqb, length, take, drop, Result, Ok, Err}
+use Rattle.std.specs.Prelude.{ℕ, ◌+◌, ◌≡◌, Bool, ◌&&◌, List, ◌++◌, leb, eqb, length, take, drop, Ok, Err}
 use Rattle.basics.specs.Bounded.{pick}
 use Rattle.floor.specs.Floor.{floor_of, cell_bytes}
-use Rattle.floor.specs.Refusals.{Shape, good_if, floor_shape, and_then, left_by}
-use Rattle.floor.specs.declared.Refusal.{Refusal}
+use Rattle.floor.specs.Refusals.{Shape, floor_shape, and_then, left_by}
 use Rattle.floor.specs.declared.Refusal.TheVariants.{Size, NoRoom, OutOfTurn}
 use Rattle.records.specs.Format.{map_side}
 use Rattle.writer.specs.Records.{Job, map_bytes, job_bytes}
 use Rattle.writer.specs.declared.Writer.{Writer}
+use Rattle.writer.specs.declared.AfterWrite.{AfterWrite}
 
 pub data Call : Type 0 where
   put_map : ℕ → ℕ → List ℕ → Call
@@ -76,11 +74,7 @@ buffer_left c x buf =
     left_by (call_shape c x (length buf))
     (take c.at buf ++ call_bytes x ++ drop (c.at + length (call_bytes x)) buf) buf
 
-abbrev pub writer_after : Writer → Result Writer Refusal → Writer
-writer_after c (Ok d) = d
-writer_after c (Err r) = c
-
-pub record Writes (c : Writer) (x : Call) (buf : List ℕ) (r : Result Writer Refusal) (buf' : List ℕ) : Type 0 where
-  pub answer : good_if r ≡ call_shape c x (length buf)
-  pub writer : writer_after c r ≡ writer_left c x (length buf)
+pub record Writes (c : Writer) (x : Call) (buf : List ℕ) (r : AfterWrite) (buf' : List ℕ) : Type 0 where
+  pub answer : r.answer ≡ call_shape c x (length buf)
+  pub writer : r.writer ≡ writer_left c x (length buf)
   pub left : buf' ≡ buffer_left c x buf

@@ -2,7 +2,7 @@
 // each call answers the writer past the record, or a refusal.
 #![tactic(auto)]
 
-ghost use Rattle.std.specs.Prelude.{◌≡◌, ◌+◌, ◌*◌, ◌≤◌, ◌<◌, length};
+ghost use Rattle.std.specs.Prelude.{◌≡◌, ◌+◌, ◌*◌, ◌≤◌, ◌<◌, length, Err};
 ghost use Rattle.basics.specs.Lists.{tabulate};
 ghost use Rattle.floor.specs.Floor.{cell_bytes};
 ghost use Rattle.floor.specs.Plan.{floor_on};
@@ -22,6 +22,13 @@ use records::lines;
 pub struct Writer {
     pub at: usize,
     pub due: usize,
+}
+
+// The writer after a call, and the answer of the call.
+#[derive(Clone, Copy)]
+pub struct AfterWrite {
+    pub writer: Writer,
+    pub answer: Result<(), Refusal>,
 }
 
 // The first refusal of 1 to 3 that applies to a map: a side that is not 1 to 31, the map's length, its unused bits.
@@ -125,34 +132,54 @@ impl Writer {
         Writer { at: 0, due: 0 }
     }
 
-    // The writer past the record that it has written, which ends before place `next`.
-    fn past_record(self, next: usize) -> Self
+    // The writer past the record that it has written, which ends before place `next`, with the answer that it is good.
+    fn past_record(self, next: usize) -> AfterWrite
         requires { self.due ≤ 1000 }
         ensures { result ≡ past_record self next }
     {
-        Writer {
-            at: next,
-            due: self.due + 1,
+        AfterWrite {
+            writer: Writer {
+                at: next,
+                due: self.due + 1,
+            },
+            answer: Ok(()),
         }
     }
 
-    // Writes a map record of the floor of w by h cells with the packed map `map`: a byte for each cell. It answers the
-    // writer past the record; a refusal, 1, 2, 3, 20 or 18, writes nothing, and this writer goes on.
-    pub fn put_map(self, w: usize, h: usize, map: &[u8], buf: &mut [u8]) -> Result<Self, Refusal>
-        ensures { Writes self (put_map w h map.now) buf.old result buf.new }
+    // This writer, with a refusal.
+    fn refused(self, why: Refusal) -> AfterWrite
+        ensures { (result.writer ≡ self) × (result.answer ≡ Err why) }
     {
-        map_call_shape(self, w, h, map, buf.len())?;
-        let next = put_map_record(buf, self.at, FloorPlan { w, h, map });
-        Ok(self.past_record(next))
+        AfterWrite {
+            writer: self,
+            answer: Err(why),
+        }
     }
 
-    // Writes a job record of any numbers. It answers the writer past the record; a refusal, 20 or 18, writes nothing,
-    // and this writer goes on.
-    pub fn put_job(self, nb: u8, a: u16, b: u16, buf: &mut [u8]) -> Result<Self, Refusal>
+    // Writes a map record of the floor of w by h cells with the packed map `map`: a byte for each cell. A refusal, 1,
+    // 2, 3, 20 or 18, writes nothing and answers this writer.
+    pub fn put_map(self, w: usize, h: usize, map: &[u8], buf: &mut [u8]) -> AfterWrite
+        ensures { Writes self (put_map w h map.now) buf.old result buf.new }
+    {
+        match map_call_shape(self, w, h, map, buf.len()) {
+            Ok(()) => {
+                let next = put_map_record(buf, self.at, FloorPlan { w, h, map });
+                self.past_record(next)
+            }
+            Err(why) => self.refused(why),
+        }
+    }
+
+    // Writes a job record of any numbers. A refusal, 20 or 18, writes nothing and answers this writer.
+    pub fn put_job(self, nb: u8, a: u16, b: u16, buf: &mut [u8]) -> AfterWrite
         ensures { Writes self (put_job (job_of nb a b)) buf.old result buf.new }
     {
-        job_call_shape(self, buf.len())?;
-        let next = put_job_record(buf, self.at, nb, a, b);
-        Ok(self.past_record(next))
+        match job_call_shape(self, buf.len()) {
+            Ok(()) => {
+                let next = put_job_record(buf, self.at, nb, a, b);
+                self.past_record(next)
+            }
+            Err(why) => self.refused(why),
+        }
     }
 }

@@ -36,10 +36,10 @@ returns-then-is_blocked c =
     noted-closed c.requires.0 c.requires.1 c.is_blocked-was_blocked.ensures c.is_blocked-is_blocked.ensures
     c.if-was_blocked-is_blocked.false c.if-is_blocked.true
 
-pub overflow_add-result-else-is_blocked : goal.overflow_add-result-else-is_blocked
-overflow_add-result-else-is_blocked c = omega (arith, room (goal.at.overflow_add-result-else-is_blocked c).After-is_blocked-is_blocked)
+pub overflow_add-result-2 : goal.overflow_add-result-2
+overflow_add-result-2 c = omega (arith, room (goal.at.overflow_add-result-2 c).After-is_blocked-is_blocked)
 
-pub returns-else-is_blocked : goal.returns-else-is_blocked
-returns-else-is_blocked c =
+pub returns : goal.returns
+returns c =
     noted-opened c.requires.0 c.requires.1 c.is_blocked-was_blocked.ensures c.is_blocked-is_blocked.ensures
     c.if-was_blocked-is_blocked.false c.if-is_blocked.false

@@ -1,7 +1,7 @@
 -- `sight::pinches::pinch_at` meets its contract: on the edge by the law of the edge, elsewhere by the four cells that
 -- are read. Assumes nothing.
 use mathlib.Core.Path.{◌≡◌, sym, ◌∙◌}
-use mathlib.Core.Bool.{Bool, true≢false}
+use mathlib.Core.Bool.{Bool, beq, not, true, true≢false}
 use Rattle.floor.specs.Plan.{floor_on}
 use Rattle.sight.specs.Sight.{pinch}
 use Rattle.sight.proofs.Passed.{edge-left, edge-above, edge-right, edge-below, pinch_of, pinch-tests, pinch-read}
@@ -41,7 +41,8 @@ returns-then-a-b c =
     let k = pinch-tests c.blocked_at-a.result c.blocked_at-b.result c.blocked_at-c.result c.blocked_at-d.result in
     read (goal.at.returns-then-a-b c).After-blocked_at-d
     (elim c.if-a-c.branch [
-      | then-a-c w ↦ rw (w.if-a-c.true, sym w.value-is ∙ c.if-a-b.true) at k
+      | then-a-c w ↦ let t : not (beq c.blocked_at-a.result c.blocked_at-c.result) ≡ true = w.if-a-c.true in
+          rw (t, sym w.value-is ∙ c.if-a-b.true) at k
       | else-a-c w ↦ absurd (true≢false (sym c.if-a-b.true ∙ w.value-is ∙ w.if-a-c.false))
     ])
 
