@@ -41,7 +41,7 @@ pub fn sight_number(s: Result<Option<Obstacle>, Refusal>) -> u8
 impl<'a> Segment<'a> {
     // Whether no blocked cell and no shut step is in the way, where the ends are at most one column and one row apart.
     // It reads the two cells beside a step, or the one cell across a diagonal. It is inlined in any case: called, it makes
-    // its caller store the segment, and the masks of the windows take six times the instructions.
+    // its caller store the segment in memory for each question.
     #[inline(always)]
     fn is_unit_unblocked(self) -> bool
         requires { (self.columns ≤ 1) × (self.rows ≤ 1) }
