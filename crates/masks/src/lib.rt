@@ -191,7 +191,7 @@ pub fn join_line(
 }
 
 // The masks of the moves that leave the vertices of row y, from the windows of its line and of the lines above and
-// below. With 4 or 8 directions they are the masks of the windows of its line.
+// below. With 4 or 8 directions they are the masks of the windows of its line, answered with no copy of a line.
 pub fn leaving_between(
     floor: FloorPlan<'_>,
     dirs: Directions,
@@ -205,10 +205,11 @@ pub fn leaving_between(
         × WindowLines (floor_of floor.w floor.h floor.map.now) y windows above here below }
     ensures { LeavingRow (floor_on floor.entry) dirs y (suc floor.entry.w) result }
 {
-    let mut masks = here;
-    if dirs.count == 16 {
-        join_line(floor, y, &windows, &above, &below, &mut masks);
+    if dirs.count != 16 {
+        return here;
     }
+    let mut masks = here;
+    join_line(floor, y, &windows, &above, &below, &mut masks);
     masks
 }
 

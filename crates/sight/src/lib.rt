@@ -43,6 +43,7 @@ impl<'a> Segment<'a> {
     // It reads the two cells beside a step, or the one cell across a diagonal. It is inlined in any case: called, it makes
     // its caller store the segment in memory for each question.
     #[inline(always)]
+    #[tactic(auto, unfolding(crate::specs::Obstacle::span))]
     fn is_unit_unblocked(self) -> bool
         requires { (self.columns ≤ 1) × (self.rows ≤ 1) }
         ensures { result ≡ unblocked (floor_under self.entry) (drawn self.entry) }

@@ -102,7 +102,7 @@ impl<'a> Segment<'a> {
         let down = self.rows / n;
         let mut c: usize = 0;
         let mut r: usize = 0;
-        // Kept: tried, the proof did not close: `find_map`, whose closure may be called only up to n.
+        // Kept: no plainer, since columns and rows are carried from vertex to vertex.
         for k in 0..n + 1 {
             if let Some(found) = self.pinch_there(c, r) {
                 return Some(found);

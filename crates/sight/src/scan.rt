@@ -1,6 +1,7 @@
 // The blocked cell or the shut step in the way, by a look at each step along a grid line or at each cell entered, from
 // the first end towards the other.
-ghost use Rattle.std.specs.Prelude.{◌≡◌, suc, ◌<◌, ◌≤◌};
+ghost use Rattle.std.specs.Prelude.{◌≡◌, suc, ◌-◌, ◌<◌, ◌≤◌};
+ghost use Rattle.floor.specs.Floor.{cell_number, blocked};
 ghost use Rattle.floor.specs.Plan.{floor_on};
 ghost use Rattle.sight.specs.Obstacle.{span, cell_on, first, blockage, upright_step, level_step};
 ghost use Rattle.sight.specs.Travel.{upright_to, level_to, row_obstacle, cell_there, RowRun};
@@ -10,7 +11,7 @@ ghost use Rattle.sight.specs.Drawn.{floor_under, drawn};
 use crate::Obstacle;
 use crate::pinches::point_at;
 use crate::segment::Segment;
-use floor::FloorPlan;
+use floor::{Cell, FloorPlan};
 
 // The far line of the k-th cell from a towards b, as `blocked_at` wants it: one more than the cell's number.
 #[tactic(auto, unfolding(crate::specs::Obstacle::span, crate::specs::Obstacle::cell_on))]
@@ -24,6 +25,24 @@ fn line_at(a: usize, b: usize, k: usize) -> usize
     a - k
 }
 
+// `blocked_at` for a cell of the floor, which is read with no test of x and y.
+fn inside_blocked(floor: FloorPlan<'_>, x: usize, y: usize) -> bool
+    requires { (1 ≤ x) × (x ≤ floor.w) × (1 ≤ y) × (y ≤ floor.h) }
+    ensures { result ≡ blocked (floor_on floor.entry) x y }
+{
+    floor::is_blocked(floor.map, floor.cell_before(x, y))
+}
+
+// The cell that has the vertex (x, y) as its lower right corner, as an answer names it. It is not inlined, so that the
+// loop over the cells of a row does not make the answer for each cell that it reads.
+#[inline(never)]
+fn cell_named(w: usize, x: usize, y: usize) -> Cell
+    requires { (w ≤ 127) × (1 ≤ x) × (x ≤ w) × (1 ≤ y) × (y ≤ 127) }
+    ensures { result.0 ≡ cell_number w (x - 1) (y - 1) }
+{
+    floor::cell_at(w, x - 1, y - 1)
+}
+
 // The step along column line x that ends on row line y is not shut: one of the cells beside it is open. Both are read
 // in any case, so that no branch depends on a cell.
 pub fn upright_open(floor: FloorPlan<'_>, x: usize, y: usize) -> bool
@@ -35,13 +54,14 @@ pub fn upright_open(floor: FloorPlan<'_>, x: usize, y: usize) -> bool
     !(left && right)
 }
 
-// The step along row line y that ends on column line x is not shut.
+// The step along row line y that ends on column line x is not shut. Its cells lie in a column of the floor, so that x is
+// not tested.
 pub fn level_open(floor: FloorPlan<'_>, x: usize, y: usize) -> bool
-    requires { y ≤ floor.h }
+    requires { (1 ≤ x) × (x ≤ floor.w) × (y ≤ floor.h) }
     ensures { result ≡ level_to (floor_on floor.entry) x y }
 {
-    let above = floor.blocked_at(x, y);
-    let below = floor.blocked_at(x, y + 1);
+    let above = y == 0 || inside_blocked(floor, x, y);
+    let below = floor.h <= y || inside_blocked(floor, x, y + 1);
     !(above && below)
 }
 
@@ -98,7 +118,7 @@ impl<'a> Segment<'a> {
     }
 
     // The k-th step of a segment along a row line, where it is shut.
-    #[tactic(auto, unfolding(crate::specs::Obstacle::level_step, crate::specs::Sight::level_open, crate::specs::Obstacle::span, crate::specs::Obstacle::start_on))]
+    #[tactic(auto, unfolding(crate::specs::Obstacle::level_step, crate::specs::Sight::level_open, crate::specs::Obstacle::span, crate::specs::Obstacle::start_on, crate::specs::Obstacle::cell_on))]
     fn level_step(self, k: usize) -> Option<Obstacle>
         requires { k < self.columns }
         ensures { result ≡ level_step (floor_under self.entry) self.entry.y0 self.entry.x0 self.entry.x1 k }
@@ -146,8 +166,8 @@ impl<'a> Segment<'a> {
     {
         let x = line_at(self.x0, self.x1, c);
         let y = line_at(self.y0, self.y1, r);
-        if self.floor.blocked_at(x, y) {
-            return Some(Obstacle::Cell(self.floor.cell_before(x, y)));
+        if inside_blocked(self.floor, x, y) {
+            return Some(Obstacle::Cell(cell_named(self.floor.w, x, y)));
         }
         None
     }

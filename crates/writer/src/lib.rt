@@ -1,5 +1,5 @@
-// Writing the program's input: one map record and job records into a lent buffer, with a writer that is passed by value;
-// each call answers the writer past the record, or a refusal.
+// Writing the program's input: one map record and job records into a lent buffer, with a writer that is passed by value
+// and answered by each call: past the record, or at a refusal as it was handed in.
 #![tactic(auto)]
 
 ghost use Rattle.std.specs.Prelude.{◌≡◌, ◌+◌, ◌*◌, ◌≤◌, ◌<◌, length, Err};
